@@ -1,0 +1,4 @@
+pub mod Parts
+pub mod Order
+pub mod Ranges
+pub mod Bits

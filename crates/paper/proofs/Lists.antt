@@ -1,0 +1,143 @@
+-- Tests, and lists of what passes them, as facts. Assumes nothing.
+use Prim.Native.Nat.{ℕ, zero, suc, _≤_, _<_}
+use native.Mathlib.Omega.{arith}
+use mathlib.Core.Bool.{Bool, true, false, not, _&&_, _||_, true≢false, false≢true}
+use mathlib.Core.List.{List, [], _∷_, map, List·Memᴰ, List·Memᴰ·head, List·Memᴰ·tail}
+use mathlib.Core.Path.{_≡_, refl, ap, ap₂, sym, _∙_}
+use lib.Dec.{T, eqb}
+use lib.ListN.{length, getD}
+use borrow.Author.Tests.{eq-eqb}
+use Rattle.paper.specs.Lists.{any, all, every, same}
+
+-- ── tests ──
+pub clash {ℓ} : {X : Type ℓ} {b : Bool} → b ≡ true → b ≡ false → X
+clash p q = absurd (true≢false (sym p ∙ q))
+
+pub and-left : (a b : Bool) → (a && b) ≡ true → a ≡ true
+and-left true b e = refl
+and-left false b e = e
+
+pub and-right : (a b : Bool) → (a && b) ≡ true → b ≡ true
+and-right true b e = e
+and-right false b e = absurd (false≢true e)
+
+pub or-false-left : (a b : Bool) → (a || b) ≡ false → a ≡ false
+or-false-left true b e = e
+or-false-left false b e = refl
+
+pub or-false-right : (a b : Bool) → (a || b) ≡ false → b ≡ false
+or-false-right true b e = absurd (true≢false e)
+or-false-right false b e = e
+
+pub or-right : (a : Bool) {b : Bool} → b ≡ true → (a || b) ≡ true
+or-right true e = refl
+or-right false e = e
+
+pub not-false : (b : Bool) → not b ≡ false → b ≡ true
+not-false true e = refl
+not-false false e = absurd (true≢false e)
+
+pub not-true : (b : Bool) → not b ≡ true → b ≡ false
+not-true true e = absurd (false≢true e)
+not-true false e = refl
+
+pub eqb-self : (a : ℕ) → eqb a a ≡ true
+eqb-self a = eq-eqb a a refl
+
+-- a conjunction of tests, one by one: `each _ e .1 .1 .0` is the third
+abbrev pub Each : List Bool → Type 0
+Each [] = Unit {0}
+Each (b ∷ bs) = (b ≡ true) × Each bs
+
+pub each : (bs : List Bool) → every bs ≡ true → Each bs
+unfolding every
+each [] h = tt
+each (b ∷ bs) h = (and-left b (every bs) h, each bs (and-right b (every bs) h))
+
+pub all-yes : (bs : List Bool) → Each bs → every bs ≡ true
+unfolding every
+all-yes [] h = refl
+all-yes (b ∷ bs) h = ap₂ _&&_ (h .0) (all-yes bs (h .1))
+
+-- the k-th test fails
+pub no-at : (k : ℕ) (bs : List Bool) → getD bs k true ≡ false → every bs ≡ false
+unfolding every
+no-at k [] h = h
+no-at zero (b ∷ bs) h = ap (_&& every bs) h
+no-at (suc k) (b ∷ bs) h = go b (no-at k bs h)
+  where
+    go : (c : Bool) → every bs ≡ false → (c && every bs) ≡ false
+    go true e = e
+    go false e = refl
+
+-- ── some and all ──
+module _ {A : Type 0} (p : A → Bool) where
+  pub all-in : (xs : List A) → all p xs ≡ true → {i : A} → List·Memᴰ i xs → p i ≡ true
+  all-in (x ∷ xs) e (List·Memᴰ·head q) = ap p q ∙ and-left (p x) (all p xs) e
+  all-in (x ∷ xs) e (List·Memᴰ·tail m) = all-in xs (and-right (p x) (all p xs) e) m
+
+  pub any-out : (xs : List A) → any p xs ≡ false → {i : A} → List·Memᴰ i xs → p i ≡ false
+  any-out (x ∷ xs) e (List·Memᴰ·head q) = ap p q ∙ or-false-left (p x) (any p xs) e
+  any-out (x ∷ xs) e (List·Memᴰ·tail m) = any-out xs (or-false-right (p x) (any p xs) e) m
+
+  pub all-of : (xs : List A) → ((i : A) → List·Memᴰ i xs → p i ≡ true) → all p xs ≡ true
+  all-of [] h = refl
+  all-of (x ∷ xs) h = ap₂ _&&_ (h x (List·Memᴰ·head refl)) (all-of xs (λ i m. h i (List·Memᴰ·tail m)))
+
+  pub any-in : (xs : List A) {i : A} → List·Memᴰ i xs → p i ≡ true → any p xs ≡ true
+  any-in (x ∷ xs) (List·Memᴰ·head q) e = ap (_|| any p xs) (sym (ap p q) ∙ e)
+  any-in (x ∷ xs) (List·Memᴰ·tail m) e = or-right (p x) (any-in xs m e)
+
+  -- an entry that passes, or fails
+  pub any-has : (xs : List A) → any p xs ≡ true → (i : A) × List·Memᴰ i xs × (p i ≡ true)
+  any-has [] e = absurd (false≢true e)
+  any-has (x ∷ xs) e = go (p x) refl e (any-has xs)
+    where
+      go : (b : Bool) → p x ≡ b → (b || any p xs) ≡ true → (any p xs ≡ true → (i : A) × List·Memᴰ i xs × (p i ≡ true)) → (i : A) × List·Memᴰ i (x ∷ xs) × (p i ≡ true)
+      go true q e′ more = (x, List·Memᴰ·head refl, q)
+      go false q e′ more = let (i, m, h) = more e′ in (i, List·Memᴰ·tail m, h)
+
+  pub all-lacks : (xs : List A) → all p xs ≡ false → (i : A) × List·Memᴰ i xs × (p i ≡ false)
+  all-lacks [] e = absurd (true≢false e)
+  all-lacks (x ∷ xs) e = go (p x) refl e (all-lacks xs)
+    where
+      go : (b : Bool) → p x ≡ b → (b && all p xs) ≡ false → (all p xs ≡ false → (i : A) × List·Memᴰ i xs × (p i ≡ false)) → (i : A) × List·Memᴰ i (x ∷ xs) × (p i ≡ false)
+      go true q e′ more = let (i, m, h) = more e′ in (i, List·Memᴰ·tail m, h)
+      go false q e′ more = (x, List·Memᴰ·head refl, q)
+
+  -- the entry at a place
+  pub all-at : (xs : List A) → all p xs ≡ true → (i : ℕ) (d : A) → i < length xs → p (getD xs i d) ≡ true
+  all-at [] e i d l = absurd (omega arith)
+  all-at (x ∷ xs) e zero d l = and-left (p x) (all p xs) e
+  all-at (x ∷ xs) e (suc i) d l = all-at xs (and-right (p x) (all p xs) e) i d (omega arith)
+
+  pub any-at : (xs : List A) → any p xs ≡ false → (i : ℕ) (d : A) → i < length xs → p (getD xs i d) ≡ false
+  any-at [] e i d l = absurd (omega arith)
+  any-at (x ∷ xs) e zero d l = or-false-left (p x) (any p xs) e
+  any-at (x ∷ xs) e (suc i) d l = any-at xs (or-false-right (p x) (any p xs) e) i d (omega arith)
+
+-- what agrees at each entry gives the same over the list
+pub map-same : {A B : Type 0} (f g : A → B) (xs : List A) → ((i : A) → List·Memᴰ i xs → f i ≡ g i) → map f xs ≡ map g xs
+map-same f g [] h = refl
+map-same f g (x ∷ xs) h = ap₂ _∷_ (h x (List·Memᴰ·head refl)) (map-same f g xs (λ i m. h i (List·Memᴰ·tail m)))
+
+module _ {A : Type 0} (f g : A → Bool) where
+  pub any-same : (xs : List A) → ((i : A) → List·Memᴰ i xs → f i ≡ g i) → any f xs ≡ any g xs
+  any-same [] h = refl
+  any-same (x ∷ xs) h = ap₂ _||_ (h x (List·Memᴰ·head refl)) (any-same xs (λ i m. h i (List·Memᴰ·tail m)))
+
+  pub all-same : (xs : List A) → ((i : A) → List·Memᴰ i xs → f i ≡ g i) → all f xs ≡ all g xs
+  all-same [] h = refl
+  all-same (x ∷ xs) h = ap₂ _&&_ (h x (List·Memᴰ·head refl)) (all-same xs (λ i m. h i (List·Memᴰ·tail m)))
+
+-- lists that a test of two says are the same
+module _ {A : Type 0} (eq : A → A → Bool) where
+  pub same-of : ((x y : A) → eq x y ≡ true → x ≡ y) → (xs ys : List A) → same eq xs ys ≡ true → xs ≡ ys
+  same-of sure [] [] e = refl
+  same-of sure [] (y ∷ ys) e = absurd (false≢true e)
+  same-of sure (x ∷ xs) [] e = absurd (false≢true e)
+  same-of sure (x ∷ xs) (y ∷ ys) e = ap₂ _∷_ (sure x y (and-left (eq x y) (same eq xs ys) e)) (same-of sure xs ys (and-right (eq x y) (same eq xs ys) e))
+
+  pub same-self : ((x : A) → eq x x ≡ true) → (xs : List A) → same eq xs xs ≡ true
+  same-self sure [] = refl
+  same-self sure (x ∷ xs) = ap₂ _&&_ (sure x) (same-self sure xs)

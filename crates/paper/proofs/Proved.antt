@@ -1,0 +1,13 @@
+-- The (p) runs come out as the paper says, all by one computation. Assumes nothing.
+use mathlib.Core.Bool.{true}
+use mathlib.Core.Path.{_≡_, refl}
+use Rattle.paper.specs.Lists.{every}
+use Rattle.paper.specs.Formula.{formula, looked}
+use Rattle.paper.specs.Net.{runs}
+use Rattle.paper.specs.Tables.{rowOf}
+use Rattle.paper.specs.Calls.{buildVerdict, build, trialVerdict, trial}
+use Rattle.paper.specs.Runs.{comesOut, proved, allComeOut}
+
+pub all-come-out : allComeOut ≡ true
+unfolding every formula looked runs rowOf buildVerdict build trialVerdict trial comesOut proved
+all-come-out = refl

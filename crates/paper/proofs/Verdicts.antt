@@ -1,0 +1,83 @@
+-- How a chain of checks is gone through: it stops at the first that fails, and each that was passed held everywhere. Assumes nothing.
+use Prim.Native.Nat.{ℕ, _≤_, _<_}
+use native.Mathlib.Nat.{lt-irrefl}
+use native.Mathlib.Omega.{arith}
+use mathlib.Core.Bool.{Bool, true, false, cond}
+use mathlib.Core.Path.{_≡_, refl, ap, sym, _∙_}
+use lib.Dec.{ltb}
+use borrow.Author.Tests.{ltb-true, ltb-false, lt-ltb, le-ltb}
+use Rattle.paper.specs.Lists.{firstFail}
+use Rattle.paper.specs.Checks.{Verdict, accepted, refused, check, require, leaves}
+use Rattle.paper.proofs.Lists.{clash}
+use Rattle.paper.proofs.Least.{firstFail-before, firstFail-none}
+
+-- ── two verdicts ──
+pub refused-not {ℓ} : {X : Type ℓ} {a b : ℕ} → refused a b ≡ accepted → X
+refused-not e = let z : _≡_ {A = ℕ} 0 1 = cc in absurd (lt-irrefl 1 (omega arith))
+
+pub same-number : {a b c d : ℕ} → refused a b ≡ refused c d → a ≡ c
+same-number e = cc
+
+-- ── a loop came to place k ──
+-- it came to the bound: no place fails
+abbrev pub Past : (ℕ → Bool) → ℕ → ℕ → Type 0
+Past good bound k = (k ≡ firstFail good bound) × (bound ≤ k)
+
+module _ (code bound : ℕ) (good : ℕ → Bool) (next : Verdict) where
+  pub check-stops : (k : ℕ) → k ≡ firstFail good bound → k < bound → check code bound good next ≡ refused code k
+  check-stops k e l = ap (λ f. cond (ltb f bound) (refused code f) next) (sym e) ∙ ap (λ b. cond b (refused code k) next) (lt-ltb k bound l)
+
+  pub check-passes : (k : ℕ) → Past good bound k → check code bound good next ≡ next
+  check-passes k p = ap (λ f. cond (ltb f bound) (refused code f) next) (sym (p .0)) ∙ ap (λ b. cond b (refused code k) next) (le-ltb k bound (p .1))
+
+  -- ── good everywhere: the next decides ──
+  pub check-next : ((i : ℕ) → i < bound → good i ≡ true) → check code bound good next ≡ next
+  check-next h = check-passes bound (firstFail-none good bound h, omega arith)
+
+  -- ── accepted: good everywhere, and so were the rest ──
+  pub check-rest : check code bound good next ≡ accepted → next ≡ accepted
+  check-rest e = go (ltb (firstFail good bound) bound) e
+    where
+      go : (b : Bool) → cond b (refused code (firstFail good bound)) next ≡ accepted → next ≡ accepted
+      go true h = refused-not h
+      go false h = h
+
+  pub check-held : check code bound good next ≡ accepted → (i : ℕ) → i < bound → good i ≡ true
+  check-held e i l = go (ltb (firstFail good bound) bound) refl e
+    where
+      go : (b : Bool) → ltb (firstFail good bound) bound ≡ b → cond b (refused code (firstFail good bound)) next ≡ accepted → good i ≡ true
+      go true q h = refused-not h
+      go false q h = let low = ltb-false (firstFail good bound) bound q in firstFail-before good bound i (omega arith)
+
+  -- ── refused with another number: good everywhere, and the refusal is a later check's ──
+  pub check-other : (c p : ℕ) → (code ≡ c → ⊥) → check code bound good next ≡ refused c p → ((i : ℕ) → i < bound → good i ≡ true) × (next ≡ refused c p)
+  check-other c p n e = go (ltb (firstFail good bound) bound) refl e
+    where
+      go : (b : Bool) → ltb (firstFail good bound) bound ≡ b → cond b (refused code (firstFail good bound)) next ≡ refused c p
+          → ((i : ℕ) → i < bound → good i ≡ true) × (next ≡ refused c p)
+      go true q h = absurd (n (same-number h))
+      go false q h = (λ i l. let low = ltb-false (firstFail good bound) bound q in firstFail-before good bound i (omega arith), h)
+
+-- good up to the bound, at each place
+pub past-held : (good : ℕ → Bool) (bound k : ℕ) → Past good bound k → (i : ℕ) → i < bound → good i ≡ true
+past-held good bound k p i l = let e = p .0 in let h = p .1 in firstFail-before good bound i (omega arith)
+
+-- ── the same of a check with a fixed place ──
+module _ (code place : ℕ) where
+  pub require-next : (good : Bool) (next : Verdict) → good ≡ true → require code place good next ≡ next
+  require-next good next h = ap (λ b. cond b next (refused code place)) h
+
+  pub require-stops : (good : Bool) (next : Verdict) → good ≡ false → require code place good next ≡ refused code place
+  require-stops good next h = ap (λ b. cond b next (refused code place)) h
+
+  pub require-rest : (good : Bool) (next : Verdict) → require code place good next ≡ accepted → next ≡ accepted
+  require-rest true next e = e
+  require-rest false next e = refused-not e
+
+  pub require-held : (good : Bool) (next : Verdict) → require code place good next ≡ accepted → good ≡ true
+  require-held true next e = refl
+  require-held false next e = refused-not e
+
+  pub require-other : (good : Bool) (next : Verdict) (c p : ℕ) → (code ≡ c → ⊥) → require code place good next ≡ refused c p → (good ≡ true) × (next ≡ refused c p)
+  require-other true next c p n e = (refl, e)
+  require-other false next c p n e = absurd (n (same-number e))

@@ -1,0 +1,202 @@
+-- The three calls, each as one function: from the session record, and what else the call is lent, to what it leaves, accepted or refused.
+-- A call's contract is one equation: what the caller has at exit is what this function gives of what the caller lent at entry.
+-- What a call is lent only to read (tables, start values, in trial the stored values) is not among what it leaves: it cannot change.
+-- Assumes nothing.
+use Prim.Native.Nat.{ℕ, suc, min}
+use mathlib.Core.Bool.{Bool, cond, _&&_, _||_}
+use mathlib.Core.List.{List, [], _∷_, _++_}
+use lib.IntN.{ℤ}
+use lib.Dec.{eqb, leb, ltb}
+use lib.ListN.{length, take, drop}
+use Rattle.paper.specs.Lists.{every, between, nat, size, over}
+use Rattle.paper.specs.Net.{Values, Route, input-to-output, output-to-input, mark-guided, number, afresh, new, evaluated, moved, names}
+use Rattle.paper.specs.Tables.{Tables, net, valuesIn, ends, order}
+use Rattle.paper.specs.Checks.{Verdict, accepted, refused, check, require, leaves, sized, tableChecks, startGood, numbered, storedGood, Move, movePairs, moveFits, moveChecks}
+
+-- ── what comes back ──
+-- the session record: moves kept, and evaluations of the last accepted call
+pub record Session : Type 0 where
+  pub kept : ℕ
+  pub evaluations : ℕ
+
+-- 0 and place 0 if accepted; no evaluations if refused
+pub record Answer : Type 0 where
+  pub number : ℕ
+  pub place : ℕ
+  pub evaluations : ℕ
+
+abbrev pub answered : Verdict → ℕ → Answer
+answered accepted count = record { number = 0; place = 0; evaluations = count }
+answered (refused number place) count = record { number = number; place = place; evaluations = 0 }
+
+-- one more move kept: it stops at 4,294,967,295
+abbrev pub onceMore : ℕ → ℕ
+onceMore kept = min (suc kept) 4294967295
+
+-- ── what a move does by a route, over stored values `old` ──
+module _ (t : Tables) (old : Values) (r : Route) (mv : List (ℕ × ℤ)) (asked : List ℕ) where
+  abbrev pub newValues : Values
+  newValues = new (net t) r old (moved mv old) (t .n)
+
+  abbrev pub evaluates : ℕ → Bool
+  evaluates = evaluated (net t) r old (moved mv old) asked (t .n)
+
+  abbrev pub evaluations : ℕ
+  evaluations = size evaluates (t .n)
+
+  -- the new value of every variable moved or evaluated, and old elsewhere
+  abbrev pub trialRow : List ℤ → List ℤ
+  trialRow = over (t .n) (λ v. cond (names mv v || evaluates v) (newValues v) (old v))
+
+  -- 1 for each variable evaluated, and 0 elsewhere
+  abbrev pub flagRow : List ℕ → List ℕ
+  flagRow = over (t .n) (λ v. cond (evaluates v) 1 0)
+
+  abbrev pub keptRow : List ℤ → List ℤ
+  keptRow = over (t .n) newValues
+
+-- ── build ──
+pub record BuildLent : Type 0 where
+  pub session : Session
+  pub tables : Tables
+  pub starts : List ℤ
+  pub numbers : List ℕ
+  pub order : List ℕ
+  pub stored : List ℤ
+
+pub record BuildLeft : Type 0 where
+  pub answer : Answer
+  pub session : Session
+  pub numbers : List ℕ
+  pub order : List ℕ
+  pub stored : List ℤ
+
+module _ (l : BuildLent) where
+  abbrev pub buildFits : Bool
+  buildFits = let t = l .tables in
+      sized t && every (leb (t .n) (length (l .starts)) ∷ leb (t .n) (length (l .numbers)) ∷ leb (t .m) (length (l .order)) ∷ leb (t .n) (length (l .stored)) ∷ [])
+
+  abbrev pub startValues : Values
+  startValues = valuesIn (l .tables) (l .starts)
+
+  unfoldable pub buildVerdict : Verdict
+  buildVerdict = let t = l .tables in
+      require 1 0 buildFits (tableChecks t (check 6 (t .n) (ends t) (check 7 (t .n) (startGood t startValues) accepted)))
+
+  abbrev pub buildLeaves : Verdict → BuildLeft
+  buildLeaves v = let t = l .tables in record {
+    answer = answered v (t .m);
+    session = leaves v (record { kept = 0; evaluations = t .m }) (l .session);
+    numbers = leaves v (over (t .n) (number (net t) (t .n)) (l .numbers)) (l .numbers);
+    order = leaves v (order t ++ drop (t .m) (l .order)) (l .order);
+    stored = leaves v (over (t .n) (afresh (net t) startValues (t .n)) (l .stored)) (l .stored);
+  }
+
+  unfoldable pub build : BuildLeft
+  build = buildLeaves buildVerdict
+
+-- ── trial and keep: the model as it is lent to both ──
+pub record Model : Type 0 where
+  pub tables : Tables
+  pub numbers : List ℕ
+  pub order : List ℕ
+  pub stored : List ℤ
+
+module _ (w : Model) where
+  abbrev pub modelFits : Bool
+  modelFits = let t = w .tables in
+      sized t && every (leb (t .n) (length (w .numbers)) ∷ leb (t .m) (length (w .order)) ∷ leb (t .n) (length (w .stored)) ∷ [])
+
+  abbrev pub storedValues : Values
+  storedValues = valuesIn (w .tables) (w .stored)
+
+  -- checks 2, 3, 4, 5, 8, 7
+  abbrev pub modelChecks : Verdict → Verdict
+  modelChecks next = let t = w .tables in
+      tableChecks t (require 8 0 (numbered t (w .numbers) (w .order)) (check 7 (t .n) (storedGood t storedValues) next))
+
+-- ── trial ──
+pub record Tried : Type 0 where
+  pub move : Move
+  pub asked : ℕ
+  pub askedVars : List ℕ
+  pub route : ℕ
+  pub results : List ℤ
+  pub trial : List ℤ
+  pub flags : List ℕ
+
+pub record TrialLeft : Type 0 where
+  pub answer : Answer
+  pub session : Session
+  pub results : List ℤ
+  pub trial : List ℤ
+  pub flags : List ℕ
+
+-- the variables asked, and nothing of the lent row beyond them
+abbrev pub askedList : Tried → List ℕ
+askedList c = take (c .asked) (c .askedVars)
+
+abbrev pub routeOf : ℕ → Route
+routeOf r = cond (eqb r 1) input-to-output (cond (eqb r 2) output-to-input mark-guided)
+
+module _ (w : Model) (c : Tried) where
+  abbrev pub trialFits : Bool
+  trialFits = let n = w .tables .n in
+      every (
+      modelFits w ∷ moveFits (c .move) ∷ leb (c .asked) 32 ∷ leb (c .asked) (length (c .askedVars))
+      ∷ leb (c .asked) (length (c .results)) ∷ leb n (length (c .trial)) ∷ leb n (length (c .flags)) ∷ [])
+
+  unfoldable pub trialVerdict : Verdict
+  trialVerdict = let t = w .tables in
+      require 1 0 trialFits
+      (modelChecks w
+      (require 9 0 (between 1 (c .route) 3)
+      (moveChecks (c .move) t
+      (check 13 (c .asked) (λ i. ltb (nat (c .askedVars) i) (t .n)) accepted))))
+
+  abbrev pub trialLeaves : Session → Verdict → TrialLeft
+  trialLeaves s v =
+      let t = w .tables in let old = storedValues w in let r = routeOf (c .route) in let mv = movePairs (c .move) in let asked = askedList c in
+      let count = evaluations t old r mv asked in
+      record {
+        answer = answered v count;
+        session = leaves v (record { kept = s .kept; evaluations = count }) s;
+        results = leaves v (over (c .asked) (λ i. newValues t old r mv asked (nat (c .askedVars) i)) (c .results)) (c .results);
+        trial = leaves v (trialRow t old r mv asked (c .trial)) (c .trial);
+        flags = leaves v (flagRow t old r mv asked (c .flags)) (c .flags);
+      }
+
+unfoldable pub trial : Session → Model → Tried → TrialLeft
+trial s w c = trialLeaves w c s (trialVerdict w c)
+
+-- ── keep: by route 1, with nothing asked ──
+pub record Kept : Type 0 where
+  pub move : Move
+  pub flags : List ℕ
+
+pub record KeepLeft : Type 0 where
+  pub answer : Answer
+  pub session : Session
+  pub stored : List ℤ
+  pub flags : List ℕ
+
+module _ (w : Model) (c : Kept) where
+  abbrev pub keepFits : Bool
+  keepFits = every (modelFits w ∷ moveFits (c .move) ∷ leb (w .tables .n) (length (c .flags)) ∷ [])
+
+  unfoldable pub keepVerdict : Verdict
+  keepVerdict = require 1 0 keepFits (modelChecks w (moveChecks (c .move) (w .tables) accepted))
+
+  abbrev pub keepLeaves : Session → Verdict → KeepLeft
+  keepLeaves s v =
+      let t = w .tables in let old = storedValues w in let mv = movePairs (c .move) in
+      let count = evaluations t old input-to-output mv [] in
+      record {
+        answer = answered v count;
+        session = leaves v (record { kept = onceMore (s .kept); evaluations = count }) s;
+        stored = leaves v (keptRow t old input-to-output mv [] (w .stored)) (w .stored);
+        flags = leaves v (flagRow t old input-to-output mv [] (c .flags)) (c .flags);
+      }
+
+unfoldable pub keep : Session → Model → Kept → KeepLeft
+keep s w c = keepLeaves w c s (keepVerdict w c)

@@ -1,0 +1,124 @@
+-- The checks on tables and moves, in the order of their numbers. Assumes nothing.
+use Prim.Native.Nat.{ℕ, zero, suc, pred, _+_}
+use mathlib.Core.Bool.{Bool, cond, not, _&&_, _||_}
+use mathlib.Core.List.{List, [], _∷_}
+use lib.IntN.{ℤ, pos, natAbs}
+use lib.Dec.{eqb, leb, ltb}
+use lib.ListN.{length, getD, take}
+use Rattle.integers.specs.Integers.{eqZ}
+use Rattle.paper.specs.Lists.{any, all, every, same, between, total, nat, firstFail}
+use Rattle.paper.specs.Formula.{blank}
+use Rattle.paper.specs.Net.{Values}
+use Rattle.paper.specs.Tables.{Tables, part, isMade, ends, numbers, order}
+
+-- ── verdicts ──
+pub data Verdict : Type 0 where
+  accepted : Verdict
+  -- the number and the place
+  refused : ℕ → ℕ → Verdict
+
+-- one check over the whole input, before the next is looked at: the place is the least below the bound that is not good
+abbrev pub check : ℕ → ℕ → (ℕ → Bool) → Verdict → Verdict
+check code bound good next = cond (ltb (firstFail good bound) bound) (refused code (firstFail good bound)) next
+
+-- one check with a fixed place
+abbrev pub require : ℕ → ℕ → Bool → Verdict → Verdict
+require code place good next = cond good next (refused code place)
+
+-- what an accepted call leaves, and what a refused one does
+abbrev pub leaves : {A : Type 0} → Verdict → A → A → A
+leaves accepted after before = after
+leaves (refused number place) after before = before
+
+-- ── the tables ──
+-- how many inputs a kind takes
+abbrev pub arity : ℕ → ℕ → Bool
+arity kind count = between (cond (eqb kind 4) 2 1) count 256 && (not (eqb kind 7) || eqb count 2) && (not (eqb kind 8 || eqb kind 9) || eqb count 3)
+
+module _ (t : Tables) where
+  -- 1: the counts are within their bounds, and no table is shorter than they ask
+  abbrev pub sized : Bool
+  sized = every (
+      between 1 (t .n) 4096 ∷ leb (t .m) (t .n) ∷ leb (t .e) 16384
+      ∷ leb (t .m) (length (t .kinds)) ∷ leb (t .m) (length (t .makes)) ∷ leb (t .m) (length (t .params)) ∷ leb (t .m) (length (t .firsts)) ∷ leb (t .m) (length (t .counts))
+      ∷ leb (t .e) (length (t .vars)) ∷ leb (t .e) (length (t .coefs)) ∷ [])
+
+  -- 2: the kind is 1 to 9
+  abbrev pub kindGood : ℕ → Bool
+  kindGood r = between 1 (nat (t .kinds) r) 9
+
+  -- 3: variables below n, a count that suits the kind, and the part begins where those before it end, and ends within e
+  abbrev pub shapeGood : ℕ → Bool
+  shapeGood r = every (
+      ltb (nat (t .makes) r) (t .n) ∷ all (λ v. ltb v (t .n)) (part t r (t .vars)) ∷ arity (nat (t .kinds) r) (nat (t .counts) r)
+      ∷ eqb (nat (t .firsts) r) (total (take r (t .counts))) ∷ leb (nat (t .firsts) r + nat (t .counts) r) (t .e) ∷ [])
+
+  -- 4: coefficients and parameter suit the kind
+  abbrev pub numberGood : ℕ → Bool
+  numberGood r =
+      let kind = nat (t .kinds) r in let param = getD (t .params) r (pos 0) in
+      cond (eqb kind 1) (all (λ c. leb (natAbs c) 1000) (part t r (t .coefs))) (all (λ c. eqZ c (pos 1)) (part t r (t .coefs)))
+      && cond (eqb kind 1 || eqb kind 6) (leb (natAbs param) 1000000000) (eqZ param (pos 0))
+
+  -- 5: no earlier row makes the variable
+  abbrev pub madeOnce : ℕ → Bool
+  madeOnce r = not (any (eqb (nat (t .makes) r)) (take r (t .makes)))
+
+  -- checks 2 to 5, the same for every call
+  abbrev pub tableChecks : Verdict → Verdict
+  tableChecks next =
+      check 2 (t .m) kindGood
+      (check 3 (t .m) shapeGood
+      (require 3 (pred (t .m)) (eqb (total (take (t .m) (t .counts))) (t .e))
+      (check 4 (t .m) numberGood
+      (check 5 (t .m) madeOnce next))))
+
+  -- 7 in build: a search variable is not blank, a made one starts at 0
+  abbrev pub startGood : Values → ℕ → Bool
+  startGood s v = cond (isMade t v) (eqZ (s v) (pos 0)) (not (eqZ (s v) blank))
+
+  -- 7 in trial and keep: a search variable is not blank
+  abbrev pub storedGood : Values → ℕ → Bool
+  storedGood old v = isMade t v || not (eqZ (old v) blank)
+
+  -- 8: the lent numbers and order are what build gives
+  abbrev pub numbered : List ℕ → List ℕ → Bool
+  numbered nums ord =
+      every (eqb (firstFail (ends t) (t .n)) (t .n) ∷ same eqb (take (t .n) nums) (numbers t) ∷ same eqb (take (t .m) ord) (order t) ∷ [])
+
+-- ── a move: the variables and the new values of its pairs ──
+pub record Move : Type 0 where
+  pub pairs : ℕ
+  pub vars : List ℕ
+  pub values : List ℤ
+
+-- the pairs, and nothing of the lent rows beyond them
+abbrev pub pairing : ℕ → List ℕ → List ℤ → List (ℕ × ℤ)
+pairing zero vars values = []
+pairing (suc p) [] values = []
+pairing (suc p) (v ∷ vars) [] = []
+pairing (suc p) (v ∷ vars) (x ∷ values) = (v, x) ∷ pairing p vars values
+
+abbrev pub movePairs : Move → List (ℕ × ℤ)
+movePairs mv = pairing (mv .pairs) (mv .vars) (mv .values)
+
+module _ (mv : Move) where
+  -- 1: at most 64 pairs, all of them lent
+  abbrev pub moveFits : Bool
+  moveFits = every (leb (mv .pairs) 64 ∷ leb (mv .pairs) (length (mv .vars)) ∷ leb (mv .pairs) (length (mv .values)) ∷ [])
+
+  -- 10: the pair names a search variable
+  abbrev pub movable : Tables → ℕ → Bool
+  movable t i = ltb (nat (mv .vars) i) (t .n) && not (isMade t (nat (mv .vars) i))
+
+  -- 11: no earlier pair names it
+  abbrev pub namedOnce : ℕ → Bool
+  namedOnce i = not (any (eqb (nat (mv .vars) i)) (take i (mv .vars)))
+
+  -- 12: the new value is not blank
+  abbrev pub hasValue : ℕ → Bool
+  hasValue i = not (eqZ (getD (mv .values) i (pos 0)) blank)
+
+  -- checks 10 to 12
+  abbrev pub moveChecks : Tables → Verdict → Verdict
+  moveChecks t next = check 10 (mv .pairs) (movable t) (check 11 (mv .pairs) namedOnce (check 12 (mv .pairs) hasValue next))

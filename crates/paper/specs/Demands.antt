@@ -1,0 +1,199 @@
+-- The three demands as statements over the definitions. `proofs/Demands.antt` proves them. Assumes nothing.
+use Prim.Native.Nat.{ℕ, min, _≤_, _<_}
+use mathlib.Core.Bool.{Bool, true, cond, not, _&&_, _||_}
+use mathlib.Core.List.{List, [], _∷_, _++_}
+use mathlib.Core.Path.{_≡_}
+use lib.IntN.{ℤ, pos}
+use lib.Dec.{eqb, leb}
+use lib.ListN.{length, getD, take, drop}
+use mir.Syntax.{w16, w32}
+use mir.Val.{SFits}
+use Rattle.paper.specs.Lists.{nat, size, tally, over}
+use Rattle.paper.specs.Net.{Net, Values, Route, Depends, Numbers, numbering, number, valuation, afresh, moved, names, evaluated, input-to-output}
+use Rattle.paper.specs.Tables.{Tables, lent, net, inputsOf, order}
+use Rattle.paper.specs.Checks.{Verdict, accepted, refused, require, tableChecks, Move, movePairs}
+use Rattle.paper.specs.Calls.{Session, Answer, onceMore, BuildLent, BuildLeft, startValues, buildFits, build, Model, Tried, TrialLeft, askedList, routeOf, trial, Kept, KeepLeft, keep}
+use Rattle.paper.specs.File.{endsAt, held, write, counted, read}
+use Rattle.paper.specs.Sessions.{Lends, Call, tries, keeps, modelOf, ownModel, fresh, after, history}
+
+-- ── demand 1: a call works, or refuses with a number of its own and changes nothing ──
+-- everything but the answer as it was
+abbrev pub buildAsWas : BuildLent → Answer → BuildLeft
+buildAsWas l answer = record { answer = answer; session = l .session; numbers = l .numbers; order = l .order; stored = l .stored }
+
+abbrev pub trialAsWas : Session → Tried → Answer → TrialLeft
+trialAsWas s c answer = record { answer = answer; session = s; results = c .results; trial = c .trial; flags = c .flags }
+
+abbrev pub keepAsWas : Session → Model → Kept → Answer → KeepLeft
+keepAsWas s w c answer = record { answer = answer; session = s; stored = w .stored; flags = c .flags }
+
+-- build gives 1 to 7; trial all of 1 to 13 but 6; keep the same except 9 and 13
+abbrev pub trialNumber : ℕ → Bool
+trialNumber code = leb code 13 && not (eqb code 6)
+
+abbrev pub keepNumber : ℕ → Bool
+keepNumber code = trialNumber code && not (eqb code 9) && not (eqb code 13)
+
+pub record Demand1 : Type 0 where
+  pub build-number : (l : BuildLent) → leb (build l .answer .number) 7 ≡ true
+  pub build-refused : (l : BuildLent) → (build l .answer .number ≡ 0 → ⊥) → build l ≡ buildAsWas l (build l .answer)
+  pub trial-number : (s : Session) (w : Model) (c : Tried) → trialNumber (trial s w c .answer .number) ≡ true
+  pub trial-refused : (s : Session) (w : Model) (c : Tried) → (trial s w c .answer .number ≡ 0 → ⊥) → trial s w c ≡ trialAsWas s c (trial s w c .answer)
+  pub keep-number : (s : Session) (w : Model) (c : Kept) → keepNumber (keep s w c .answer .number) ≡ true
+  pub keep-refused : (s : Session) (w : Model) (c : Kept) → (keep s w c .answer .number ≡ 0 → ⊥) → keep s w c ≡ keepAsWas s w c (keep s w c .answer)
+  pub write-refused : (t : Tables) (starts : List ℤ) (bytes : List ℕ) → (write t starts bytes .0 ≡ accepted → ⊥) → write t starts bytes ≡ (refused 1 0, bytes)
+  pub read-refused : (bytes : List ℕ) (t : Tables) (starts : List ℤ) → (read bytes t starts .0 ≡ accepted → ⊥) → read bytes t starts .1 ≡ (counted 0 0 0 t, starts)
+
+-- ── demand 2: numbers, values and files are what the paper says ──
+module _ (N : Net) where
+  -- a table of numbers meets the paper's sentence at v and at all that v depends on
+  pub record Meets (num : ℕ → ℕ) (v : ℕ) : Type 0 where
+    pub here : num v ≡ numbering N num v
+    pub further : (w : ℕ) → Depends (N .ins) v w → num w ≡ numbering N num w
+
+  -- v can have a topological number
+  abbrev pub CanHave : ℕ → Type 0
+  CanHave v = (num : ℕ → ℕ) × Meets num v
+
+-- the least variable that can have no topological number
+pub record LeastUnnumbered (t : Tables) (place : ℕ) : Type 0 where
+  pub low : place < t .n
+  pub cannot : CanHave (net t) place → ⊥
+  pub can : (v : ℕ) → v < place → CanHave (net t) v
+
+module _ (b : BuildLent) where
+  abbrev t : Tables
+  t = b .tables
+
+  -- some variable depends on itself
+  abbrev pub Circular : Type 0
+  Circular = (v : ℕ) × Depends (inputsOf t) v v
+
+  -- checks 1 to 5 are passed
+  abbrev pub FivePassed : Type 0
+  FivePassed = require 1 0 (buildFits b) (tableChecks t accepted) ≡ accepted
+
+  pub record CircularExactly : Type 0 where
+    pub given : FivePassed → Circular → build b .answer .number ≡ 6
+    pub only : build b .answer .number ≡ 6 → FivePassed × Circular
+    pub place : build b .answer .number ≡ 6 → LeastUnnumbered t (build b .answer .place)
+
+  pub record BuildRight : Type 0 where
+    pub not-circular : Circular → ⊥
+    -- the numbers are the paper's: 0 at search variables, 1 plus the greatest of the inputs' at made ones
+    pub numbers : build b .numbers ≡ over (t .n) (number (net t) (t .n)) (b .numbers)
+    pub numbers-meet : Numbers (net t) (number (net t) (t .n))
+    pub ordered : build b .order ≡ order t ++ drop (t .m) (b .order)
+    -- the stored values are the start values at search variables, and the formula over the inputs' at made ones
+    pub stored : build b .stored ≡ over (t .n) (afresh (net t) (startValues b) (t .n)) (b .stored)
+    pub stored-meet : (v : ℕ) → afresh (net t) (startValues b) (t .n) v ≡ valuation (net t) (startValues b) (afresh (net t) (startValues b) (t .n)) v
+    pub session : build b .session ≡ record { kept = 0; evaluations = t .m }
+    pub count : build b .answer .evaluations ≡ t .m
+
+-- each number is one of its field, as it is in lent rows of those widths
+pub record Fitting (t : Tables) (s : List ℤ) : Type 0 where
+  pub kinds : (r : ℕ) → r < t .m → nat (t .kinds) r < 65536
+  pub makes : (r : ℕ) → r < t .m → nat (t .makes) r < 65536
+  pub params : (r : ℕ) → r < t .m → SFits w32 (getD (t .params) r (pos 0))
+  pub firsts : (r : ℕ) → r < t .m → nat (t .firsts) r < 65536
+  pub counts : (r : ℕ) → r < t .m → nat (t .counts) r < 65536
+  pub vars : (i : ℕ) → i < t .e → nat (t .vars) i < 65536
+  pub coefs : (i : ℕ) → i < t .e → SFits w16 (getD (t .coefs) i (pos 0))
+  pub starts : (v : ℕ) → v < t .n → SFits w32 (getD s v (pos 0))
+
+-- a model without what its lent rows hold beyond the counts
+abbrev pub cut : Tables × List ℤ → Tables × List ℤ
+cut (t, s) = (
+  lent (t .n) (t .m) (t .e) (take (t .m) (t .kinds)) (take (t .m) (t .makes)) (take (t .m) (t .params)) (take (t .m) (t .firsts)) (take (t .m) (t .counts))
+      (take (t .e) (t .vars)) (take (t .e) (t .coefs)),
+  take (t .n) s,
+)
+
+-- what was written is read back to the same model, by lent rows that hold it
+abbrev pub ReadBack : Type 0
+ReadBack =
+    (t : Tables) (starts : List ℤ) (bytes : List ℕ) → Fitting t starts → write t starts bytes .0 ≡ accepted
+    → (t₀ : Tables) (starts₀ : List ℤ) → held (counted (t .n) (t .m) (t .e) t₀) starts₀ ≡ true
+    → let file = take (endsAt (t .n) (t .m) (t .e)) (write t starts bytes .1) in
+    (read file t₀ starts₀ .0 ≡ accepted) × (cut (read file t₀ starts₀ .1) ≡ cut (t, starts))
+
+-- what was read is written back to the same bytes, into any buffer that holds them
+abbrev pub WrittenBack : Type 0
+WrittenBack =
+    (bytes : List ℕ) → ((i : ℕ) → nat bytes i < 256) → (t₀ : Tables) (starts₀ : List ℤ) → read bytes t₀ starts₀ .0 ≡ accepted
+    → (buffer : List ℕ) → length bytes ≤ length buffer
+    → write (read bytes t₀ starts₀ .1 .0) (read bytes t₀ starts₀ .1 .1) buffer ≡ (accepted, bytes ++ drop (length bytes) buffer)
+
+pub record Demand2 : Type 0 where
+  pub build-accepted : (b : BuildLent) → build b .answer .number ≡ 0 → BuildRight b
+  pub build-circular : (b : BuildLent) → CircularExactly b
+  pub read-back : ReadBack
+  pub written-back : WrittenBack
+
+-- ── demand 3: over any run of trials and keeps ──
+module _ (b : BuildLent) (cs : List Call) where
+  abbrev n : ℕ
+  n = b .tables .n
+
+  -- the fresh values of the moves kept in the run, and those of one more move
+  abbrev pub old : Values
+  old = fresh b (history b cs)
+
+  abbrev pub renewed : Move → Values
+  renewed mv = fresh b (movePairs mv ∷ history b cs)
+
+  -- the variables that a route evaluates over them
+  abbrev pub evaluatedBy : Route → Move → List ℕ → ℕ → Bool
+  evaluatedBy r mv asked = evaluated (net (b .tables)) r old (moved (movePairs mv) old) asked n
+
+  -- an accepted trial after the run
+  module _ (l : Lends) (c : Tried) where
+    abbrev pub tried : TrialLeft
+    tried = trial (after b cs .session) (modelOf (after b cs) l) c
+
+    abbrev pub triedSet : ℕ → Bool
+    triedSet = evaluatedBy (routeOf (c .route)) (c .move) (askedList c)
+
+    pub record TrialRight : Type 0 where
+      -- at each place asked, whatever the route, the fresh value of the moves kept and this one
+      pub results : tried .results ≡ over (c .asked) (λ i. renewed (c .move) (nat (c .askedVars) i)) (c .results)
+      -- the trial buffer: new where moved or evaluated, old elsewhere
+      pub row : tried .trial ≡ over n (λ v. cond (names (movePairs (c .move)) v || triedSet v) (renewed (c .move) v) (old v)) (c .trial)
+      pub flags : tried .flags ≡ over n (λ v. cond (triedSet v) 1 0) (c .flags)
+      -- the count is the size of the route's set, and the number of ones in the flags
+      pub count : tried .answer .evaluations ≡ size triedSet n
+      pub ones : tried .answer .evaluations ≡ tally (eqb 1) (take n (tried .flags))
+      pub session : tried .session ≡ record { kept = after b cs .session .kept; evaluations = tried .answer .evaluations }
+
+  -- an accepted keep after the run
+  module _ (l : Lends) (c : Kept) where
+    abbrev pub kept : KeepLeft
+    kept = keep (after b cs .session) (modelOf (after b cs) l) c
+
+    abbrev pub keptSet : ℕ → Bool
+    keptSet = evaluatedBy input-to-output (c .move) []
+
+    pub record KeepRight : Type 0 where
+      -- its move heads the history, and the stored values are the fresh ones of that
+      pub move : history b (keeps l c ∷ cs) ≡ movePairs (c .move) ∷ history b cs
+      pub stored : kept .stored ≡ over n (renewed (c .move)) (b .stored)
+      pub flags : kept .flags ≡ over n (λ v. cond (keptSet v) 1 0) (c .flags)
+      pub count : kept .answer .evaluations ≡ size keptSet n
+      pub ones : kept .answer .evaluations ≡ tally (eqb 1) (take n (kept .flags))
+      pub session : kept .session ≡ record { kept = onceMore (after b cs .session .kept); evaluations = kept .answer .evaluations }
+
+  pub record Demand3 : Type 0 where
+    -- after every run the stored values are the fresh ones of the moves kept, and what lies beyond is as it was before the build
+    pub stored : after b cs .stored ≡ over n old (b .stored)
+    -- the record has the number of moves kept, up to its ceiling
+    pub moves : after b cs .session .kept ≡ min (length (history b cs)) 4294967295
+    -- the next call, if it is accepted and was lent the model's own
+    pub trial-accepted : (c : Tried) → tried (ownModel b) c .answer .number ≡ 0 → TrialRight (ownModel b) c
+    pub keep-accepted : (c : Kept) → kept (ownModel b) c .answer .number ≡ 0 → KeepRight (ownModel b) c
+    -- no trial alters a stored value, and a refused call changes nothing, whatever it was lent
+    pub trial-stored : (l : Lends) (c : Tried) → after b (tries l c ∷ cs) .stored ≡ after b cs .stored
+    pub trial-refused : (l : Lends) (c : Tried) → (tried l c .answer .number ≡ 0 → ⊥)
+        → (tried l c ≡ trialAsWas (after b cs .session) c (tried l c .answer)) × (after b (tries l c ∷ cs) ≡ after b cs)
+    pub keep-refused : (l : Lends) (c : Kept) → (kept l c .answer .number ≡ 0 → ⊥)
+        → (kept l c ≡ keepAsWas (after b cs .session) (modelOf (after b cs) l) c (kept l c .answer)) × (after b (keeps l c ∷ cs) ≡ after b cs)
+        × (history b (keeps l c ∷ cs) ≡ history b cs)

@@ -1,0 +1,11 @@
+pub mod Lists
+pub mod Formula
+pub mod Net
+pub mod Tables
+pub mod Checks
+pub mod Calls
+pub mod File
+pub mod Sessions
+pub mod Demands
+pub mod Sound
+pub mod Runs

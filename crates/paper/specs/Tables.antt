@@ -1,0 +1,84 @@
+-- The lent tables, the model that they describe, and the order of its rows. Assumes nothing.
+use Prim.Native.Nat.{ℕ, zero, suc, _+_}
+use mathlib.Core.Bool.{Bool, cond}
+use mathlib.Core.List.{List, [], _∷_, _++_, map}
+use lib.IntN.{ℤ, pos}
+use lib.Dec.{eqb, leb, ltb}
+use lib.ListN.{length, getD, take, drop}
+use Rattle.paper.specs.Lists.{every, nat, seek, below}
+use Rattle.paper.specs.Formula.{formula, looked}
+use Rattle.paper.specs.Net.{Net, Values, able, number}
+
+-- n variables, m rows and e entries: one lent row for each field
+pub record Tables : Type 0 where
+  pub n : ℕ
+  pub m : ℕ
+  pub e : ℕ
+  pub kinds : List ℕ
+  pub makes : List ℕ
+  pub params : List ℤ
+  pub firsts : List ℕ
+  pub counts : List ℕ
+  pub vars : List ℕ
+  pub coefs : List ℤ
+
+abbrev pub lent : ℕ → ℕ → ℕ → List ℕ → List ℕ → List ℤ → List ℕ → List ℕ → List ℕ → List ℤ → Tables
+lent n m e kinds makes params firsts counts vars coefs =
+    record { n = n; m = m; e = e; kinds = kinds; makes = makes; params = params; firsts = firsts; counts = counts; vars = vars; coefs = coefs }
+
+-- the input variables of a row, for a caller who asks: none if there is no such row or its part ends after e
+abbrev pub inputsAsked : ℕ → ℕ → List ℕ → List ℕ → List ℕ → ℕ → List ℕ
+inputsAsked m e firsts counts vars row =
+    let end = nat firsts row + nat counts row in
+    cond (every (ltb row m ∷ ltb row (length firsts) ∷ ltb row (length counts) ∷ leb end e ∷ leb end (length vars) ∷ []))
+    (take (nat counts row) (drop (nat firsts row) vars)) []
+
+module _ (t : Tables) where
+  -- ── the model ──
+  -- the part of an entry list that row r names
+  abbrev pub part : {A : Type 0} → ℕ → List A → List A
+  part r l = take (nat (t .counts) r) (drop (nat (t .firsts) r) l)
+
+  -- the row that makes v; m if none does
+  unfoldable pub rowOf : ℕ → ℕ
+  rowOf v = seek v (take (t .m) (t .makes))
+
+  abbrev pub isMade : ℕ → Bool
+  isMade v = ltb (rowOf v) (t .m)
+
+  abbrev pub inputsOf : ℕ → List ℕ
+  inputsOf v = cond (isMade v) (part (rowOf v) (t .vars)) []
+
+  abbrev pub formOf : ℕ → Values → ℤ
+  formOf v f = let r = rowOf v in formula (nat (t .kinds) r) (getD (t .params) r (pos 0)) (part r (t .coefs)) (map f (inputsOf v))
+
+  abbrev pub asksOf : ℕ → Values → List ℕ
+  asksOf v f = looked (nat (t .kinds) (rowOf v)) f (inputsOf v)
+
+  abbrev pub net : Net
+  net = record { made = isMade; ins = inputsOf; form = formOf; asks = asksOf }
+
+  -- a lent row of values: 0 beyond the variables
+  abbrev pub valuesIn : List ℤ → Values
+  valuesIn l v = getD (take (t .n) l) v (pos 0)
+
+  -- ── topological numbers and the order ──
+  -- v can have a number
+  abbrev pub ends : ℕ → Bool
+  ends = able inputsOf (t .n)
+
+  abbrev pub numbers : List ℕ
+  numbers = below (number net (t .n)) (t .n)
+
+  -- the rows below k whose variable has the number d, ascending
+  abbrev pub level : (ℕ → ℕ) → ℕ → ℕ → List ℕ
+  level num d zero = []
+  level num d (suc k) = level num d k ++ cond (eqb (num (nat (t .makes) k)) d) (k ∷ []) []
+
+  abbrev pub levels : (ℕ → ℕ) → ℕ → List ℕ
+  levels num zero = []
+  levels num (suc d) = levels num d ++ level num d (t .m)
+
+  -- the rows by the number of the variable made, ties by row number
+  abbrev pub order : List ℕ
+  order = levels (number net (t .n)) (suc (t .n))
