@@ -2,17 +2,17 @@
 -- Each law over the width. Assumes nothing.
 use mathlib.Core.Path.{_≡_, refl, sym, ap, _∙_, subst}
 use mathlib.Core.Bool.{Bool, true, false, false≢true, true≢false}
-use Prim.Native.Nat.{ℕ, suc, _+_, _-_, _^_, _≤_, _<_}
+use Prim.Native.Nat.{ℕ, suc, _-_, _^_, _≤_, _<_}
 use native.Mathlib.Omega.{arith}
-use lib.Dec.{T, eqb}
+use lib.Dec.{T, leb, eqb}
 use lib.IntN.{ℤ, pos, negsuc, subℕ, _+ℤ_, _-ℤ_, natAbs}
 use lib.Signed.{ltZ, leZ, nonNeg}
 use borrow.Author.Tests.{ltb-true, le-ltb, eq-eqb, ne-eqb}
-use mir.Syntax.{Width}
-use mir.Val.{SFits, hbits, bits, toZ, ofZ}
-use mir.Facts.{toZ-ofZ}
+use mir.Syntax.{Width, w64}
+use mir.Val.{Fits, SFits, hbits, bits, toZ, ofZ}
+use mir.Facts.{toZ-ofZ, toZ-pos, fits-ofZ, sfits-widen}
 use mir.ValLaws.{half-full}
-use Rattle.integers.specs.Integers.{up, dn, eqZ}
+use Rattle.integers.specs.Integers.{up, eqZ}
 use Rattle.integers.proofs.Parts.{sub-parts, dif-parts, from-parts}
 use Rattle.integers.proofs.Order.{eqZ-yes, eqZ-no}
 
@@ -69,3 +69,28 @@ low-bits w (negsuc n) f e =
 pub same-bits : (w : Width) (v : ℤ) → ltZ v (pos 0) ≡ false → natAbs v ≡ ofZ w v
 same-bits w (pos n) e = refl
 same-bits w (negsuc n) e = absurd (true≢false e)
+
+-- ── the casts of a width narrower than 64 bits, as a program makes them by way of 64 ──
+-- from the upper half of the bits to the number
+pub carried-down : (w : Width) (x : ℕ) → 2 ^ bits w ≤ 2 ^ 63 → 2 ^ hbits w ≤ x → x < 2 ^ bits w → toZ w64 x -ℤ pos (2 ^ bits w) ≡ toZ w x
+carried-down w x n h k = ap (λ (z : ℤ). z -ℤ pos (2 ^ bits w)) (toZ-pos w64 (omega arith)) ∙ high-bits w x h k
+
+-- from a number to its bits; the machine tests it against 0
+module _ (w : Width) (v : ℤ) (f : SFits w v) (zero : SFits w (pos 0)) where
+  -- a negative one
+  pub record Raised : Type 0 where
+    pub sum : toZ w64 (ofZ w64 (toZ w (ofZ w v))) +ℤ pos (2 ^ bits w) ≡ pos (ofZ w v)
+    pub small : ofZ w v < 2 ^ 63
+
+  pub raised : 2 ^ bits w ≤ 2 ^ 63 → T (leb (hbits w) 63) → ltZ (toZ w (ofZ w v)) (toZ w (ofZ w (pos 0))) ≡ true → Raised
+  raised n t e = record {
+    sum = simp (toZ-ofZ f, toZ-ofZ (sfits-widen {w = w} {w′ = w64} t f)) (low-bits w v f (lt-read w v (pos 0) f zero e));
+    small = let h = fits-ofZ f .fits in omega arith;
+  }
+
+  -- one that is not
+  pub level : ltZ (toZ w (ofZ w v)) (toZ w (ofZ w (pos 0))) ≡ false
+      → T (nonNeg (toZ w (ofZ w v))) × Fits w (natAbs (toZ w (ofZ w v))) × (natAbs (toZ w (ofZ w v)) ≡ ofZ w v)
+  level e =
+      let h = lt-read w v (pos 0) f zero e in
+      simp (toZ-ofZ f) (nat-of v h, rw (same-bits w v h) (fits-ofZ f), same-bits w v h)

@@ -4,13 +4,13 @@ use native.Mathlib.Nat.{le-refl, not-suc-le-zero}
 use native.Mathlib.Numerals.{add-one}
 use native.Mathlib.Omega.{arith}
 use mathlib.Core.Bool.{Bool, true, false, cond}
-use mathlib.Core.List.{List, [], _∷_, _++_, map}
+use mathlib.Core.List.{List, [], _∷_, _++_}
 use mathlib.Core.Path.{_≡_, refl, ap, ap₂, sym, _∙_}
 use lib.Dec.{eqb, ltb}
 use lib.ListN.{length, getD, take, drop, set, length-append, length-drop, length-set, take-append-drop, List·getD-append}
 use lib.Seq.{take-at, drop-at, take-suc, take-suc-set, drop-set-lt, getD-append-seam, set-append-left, getD-set-same, getD-set-other, ext-getD}
 use borrow.Author.Tests.{ltb-true, ltb-false, eqb-true, eqb-false}
-use Rattle.paper.specs.Lists.{tally, nat, size, below, over}
+use Rattle.paper.specs.Lists.{tally, size, below, over}
 
 -- ── f of the numbers below n ──
 module _ {A : Type 0} (f : ℕ → A) where

@@ -6,10 +6,10 @@ use native.Mathlib.Omega.{arith}
 use mathlib.Core.Logic.{_≢_}
 use mathlib.Core.Bool.{Bool, true, false, cond, _||_, true≢false, false≢true}
 use mathlib.Core.List.{List, [], _∷_, List·Memᴰ, List·Memᴰ·head, List·Memᴰ·tail}
-use mathlib.Core.Path.{_≡_, refl, ap, sym, _∙_}
-use lib.Dec.{eqb, ltb}
+use mathlib.Core.Path.{_≡_, refl, ap, _∙_}
+use lib.Dec.{eqb}
 use lib.ListN.{length}
-use borrow.Author.Tests.{eqb-true, ltb-true, ltb-false, ne-eqb}
+use borrow.Author.Tests.{eqb-true, ne-eqb}
 use Rattle.paper.specs.Lists.{any, size}
 use Rattle.paper.proofs.Lists.{clash, eqb-self}
 
@@ -73,3 +73,7 @@ size-full p (suc n) v e l = go (p n) refl e (eqb v n) refl (size-le p n) (size-f
 -- a list of n distinct numbers below n holds each of them
 pub distinct-all : (n : ℕ) (xs : List ℕ) → ((i : ℕ) → List·Memᴰ i xs → i < n) → Distinct xs → length xs ≡ n → (v : ℕ) → v < n → any (eqb v) xs ≡ true
 distinct-all n xs h d e v l = size-full (λ w. any (eqb w) xs) n v (distinct-size n xs h d ∙ e) l
+
+pub size-all : (p : ℕ → Bool) (n : ℕ) → ((v : ℕ) → v < n → p v ≡ true) → size p n ≡ n
+size-all p zero h = refl
+size-all p (suc n) h = rw (h n (le-refl (suc n)), size-all p n (λ v l. h v (omega arith)))

@@ -8,7 +8,6 @@ use lib.Dec.{ltb}
 use borrow.Author.Tests.{ltb-true, ltb-false, lt-ltb, le-ltb}
 use Rattle.paper.specs.Lists.{firstFail}
 use Rattle.paper.specs.Checks.{Verdict, accepted, refused, check, require, leaves}
-use Rattle.paper.proofs.Lists.{clash}
 use Rattle.paper.proofs.Least.{firstFail-before, firstFail-none}
 
 -- ── two verdicts ──
@@ -17,6 +16,30 @@ refused-not e = let z : _≡_ {A = ℕ} 0 1 = cc in absurd (lt-irrefl 1 (omega a
 
 pub same-number : {a b c d : ℕ} → refused a b ≡ refused c d → a ≡ c
 same-number e = cc
+
+pub same-place : {a b c d : ℕ} → refused a b ≡ refused c d → b ≡ d
+same-place e = cc
+
+-- ── one verdict after another ──
+-- the first where it refuses, else the second
+abbrev pub andThen : Verdict → Verdict → Verdict
+andThen first second = leaves first second first
+
+pub then-then : (a b c : Verdict) → andThen (andThen a b) c ≡ andThen a (andThen b c)
+then-then accepted b c = refl
+then-then (refused number place) b c = refl
+
+-- a chain of checks is the chain up to the next, and then the next
+pub check-then : (code bound : ℕ) (good : ℕ → Bool) (next : Verdict) → check code bound good next ≡ andThen (check code bound good accepted) next
+check-then code bound good next = go (ltb (firstFail good bound) bound)
+  where
+    go : (b : Bool) → cond b (refused code (firstFail good bound)) next ≡ andThen (cond b (refused code (firstFail good bound)) accepted) next
+    go true = refl
+    go false = refl
+
+pub require-then : (code place : ℕ) (good : Bool) (next : Verdict) → require code place good next ≡ andThen (require code place good accepted) next
+require-then code place true next = refl
+require-then code place false next = refl
 
 -- ── a loop came to place k ──
 -- it came to the bound: no place fails
@@ -57,6 +80,15 @@ module _ (code bound : ℕ) (good : ℕ → Bool) (next : Verdict) where
           → ((i : ℕ) → i < bound → good i ≡ true) × (next ≡ refused c p)
       go true q h = absurd (n (same-number h))
       go false q h = (λ i l. let low = ltb-false (firstFail good bound) bound q in firstFail-before good bound i (omega arith), h)
+
+  -- ── refused with its own number, which no later check gives: some place fails, and the least is the place ──
+  pub check-own : (p : ℕ) → (next ≡ refused code p → ⊥) → check code bound good next ≡ refused code p → (firstFail good bound < bound) × (firstFail good bound ≡ p)
+  check-own p later e = go (ltb (firstFail good bound) bound) refl e
+    where
+      go : (b : Bool) → ltb (firstFail good bound) bound ≡ b → cond b (refused code (firstFail good bound)) next ≡ refused code p
+          → (firstFail good bound < bound) × (firstFail good bound ≡ p)
+      go true q h = (ltb-true (firstFail good bound) bound q, same-place h)
+      go false q h = absurd (later h)
 
 -- good up to the bound, at each place
 pub past-held : (good : ℕ → Bool) (bound k : ℕ) → Past good bound k → (i : ℕ) → i < bound → good i ≡ true

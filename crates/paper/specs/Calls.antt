@@ -125,19 +125,19 @@ pub record Tried : Type 0 where
   pub trial : List ℤ
   pub flags : List ℕ
 
-pub record TrialLeft : Type 0 where
-  pub answer : Answer
-  pub session : Session
-  pub results : List ℤ
-  pub trial : List ℤ
-  pub flags : List ℕ
-
 -- the variables asked, and nothing of the lent row beyond them
 abbrev pub askedList : Tried → List ℕ
 askedList c = take (c .asked) (c .askedVars)
 
 abbrev pub routeOf : ℕ → Route
 routeOf r = cond (eqb r 1) input-to-output (cond (eqb r 2) output-to-input mark-guided)
+
+pub record TrialLeft : Type 0 where
+  pub answer : Answer
+  pub session : Session
+  pub results : List ℤ
+  pub trial : List ℤ
+  pub flags : List ℕ
 
 module _ (w : Model) (c : Tried) where
   abbrev pub trialFits : Bool

@@ -11,7 +11,7 @@ use mir.Val.{SFits}
 use Rattle.paper.specs.Lists.{nat, size, tally, over}
 use Rattle.paper.specs.Net.{Net, Values, Route, Depends, Numbers, numbering, number, valuation, afresh, moved, names, evaluated, input-to-output}
 use Rattle.paper.specs.Tables.{Tables, lent, net, inputsOf, order}
-use Rattle.paper.specs.Checks.{Verdict, accepted, refused, require, tableChecks, Move, movePairs}
+use Rattle.paper.specs.Checks.{accepted, refused, require, tableChecks, Move, movePairs}
 use Rattle.paper.specs.Calls.{Session, Answer, onceMore, BuildLent, BuildLeft, startValues, buildFits, build, Model, Tried, TrialLeft, askedList, routeOf, trial, Kept, KeepLeft, keep}
 use Rattle.paper.specs.File.{endsAt, held, write, counted, read}
 use Rattle.paper.specs.Sessions.{Lends, Call, tries, keeps, modelOf, ownModel, fresh, after, history}
@@ -28,6 +28,9 @@ abbrev pub keepAsWas : Session → Model → Kept → Answer → KeepLeft
 keepAsWas s w c answer = record { answer = answer; session = s; stored = w .stored; flags = c .flags }
 
 -- build gives 1 to 7; trial all of 1 to 13 but 6; keep the same except 9 and 13
+abbrev pub buildNumber : ℕ → Bool
+buildNumber code = leb code 7
+
 abbrev pub trialNumber : ℕ → Bool
 trialNumber code = leb code 13 && not (eqb code 6)
 
@@ -35,7 +38,7 @@ abbrev pub keepNumber : ℕ → Bool
 keepNumber code = trialNumber code && not (eqb code 9) && not (eqb code 13)
 
 pub record Demand1 : Type 0 where
-  pub build-number : (l : BuildLent) → leb (build l .answer .number) 7 ≡ true
+  pub build-number : (l : BuildLent) → buildNumber (build l .answer .number) ≡ true
   pub build-refused : (l : BuildLent) → (build l .answer .number ≡ 0 → ⊥) → build l ≡ buildAsWas l (build l .answer)
   pub trial-number : (s : Session) (w : Model) (c : Tried) → trialNumber (trial s w c .answer .number) ≡ true
   pub trial-refused : (s : Session) (w : Model) (c : Tried) → (trial s w c .answer .number ≡ 0 → ⊥) → trial s w c ≡ trialAsWas s c (trial s w c .answer)

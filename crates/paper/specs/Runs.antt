@@ -1,7 +1,7 @@
 -- The runs that document 01 marks (p), as one table with one test: each is a build of the tables, or a trial over what build left, by the
 -- calls themselves. Assumes nothing.
 use Prim.Native.Nat.{ℕ, suc}
-use mathlib.Core.Bool.{Bool, true, _&&_}
+use mathlib.Core.Bool.{Bool, _&&_}
 use mathlib.Core.List.{List, [], _∷_, map, _++_}
 use lib.IntN.{ℤ, pos, negsuc}
 use lib.Dec.{eqb}

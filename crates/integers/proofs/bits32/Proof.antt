@@ -1,49 +1,33 @@
--- The bits of a negative number are it plus 2 ^ 32, which is `low-bits`; of another, itself. Assumes nothing.
-use mathlib.Core.Path.{_≡_}
-use Prim.Native.Nat.{_<_}
+-- The bits of a negative number are it plus 2 ^ 32, which is `raised`; of another, itself, which is `level`. Assumes nothing.
 use native.Mathlib.Omega.{arith}
 use borrow.Author.Needs.{sfits-of}
-use lib.IntN.{ℤ, pos, _+ℤ_}
 use mir.Syntax.{w32, w64}
-use mir.Val.{Fits, toZ, ofZ}
-use mir.Facts.{toZ-ofZ, toZ-pos, fits-ofZ, sfits-lit, fits-natAbs}
+use mir.Facts.{toZ-ofZ, toZ-pos, fits-ofZ, sfits-lit}
 use Rattle.integers.proofs.Ranges.{as64}
-use Rattle.integers.proofs.Bits.{low-bits, same-bits, lt-read, nat-of}
+use Rattle.integers.proofs.Bits.{Raised, raised, level}
 use Rattle.integers.proofs.bits32.Statement.{statement}
 use Rattle.integers.proofs.bits32.Tie as tie
 
 cast-result : tie.Need-cast-result
 cast-result c = simp (toZ-ofZ (c .before .fits .v)) (as64 {w = w32} tt (c .before .fits .v))
 
-sum : (c : tie.Then1) → toZ w64 (ofZ w64 (toZ w32 (ofZ w32 (c .before .args .v)))) +ℤ pos 4294967296 ≡ pos (ofZ w32 (c .before .args .v))
-sum c =
-    let f = c .before .fits .v in
-    simp (toZ-ofZ f, toZ-ofZ (as64 {w = w32} tt f)) (low-bits w32 (c .before .args .v) f (lt-read w32 (c .before .args .v) (pos 0) f (sfits-lit tt) (c .if1 .taken)))
-
-fb : (c : tie.Then1) → Fits w32 (ofZ w32 (c .before .args .v))
-fb c = fits-ofZ (c .before .fits .v)
-
-small : (c : tie.Then1) → ofZ w32 (c .before .args .v) < 9223372036854775808
-small c = omega (arith, fb c)
+up : (c : tie.Then1) → Raised w32 (c .before .args .v) (c .before .fits .v) (sfits-lit tt)
+up c = raised w32 (c .before .args .v) (c .before .fits .v) (sfits-lit tt) (omega arith) tt (c .if1 .taken)
 
 add-result : tie.Need-add-result
-add-result c = simp (sum c) (sfits-of (small c))
+add-result c = simp (up c .sum) (sfits-of (up c .small))
 
 cast-result-2 : tie.Need-cast-result-2
-cast-result-2 c = simp (sum c, toZ-pos w64 (small c)) (tt, fb c)
+cast-result-2 c = simp (up c .sum, toZ-pos w64 (up c .small)) (tt, fits-ofZ (c .before .fits .v))
 
 cast-result-3 : tie.Need-cast-result-3
-cast-result-3 c =
-    let f = c .before .fits .v in
-    simp (toZ-ofZ f) (nat-of (c .before .args .v) (lt-read w32 (c .before .args .v) (pos 0) f (sfits-lit tt) (c .if1 .left)), fits-natAbs {w = w32} {w′ = w32} tt f)
+cast-result-3 c = let l = level w32 (c .before .args .v) (c .before .fits .v) (sfits-lit tt) (c .if1 .left) in (l .0, l .1)
 
 returns : tie.Need-returns
-returns c = simp (sum c, toZ-pos w64 (small c))
+returns c = simp (up c .sum, toZ-pos w64 (up c .small))
 
 returns-2 : tie.Need-returns-2
-returns-2 c =
-    let f = c .before .fits .v in
-    simp (toZ-ofZ f) (same-bits w32 (c .before .args .v) (lt-read w32 (c .before .args .v) (pos 0) f (sfits-lit tt) (c .if1 .left)))
+returns-2 c = level w32 (c .before .args .v) (c .before .fits .v) (sfits-lit tt) (c .if1 .left) .2
 
 pub bits32-spec : {M : Type 1} → statement M
 bits32-spec =

@@ -1,13 +1,13 @@
--- The upper half of the bits stands for the numbers less 2 ^ 32, which is `high-bits`. Assumes nothing.
+-- The upper half of the bits stands for the numbers less 2 ^ 32, which is `carried-down`. Assumes nothing.
 use mathlib.Core.Path.{_≡_}
 use native.Mathlib.Omega.{arith}
 use borrow.Author.Needs.{needs}
 use lib.IntN.{pos, _-ℤ_}
 use mir.Syntax.{w32, w64}
 use mir.Val.{SFits, toZ}
-use mir.Facts.{toZ-ofZ, toZ-pos, sfits-toZ}
+use mir.Facts.{toZ-ofZ, sfits-toZ}
 use Rattle.integers.proofs.Ranges.{as64}
-use Rattle.integers.proofs.Bits.{high-bits}
+use Rattle.integers.proofs.Bits.{carried-down}
 use Rattle.integers.proofs.signed32.Statement.{statement}
 use Rattle.integers.proofs.signed32.Tie as tie
 
@@ -17,26 +17,23 @@ cast-result c = search needs
 cast-result-2 : tie.Need-cast-result-2
 cast-result-2 c = search needs
 
-wide : (c : tie.Else1) → toZ w64 (c .before .args .x) ≡ pos (c .before .args .x)
-wide c = toZ-pos w64 (omega arith)
+down : (c : tie.Else1) → toZ w64 (c .before .args .x) -ℤ pos 4294967296 ≡ toZ w32 (c .before .args .x)
+down c = carried-down w32 (c .before .args .x) (omega arith) (omega arith) (omega arith)
 
-high : (c : tie.Else1) → pos (c .before .args .x) -ℤ pos 4294967296 ≡ toZ w32 (c .before .args .x)
-high c = high-bits w32 (c .before .args .x) (omega arith) (omega arith)
-
-fz : (c : tie.Else1) → SFits w32 (toZ w32 (c .before .args .x))
-fz c = sfits-toZ (c .before .fits .x)
+held : (c : tie.Else1) → SFits w32 (toZ w32 (c .before .args .x))
+held c = sfits-toZ (c .before .fits .x)
 
 sub-result : tie.Need-sub-result
-sub-result c = simp (wide c, high c) (as64 {w = w32} tt (fz c))
+sub-result c = simp (down c) (as64 {w = w32} tt (held c))
 
 cast-result-3 : tie.Need-cast-result-3
-cast-result-3 c = simp (wide c, high c, toZ-ofZ (as64 {w = w32} tt (fz c))) (fz c)
+cast-result-3 c = simp (down c, toZ-ofZ (as64 {w = w32} tt (held c))) (held c)
 
 returns : tie.Need-returns
 returns c = search needs
 
 returns-2 : tie.Need-returns-2
-returns-2 c = simp (wide c, high c, toZ-ofZ (as64 {w = w32} tt (fz c)), toZ-ofZ (fz c))
+returns-2 c = simp (down c, toZ-ofZ (as64 {w = w32} tt (held c)), toZ-ofZ (held c))
 
 pub signed32-spec : {M : Type 1} → statement M
 signed32-spec =

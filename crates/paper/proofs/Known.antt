@@ -1,0 +1,166 @@
+-- What an accepted call knows of all that it was lent: each check as facts. Assumes nothing.
+use Prim.Native.Nat.{ℕ, zero, suc, _≤_, _<_}
+use native.Mathlib.Omega.{arith}
+use mathlib.Core.Bool.{Bool, true, false, _||_, false≢true}
+use mathlib.Core.List.{List, [], _∷_}
+use mathlib.Core.Path.{_≡_, refl}
+use lib.IntN.{ℤ, pos}
+use lib.Dec.{eqb, ltb}
+use lib.ListN.{length, getD, take}
+use borrow.Author.Tests.{ltb-true, leb-true, eqb-true}
+use Rattle.integers.specs.Integers.{eqZ}
+use Rattle.paper.specs.Lists.{any, between, nat}
+use Rattle.paper.specs.Formula.{blank}
+use Rattle.paper.specs.Net.{able, names}
+use Rattle.paper.specs.Tables.{Tables, net, isMade, inputsOf, ends, numbers, order}
+use Rattle.paper.specs.Checks.{Verdict, accepted, sized, startGood, storedGood, numbered, Move, pairing, movePairs, moveFits, movable, namedOnce, hasValue, moveChecks}
+use Rattle.paper.specs.Calls.{BuildLent, buildFits, startValues, buildVerdict, Model, modelFits, storedValues, modelChecks, Tried, trialFits, trialVerdict, Kept, keepFits, keepVerdict}
+use Rattle.paper.specs.Sound.{Sound}
+use Rattle.paper.proofs.Lists.{and-left, and-right, not-true, each}
+use Rattle.paper.proofs.Verdicts.{check-rest, check-held, require-rest, require-held}
+use Rattle.paper.proofs.Sizes.{sized-facts}
+use Rattle.paper.proofs.Accept.{Passed, tables-passed, passed-sound, made-below, inputs-below}
+use Rattle.paper.proofs.Lawful.{lawful}
+use Rattle.paper.proofs.Circle.{ends-everywhere}
+use Rattle.paper.proofs.Eight.{numbered-ends, numbered-numbers, numbered-order}
+
+-- chains that end at every variable of sound tables end everywhere
+pub sound-ends : (t : Tables) → Sound t → ((v : ℕ) → v < t .n → ends t v ≡ true) → (v : ℕ) → able (inputsOf t) (t .n) v ≡ true
+sound-ends t s = ends-everywhere (net t) (lawful t) (t .n) (inputs-below t s) (made-below t s) (s .sized .n-some)
+
+-- ── build ──
+pub record BuildKnown (b : BuildLent) : Type 0 where
+  pub fits : buildFits b ≡ true
+  pub passed : Passed (b .tables)
+  pub sound : Sound (b .tables)
+  pub chains : (v : ℕ) → able (inputsOf (b .tables)) (b .tables .n) v ≡ true
+  pub starts : (v : ℕ) → v < b .tables .n → startGood (b .tables) (startValues b) v ≡ true
+
+-- of checks 1 to 5 alone
+pub build-sound : (b : BuildLent) → buildFits b ≡ true → Passed (b .tables) → Sound (b .tables)
+build-sound b fits p = passed-sound (b .tables) (sized-facts (b .tables) (and-left (sized (b .tables)) _ fits)) p
+
+pub build-known : (b : BuildLent) → buildVerdict b ≡ accepted → BuildKnown b
+unfolding buildVerdict
+build-known b e =
+    let t = b .tables in
+    let fits = require-held 1 0 (buildFits b) _ e in
+    let p = tables-passed t _ (require-rest 1 0 (buildFits b) _ e) in
+    let sound = build-sound b fits (p .0) in
+    record {
+      fits = fits;
+      passed = p .0;
+      sound = sound;
+      chains = sound-ends t sound (check-held 6 (t .n) (ends t) _ (p .1));
+      starts = check-held 7 (t .n) (startGood t (startValues b)) accepted (check-rest 6 (t .n) (ends t) _ (p .1));
+    }
+
+-- ── the model of a trial or keep: checks 1 to 5, 8 and 7 ──
+pub record ModelKnown (w : Model) : Type 0 where
+  pub sound : Sound (w .tables)
+  pub numbers-long : w .tables .n ≤ length (w .numbers)
+  pub order-long : w .tables .m ≤ length (w .order)
+  pub stored-long : w .tables .n ≤ length (w .stored)
+  pub chains : (v : ℕ) → able (inputsOf (w .tables)) (w .tables .n) v ≡ true
+  pub numbers-are : take (w .tables .n) (w .numbers) ≡ numbers (w .tables)
+  pub order-is : take (w .tables .m) (w .order) ≡ order (w .tables)
+  pub stored : (v : ℕ) → v < w .tables .n → storedGood (w .tables) (storedValues w) v ≡ true
+
+pub model-known : (w : Model) (next : Verdict) → modelFits w ≡ true → modelChecks w next ≡ accepted → ModelKnown w × (next ≡ accepted)
+model-known w next fits e =
+    let t = w .tables in
+    let p = tables-passed t _ e in
+    let eight = require-held 8 0 (numbered t (w .numbers) (w .order)) _ (p .1) in
+    let seven = require-rest 8 0 (numbered t (w .numbers) (w .order)) _ (p .1) in
+    let sound = passed-sound t (sized-facts t (and-left (sized t) _ fits)) (p .0) in
+    let long = each _ (and-right (sized t) _ fits) in (
+      record {
+        sound = sound;
+        numbers-long = leb-true (t .n) (length (w .numbers)) (long .0);
+        order-long = leb-true (t .m) (length (w .order)) (long .1 .0);
+        stored-long = leb-true (t .n) (length (w .stored)) (long .1 .1 .0);
+        chains = sound-ends t sound (numbered-ends t (w .numbers) (w .order) eight);
+        numbers-are = numbered-numbers t (w .numbers) (w .order) eight;
+        order-is = numbered-order t (w .numbers) (w .order) eight;
+        stored = check-held 7 (t .n) (storedGood t (storedValues w)) next seven;
+      },
+      check-rest 7 (t .n) (storedGood t (storedValues w)) next seven,
+    )
+
+-- ── a move: checks 1 and 10 to 12 ──
+pub record MoveKnown (t : Tables) (mv : Move) : Type 0 where
+  pub few : mv .pairs ≤ 64
+  pub vars-long : mv .pairs ≤ length (mv .vars)
+  pub values-long : mv .pairs ≤ length (mv .values)
+  pub low : (i : ℕ) → i < mv .pairs → nat (mv .vars) i < t .n
+  pub search : (i : ℕ) → i < mv .pairs → isMade t (nat (mv .vars) i) ≡ false
+  pub once : (i : ℕ) → i < mv .pairs → any (eqb (nat (mv .vars) i)) (take i (mv .vars)) ≡ false
+  pub full : (i : ℕ) → i < mv .pairs → eqZ (getD (mv .values) i (pos 0)) blank ≡ false
+
+pub move-known : (t : Tables) (mv : Move) (next : Verdict) → moveFits mv ≡ true → moveChecks mv t next ≡ accepted → MoveKnown t mv × (next ≡ accepted)
+move-known t mv next fits e =
+    let e₁₁ = check-rest 10 (mv .pairs) (movable mv t) _ e in
+    let e₁₂ = check-rest 11 (mv .pairs) (namedOnce mv) _ e₁₁ in
+    let long = each _ fits in
+    let e₁₀ = check-held 10 (mv .pairs) (movable mv t) _ e in (
+      record {
+        few = leb-true (mv .pairs) 64 (long .0);
+        vars-long = leb-true (mv .pairs) (length (mv .vars)) (long .1 .0);
+        values-long = leb-true (mv .pairs) (length (mv .values)) (long .1 .1 .0);
+        low = λ i l. ltb-true (nat (mv .vars) i) (t .n) (and-left (ltb (nat (mv .vars) i) (t .n)) _ (e₁₀ i l));
+        search = λ i l. not-true (isMade t (nat (mv .vars) i)) (and-right (ltb (nat (mv .vars) i) (t .n)) _ (e₁₀ i l));
+        once = λ i l. not-true (any (eqb (nat (mv .vars) i)) (take i (mv .vars))) (check-held 11 (mv .pairs) (namedOnce mv) _ e₁₁ i l);
+        full = λ i l. not-true (eqZ (getD (mv .values) i (pos 0)) blank) (check-held 12 (mv .pairs) (hasValue mv) next e₁₂ i l);
+      },
+      check-rest 12 (mv .pairs) (hasValue mv) next e₁₂,
+    )
+
+-- a pair that names v stands at some place
+named-at : (p : ℕ) (vars : List ℕ) (values : List ℤ) (v : ℕ) → names (pairing p vars values) v ≡ true → (i : ℕ) × (i < p) × (nat vars i ≡ v)
+named-at zero vars values v e = absurd (false≢true e)
+named-at (suc p) [] values v e = absurd (false≢true e)
+named-at (suc p) (u ∷ vars) [] v e = absurd (false≢true e)
+named-at (suc p) (u ∷ vars) (x ∷ values) v e = go (eqb u v) refl e (named-at p vars values v)
+  where
+    go : (b : Bool) → eqb u v ≡ b → (b || names (pairing p vars values) v) ≡ true → (names (pairing p vars values) v ≡ true → (i : ℕ) × (i < p) × (nat vars i ≡ v))
+        → (i : ℕ) × (i < suc p) × (nat (u ∷ vars) i ≡ v)
+    go true q h ih = (zero, omega arith, eqb-true u v q)
+    go false q h ih = let (i, l, r) = ih h in (suc i, omega arith, r)
+
+-- so an accepted move names variables of the model
+pub named-below : (t : Tables) (mv : Move) → MoveKnown t mv → (v : ℕ) → names (movePairs mv) v ≡ true → v < t .n
+named-below t mv k v e = let (i, l, r) = named-at (mv .pairs) (mv .vars) (mv .values) v e in rw r at (k .low i l)
+
+-- ── trial and keep ──
+pub record TrialKnown (w : Model) (c : Tried) : Type 0 where
+  pub model : ModelKnown w
+  pub route : between 1 (c .route) 3 ≡ true
+  pub move : MoveKnown (w .tables) (c .move)
+  pub few : c .asked ≤ 32
+  pub asked : (i : ℕ) → i < c .asked → nat (c .askedVars) i < w .tables .n
+
+pub trial-known : (w : Model) (c : Tried) → trialVerdict w c ≡ accepted → TrialKnown w c
+unfolding trialVerdict
+trial-known w c e =
+    let n = w .tables .n in
+    let fits = each _ (require-held 1 0 (trialFits w c) _ e) in
+    let a = model-known w _ (fits .0) (require-rest 1 0 (trialFits w c) _ e) in
+    let m = move-known (w .tables) (c .move) _ (fits .1 .0) (require-rest 9 0 (between 1 (c .route) 3) _ (a .1)) in
+    record {
+      model = a .0;
+      route = require-held 9 0 (between 1 (c .route) 3) _ (a .1);
+      move = m .0;
+      few = leb-true (c .asked) 32 (fits .1 .1 .0);
+      asked = λ i k. ltb-true (nat (c .askedVars) i) n (check-held 13 (c .asked) (λ j. ltb (nat (c .askedVars) j) n) accepted (m .1) i k);
+    }
+
+pub record KeepKnown (w : Model) (c : Kept) : Type 0 where
+  pub model : ModelKnown w
+  pub move : MoveKnown (w .tables) (c .move)
+
+pub keep-known : (w : Model) (c : Kept) → keepVerdict w c ≡ accepted → KeepKnown w c
+unfolding keepVerdict
+keep-known w c e =
+    let fits = each _ (require-held 1 0 (keepFits w c) _ e) in
+    let a = model-known w _ (fits .0) (require-rest 1 0 (keepFits w c) _ e) in
+    record { model = a .0; move = move-known (w .tables) (c .move) accepted (fits .1 .0) (a .1) .0 }

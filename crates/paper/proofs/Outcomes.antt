@@ -1,0 +1,119 @@
+-- The calls by their verdicts: the answer's number is 0 exactly if the verdict is acceptance, a refused call leaves everything as it was, and a
+-- program meets a call's equation by its verdict and field by field. Assumes nothing.
+use Prim.Native.Nat.{ℕ, suc, pred}
+use native.Mathlib.Omega.{arith}
+use mathlib.Core.Bool.{Bool, true, false, cond}
+use mathlib.Core.Path.{_≡_, refl, ap, sym, _∙_}
+use lib.Dec.{eqb, ltb}
+use lib.ListN.{take}
+use Rattle.paper.specs.Lists.{between, total, nat, firstFail}
+use Rattle.paper.specs.Tables.{Tables, ends}
+use Rattle.paper.specs.Checks.{Verdict, accepted, refused, check, require, kindGood, shapeGood, numberGood, madeOnce, tableChecks, startGood, storedGood, numbered, Move, movable, namedOnce, hasValue, moveChecks}
+use Rattle.paper.specs.Calls.{Session, Answer, BuildLent, BuildLeft, buildFits, startValues, buildVerdict, buildLeaves, build, Model, storedValues, modelChecks, Tried, TrialLeft, trialFits, trialVerdict, trialLeaves, trial, Kept, KeepLeft, keepFits, keepVerdict, keepLeaves, keep}
+use Rattle.paper.specs.Demands.{buildAsWas, trialAsWas, keepAsWas, buildNumber, trialNumber, keepNumber}
+use Rattle.paper.proofs.Verdicts.{refused-not}
+
+-- ── which numbers a verdict gives: never 0 if it refuses ──
+data Gives (ok : ℕ → Bool) : Verdict → Type 0 where
+  passed : Gives ok accepted
+  stopped : {code place : ℕ} → ok (suc code) ≡ true → Gives ok (refused (suc code) place)
+
+module _ (ok : ℕ → Bool) where
+  fails : (code bound : ℕ) (good : ℕ → Bool) {next : Verdict} → ok (suc code) ≡ true → Gives ok next → Gives ok (check (suc code) bound good next)
+  fails code bound good {next} o h = go (ltb (firstFail good bound) bound)
+    where
+      go : (b : Bool) → Gives ok (cond b (refused (suc code) (firstFail good bound)) next)
+      go true = stopped o
+      go false = h
+
+  lacks : (code place : ℕ) (good : Bool) {next : Verdict} → ok (suc code) ≡ true → Gives ok next → Gives ok (require (suc code) place good next)
+  lacks code place true o h = h
+  lacks code place false o h = stopped o
+
+  tables-give : (t : Tables) {next : Verdict} → ok 2 ≡ true → ok 3 ≡ true → ok 4 ≡ true → ok 5 ≡ true → Gives ok next → Gives ok (tableChecks t next)
+  tables-give t o₂ o₃ o₄ o₅ h =
+      fails 1 (t .m) (kindGood t) o₂ (fails 2 (t .m) (shapeGood t) o₃
+      (lacks 2 (pred (t .m)) (eqb (total (take (t .m) (t .counts))) (t .e)) o₃ (fails 3 (t .m) (numberGood t) o₄ (fails 4 (t .m) (madeOnce t) o₅ h))))
+
+build-gives : (l : BuildLent) → Gives buildNumber (buildVerdict l)
+unfolding buildVerdict
+build-gives l = let t = l .tables in let ok = buildNumber in
+    lacks ok 0 0 (buildFits l) refl (tables-give ok t refl refl refl refl (fails ok 5 (t .n) (ends t) refl (fails ok 6 (t .n) (startGood t (startValues l)) refl passed)))
+
+-- trial and keep: the same checks of model and move
+module _ (ok : ℕ → Bool) where
+  model-gives : (w : Model) {next : Verdict} → ok 2 ≡ true → ok 3 ≡ true → ok 4 ≡ true → ok 5 ≡ true → ok 8 ≡ true → ok 7 ≡ true → Gives ok next → Gives ok (modelChecks w next)
+  model-gives w o₂ o₃ o₄ o₅ o₈ o₇ h = let t = w .tables in
+      tables-give ok t o₂ o₃ o₄ o₅ (lacks ok 7 0 (numbered t (w .numbers) (w .order)) o₈ (fails ok 6 (t .n) (storedGood t (storedValues w)) o₇ h))
+
+  move-gives : (t : Tables) (mv : Move) {next : Verdict} → ok 10 ≡ true → ok 11 ≡ true → ok 12 ≡ true → Gives ok next → Gives ok (moveChecks mv t next)
+  move-gives t mv o₁₀ o₁₁ o₁₂ h = fails ok 9 (mv .pairs) (movable mv t) o₁₀ (fails ok 10 (mv .pairs) (namedOnce mv) o₁₁ (fails ok 11 (mv .pairs) (hasValue mv) o₁₂ h))
+
+trial-gives : (w : Model) (c : Tried) → Gives trialNumber (trialVerdict w c)
+unfolding trialVerdict
+trial-gives w c = let ok = trialNumber in
+    lacks ok 0 0 (trialFits w c) refl (model-gives ok w refl refl refl refl refl refl (lacks ok 8 0 (between 1 (c .route) 3) refl
+    (move-gives ok (w .tables) (c .move) refl refl refl (fails ok 12 (c .asked) (λ i. ltb (nat (c .askedVars) i) (w .tables .n)) refl passed))))
+
+keep-gives : (w : Model) (c : Kept) → Gives keepNumber (keepVerdict w c)
+unfolding keepVerdict
+keep-gives w c = let ok = keepNumber in
+    lacks ok 0 0 (keepFits w c) refl (model-gives ok w refl refl refl refl refl refl (move-gives ok (w .tables) (c .move) refl refl refl passed))
+
+-- ── what holds of every call: x is what it leaves, by its verdict v ──
+pub record Judged {Left : Type 0} (answer : Left → Answer) (left : Verdict → Left) (asWas : Answer → Left) (ok : ℕ → Bool) (v : Verdict) (x : Left) : Type 0 where
+  -- the verdict says what it leaves
+  pub is : (u : Verdict) → v ≡ u → x ≡ left u
+  -- 0 is given exactly if it is acceptance, and only numbers of the call's own
+  pub good : answer x .number ≡ 0 → v ≡ accepted
+  pub zero : v ≡ accepted → answer x .number ≡ 0
+  pub given : ok (answer x .number) ≡ true
+  -- refused: everything is as it was
+  pub as-was : (answer x .number ≡ 0 → ⊥) → x ≡ asWas (answer x)
+
+judge : {Left : Type 0} (answer : Left → Answer) (left : Verdict → Left) (asWas : Answer → Left) (ok : ℕ → Bool) (v : Verdict) → ok 0 ≡ true → Gives ok v
+    → answer (left accepted) .number ≡ 0 → ((code place : ℕ) → answer (left (refused code place)) .number ≡ code)
+    → ((code place : ℕ) → left (refused code place) ≡ asWas (answer (left (refused code place)))) → Judged answer left asWas ok v (left v)
+judge answer left asWas ok accepted o₀ passed zero number same = record {
+  is = λ u e. ap left e;
+  good = λ e. refl;
+  zero = λ e. zero;
+  given = ap ok zero ∙ o₀;
+  as-was = λ wrong. absurd (wrong zero);
+}
+judge answer left asWas ok (refused (suc code) place) o₀ (stopped o) zero number same = record {
+  is = λ u e. ap left e;
+  good = λ e. let n = number (suc code) place in absurd (omega arith);
+  zero = λ e. refused-not e;
+  given = ap ok (number (suc code) place) ∙ o;
+  as-was = λ wrong. same (suc code) place;
+}
+
+-- ── each call ──
+pub build-judged : (l : BuildLent) → Judged (λ (x : BuildLeft). x .answer) (buildLeaves l) (buildAsWas l) buildNumber (buildVerdict l) (build l)
+unfolding build
+build-judged l = judge (λ (x : BuildLeft). x .answer) (buildLeaves l) (buildAsWas l) buildNumber (buildVerdict l) refl (build-gives l) refl (λ code place. refl) (λ code place. refl)
+
+pub trial-judged : (s : Session) (w : Model) (c : Tried) → Judged (λ (x : TrialLeft). x .answer) (trialLeaves w c s) (trialAsWas s c) trialNumber (trialVerdict w c) (trial s w c)
+unfolding trial
+trial-judged s w c = judge (λ (x : TrialLeft). x .answer) (trialLeaves w c s) (trialAsWas s c) trialNumber (trialVerdict w c) refl (trial-gives w c) refl (λ code place. refl) (λ code place. refl)
+
+pub keep-judged : (s : Session) (w : Model) (c : Kept) → Judged (λ (x : KeepLeft). x .answer) (keepLeaves w c s) (keepAsWas s w c) keepNumber (keepVerdict w c) (keep s w c)
+unfolding keep
+keep-judged s w c = judge (λ (x : KeepLeft). x .answer) (keepLeaves w c s) (keepAsWas s w c) keepNumber (keepVerdict w c) refl (keep-gives w c) refl (λ code place. refl) (λ code place. refl)
+
+-- ── how a program meets a call's equation: by its verdict, and field by field ──
+pub build-meets : (l : BuildLent) (x : BuildLeft) (v : Verdict) → buildVerdict l ≡ v
+    → x .answer ≡ buildLeaves l v .answer → x .session ≡ buildLeaves l v .session → x .numbers ≡ buildLeaves l v .numbers
+    → x .order ≡ buildLeaves l v .order → x .stored ≡ buildLeaves l v .stored → x ≡ build l
+build-meets l x v e a s n o w = (λ i. record { answer = a i; session = s i; numbers = n i; order = o i; stored = w i }) ∙ sym (build-judged l .is v e)
+
+pub trial-meets : (s : Session) (w : Model) (c : Tried) (x : TrialLeft) (v : Verdict) → trialVerdict w c ≡ v
+    → x .answer ≡ trialLeaves w c s v .answer → x .session ≡ trialLeaves w c s v .session → x .results ≡ trialLeaves w c s v .results
+    → x .trial ≡ trialLeaves w c s v .trial → x .flags ≡ trialLeaves w c s v .flags → x ≡ trial s w c
+trial-meets s w c x v e a z r t f = (λ i. record { answer = a i; session = z i; results = r i; trial = t i; flags = f i }) ∙ sym (trial-judged s w c .is v e)
+
+pub keep-meets : (s : Session) (w : Model) (c : Kept) (x : KeepLeft) (v : Verdict) → keepVerdict w c ≡ v
+    → x .answer ≡ keepLeaves w c s v .answer → x .session ≡ keepLeaves w c s v .session → x .stored ≡ keepLeaves w c s v .stored
+    → x .flags ≡ keepLeaves w c s v .flags → x ≡ keep s w c
+keep-meets s w c x v e a z t f = (λ i. record { answer = a i; session = z i; stored = t i; flags = f i }) ∙ sym (keep-judged s w c .is v e)
