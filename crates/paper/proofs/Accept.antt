@@ -11,8 +11,7 @@ use lib.Seq.{getD-take, getD-drop}
 use borrow.Author.Tests.{ltb-true, leb-true, eqb-true, eq-eqb, ne-eqb, lt-ltb}
 use Rattle.paper.specs.Lists.{any, all, between, total, nat, seek}
 use Rattle.paper.specs.Tables.{Tables, part, rowOf, isMade, inputsOf}
-use Rattle.paper.specs.Checks.{Verdict, accepted, refused, arity, kindGood, shapeGood, numberGood, madeOnce, tableChecks}
-use Rattle.paper.specs.Sound.{Sized, SoundRow, Sound}
+use Rattle.paper.specs.Checks.{Verdict, accepted, refused, arity, kindGood, shapeGood, numberGood, madeOnce, tableChecks, Sized, SoundRow, Sound}
 use Rattle.paper.proofs.Lists.{clash, and-left, and-right, not-true, each, all-at, any-at}
 use Rattle.paper.proofs.Scan.{part-length}
 use Rattle.paper.proofs.Verdicts.{check-next, check-rest, check-held, check-other, require-next, require-rest, require-held, require-other}

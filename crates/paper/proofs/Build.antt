@@ -6,10 +6,9 @@ use mathlib.Core.Bool.{true}
 use mathlib.Core.Path.{_≡_, refl, ap, sym, _∙_, subst}
 use Rattle.paper.specs.Lists.{firstFail}
 use Rattle.paper.specs.Tables.{Tables, net, inputsOf, ends}
-use Rattle.paper.specs.Checks.{Verdict, accepted, refused, check, startGood}
+use Rattle.paper.specs.Checks.{Verdict, accepted, refused, check, startGood, Sound}
 use Rattle.paper.specs.Calls.{BuildLent, BuildLeft, buildFits, startValues, buildVerdict, buildLeaves, build}
 use Rattle.paper.specs.Demands.{Circular, FivePassed, LeastUnnumbered, CircularExactly, BuildRight}
-use Rattle.paper.specs.Sound.{Sound}
 use Rattle.paper.proofs.Lists.{clash}
 use Rattle.paper.proofs.Least.{firstFail-before, firstFail-fails}
 use Rattle.paper.proofs.Verdicts.{refused-not, check-stops, check-other, check-own, require-next, require-rest, require-held, require-other}

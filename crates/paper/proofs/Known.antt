@@ -2,22 +2,22 @@
 use Prim.Native.Nat.{ℕ, zero, suc, _≤_, _<_}
 use native.Mathlib.Omega.{arith}
 use mathlib.Core.Bool.{Bool, true, false, _||_, false≢true}
-use mathlib.Core.List.{List, [], _∷_}
-use mathlib.Core.Path.{_≡_, refl}
+use mathlib.Core.List.{[], _∷_}
+use mathlib.Core.Path.{_≡_, refl, sym, _∙_}
 use lib.IntN.{ℤ, pos}
 use lib.Dec.{eqb, ltb}
 use lib.ListN.{length, getD, take}
 use borrow.Author.Tests.{ltb-true, leb-true, eqb-true}
 use Rattle.integers.specs.Integers.{eqZ}
-use Rattle.paper.specs.Lists.{any, between, nat}
+use Rattle.paper.specs.Lists.{any, between, nat, below}
 use Rattle.paper.specs.Formula.{blank}
 use Rattle.paper.specs.Net.{able, names}
 use Rattle.paper.specs.Tables.{Tables, net, isMade, inputsOf, ends, numbers, order}
-use Rattle.paper.specs.Checks.{Verdict, accepted, sized, startGood, storedGood, numbered, Move, pairing, movePairs, moveFits, movable, namedOnce, hasValue, moveChecks}
+use Rattle.paper.specs.Checks.{Verdict, accepted, sized, startGood, storedGood, numbered, Move, movePairs, moveFits, movable, namedOnce, hasValue, moveChecks, Sound}
 use Rattle.paper.specs.Calls.{BuildLent, buildFits, startValues, buildVerdict, Model, modelFits, storedValues, modelChecks, Tried, trialFits, trialVerdict, Kept, keepFits, keepVerdict}
-use Rattle.paper.specs.Sound.{Sound}
 use Rattle.paper.proofs.Lists.{and-left, and-right, not-true, each}
 use Rattle.paper.proofs.Verdicts.{check-rest, check-held, require-rest, require-held}
+use Rattle.paper.proofs.Scan.{any-append}
 use Rattle.paper.proofs.Sizes.{sized-facts}
 use Rattle.paper.proofs.Accept.{Passed, tables-passed, passed-sound, made-below, inputs-below}
 use Rattle.paper.proofs.Lawful.{lawful}
@@ -115,21 +115,25 @@ move-known t mv next fits e =
       check-rest 12 (mv .pairs) (hasValue mv) next e₁₂,
     )
 
--- a pair that names v stands at some place
-named-at : (p : ℕ) (vars : List ℕ) (values : List ℤ) (v : ℕ) → names (pairing p vars values) v ≡ true → (i : ℕ) × (i < p) × (nat vars i ≡ v)
-named-at zero vars values v e = absurd (false≢true e)
-named-at (suc p) [] values v e = absurd (false≢true e)
-named-at (suc p) (u ∷ vars) [] v e = absurd (false≢true e)
-named-at (suc p) (u ∷ vars) (x ∷ values) v e = go (eqb u v) refl e (named-at p vars values v)
+-- a test that some f i below p passes is passed by one
+below-has : {A : Type 0} (test : A → Bool) (f : ℕ → A) (p : ℕ) → any test (below f p) ≡ true → (i : ℕ) × (i < p) × (test (f i) ≡ true)
+below-has test f zero e = absurd (false≢true e)
+below-has test f (suc p) e = go (any test (below f p)) refl (sym (any-append test (below f p) (f p ∷ [])) ∙ e) (below-has test f p)
   where
-    go : (b : Bool) → eqb u v ≡ b → (b || names (pairing p vars values) v) ≡ true → (names (pairing p vars values) v ≡ true → (i : ℕ) × (i < p) × (nat vars i ≡ v))
-        → (i : ℕ) × (i < suc p) × (nat (u ∷ vars) i ≡ v)
-    go true q h ih = (zero, omega arith, eqb-true u v q)
-    go false q h ih = let (i, l, r) = ih h in (suc i, omega arith, r)
+    go : (b : Bool) → any test (below f p) ≡ b → (b || (test (f p) || false)) ≡ true → (any test (below f p) ≡ true → (i : ℕ) × (i < p) × (test (f i) ≡ true))
+        → (i : ℕ) × (i < suc p) × (test (f i) ≡ true)
+    go true q h more = let (i, l, r) = more q in (i, omega arith, r)
+    go false q h more = (p, omega arith, or-last (test (f p)) h)
+      where
+        or-last : (c : Bool) → (c || false) ≡ true → c ≡ true
+        or-last true z = refl
+        or-last false z = z
 
 -- so an accepted move names variables of the model
 pub named-below : (t : Tables) (mv : Move) → MoveKnown t mv → (v : ℕ) → names (movePairs mv) v ≡ true → v < t .n
-named-below t mv k v e = let (i, l, r) = named-at (mv .pairs) (mv .vars) (mv .values) v e in rw r at (k .low i l)
+named-below t mv k v e =
+    let (i, l, r) = below-has (λ (p : ℕ × ℤ). eqb (p .0) v) (λ i. (nat (mv .vars) i, getD (mv .values) i (pos 0))) (mv .pairs) e in
+    rw (eqb-true (nat (mv .vars) i) v r) at (k .low i l)
 
 -- ── trial and keep ──
 pub record TrialKnown (w : Model) (c : Tried) : Type 0 where

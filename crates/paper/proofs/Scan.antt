@@ -67,7 +67,7 @@ total-next l i h =
     ap (λ (k : ℕ). total (take k l)) (add-one i) ∙ ap total (take-suc l i 0 h)
     ∙ total-append (take i l) (nat l i ∷ []) ∙ (let z : nat l i + 0 ≡ nat l i = omega arith in ap (total (take i l) +_) z)
 
-any-append : {A : Type 0} (p : A → Bool) (xs ys : List A) → any p (xs ++ ys) ≡ any p xs || any p ys
+pub any-append : {A : Type 0} (p : A → Bool) (xs ys : List A) → any p (xs ++ ys) ≡ any p xs || any p ys
 any-append p [] ys = refl
 any-append p (x ∷ xs) ys = go (p x) (any-append p xs ys)
   where

@@ -4,8 +4,7 @@ use mathlib.Core.Path.{_≡_}
 use lib.Dec.{leb}
 use borrow.Author.Tests.{leb-true}
 use Rattle.paper.specs.Tables.{Tables}
-use Rattle.paper.specs.Checks.{sized}
-use Rattle.paper.specs.Sound.{Sized}
+use Rattle.paper.specs.Checks.{sized, Sized}
 use Rattle.paper.proofs.Lists.{and-left, and-right, each}
 
 pub sized-facts : (t : Tables) → sized t ≡ true → Sized t

@@ -13,7 +13,6 @@ use Rattle.paper.specs.Net.{Values, Route, input-to-output, output-to-in
 use Rattle.paper.specs.Tables.{Tables, net, valuesIn, ends, order}
 use Rattle.paper.specs.Checks.{Verdict, accepted, refused, check, require, leaves, sized, tableChecks, startGood, numbered, storedGood, Move, movePairs, moveFits, moveChecks}
 
--- ── what comes back ──
 -- the session record: moves kept, and evaluations of the last accepted call
 pub record Session : Type 0 where
   pub kept : ℕ
@@ -35,6 +34,7 @@ onceMore kept = min (suc kept) 4294967295
 
 -- ── what a move does by a route, over stored values `old` ──
 module _ (t : Tables) (old : Values) (r : Route) (mv : List (ℕ × ℤ)) (asked : List ℕ) where
+  -- the new values; the variables that the route evaluates, and their number
   abbrev pub newValues : Values
   newValues = new (net t) r old (moved mv old) (t .n)
 

@@ -1,12 +1,13 @@
--- The checks on tables and moves, in the order of their numbers. Assumes nothing.
-use Prim.Native.Nat.{ℕ, zero, suc, pred, _+_}
-use mathlib.Core.Bool.{Bool, cond, not, _&&_, _||_}
+-- The checks on tables and moves, and what passed ones say. Assumes nothing.
+use Prim.Native.Nat.{ℕ, pred, _+_, _≤_, _<_}
+use mathlib.Core.Bool.{Bool, true, cond, not, _&&_, _||_}
 use mathlib.Core.List.{List, [], _∷_}
+use mathlib.Core.Path.{_≡_}
 use lib.IntN.{ℤ, pos, natAbs}
 use lib.Dec.{eqb, leb, ltb}
 use lib.ListN.{length, getD, take}
 use Rattle.integers.specs.Integers.{eqZ}
-use Rattle.paper.specs.Lists.{any, all, every, same, between, total, nat, firstFail}
+use Rattle.paper.specs.Lists.{any, all, every, same, between, total, nat, firstFail, below}
 use Rattle.paper.specs.Formula.{blank}
 use Rattle.paper.specs.Net.{Values}
 use Rattle.paper.specs.Tables.{Tables, part, isMade, ends, numbers, order}
@@ -92,17 +93,11 @@ pub record Move : Type 0 where
   pub vars : List ℕ
   pub values : List ℤ
 
--- the pairs, and nothing of the lent rows beyond them
-abbrev pub pairing : ℕ → List ℕ → List ℤ → List (ℕ × ℤ)
-pairing zero vars values = []
-pairing (suc p) [] values = []
-pairing (suc p) (v ∷ vars) [] = []
-pairing (suc p) (v ∷ vars) (x ∷ values) = (v, x) ∷ pairing p vars values
-
-abbrev pub movePairs : Move → List (ℕ × ℤ)
-movePairs mv = pairing (mv .pairs) (mv .vars) (mv .values)
-
 module _ (mv : Move) where
+  -- the pairs, and nothing of the lent rows beyond them
+  abbrev pub movePairs : List (ℕ × ℤ)
+  movePairs = below (λ i. (nat (mv .vars) i, getD (mv .values) i (pos 0))) (mv .pairs)
+
   -- 1: at most 64 pairs, all of them lent
   abbrev pub moveFits : Bool
   moveFits = every (leb (mv .pairs) 64 ∷ leb (mv .pairs) (length (mv .vars)) ∷ leb (mv .pairs) (length (mv .values)) ∷ [])
@@ -122,3 +117,38 @@ module _ (mv : Move) where
   -- checks 10 to 12
   abbrev pub moveChecks : Tables → Verdict → Verdict
   moveChecks t next = check 10 (mv .pairs) (movable t) (check 11 (mv .pairs) namedOnce (check 12 (mv .pairs) hasValue next))
+
+-- ── what code may rely on once checks 1 to 5 are passed (`proofs/Accept.antt` shows that it may) ──
+-- check 1 is passed, as far as it is about the tables
+pub record Sized (t : Tables) : Type 0 where
+  pub n-some : 1 ≤ t .n
+  pub n-most : t .n ≤ 4096
+  pub m-most : t .m ≤ t .n
+  pub e-most : t .e ≤ 16384
+  pub kinds : t .m ≤ length (t .kinds)
+  pub makes : t .m ≤ length (t .makes)
+  pub params : t .m ≤ length (t .params)
+  pub firsts : t .m ≤ length (t .firsts)
+  pub counts : t .m ≤ length (t .counts)
+  pub vars : t .e ≤ length (t .vars)
+  pub coefs : t .e ≤ length (t .coefs)
+
+-- one row of the tables
+pub record SoundRow (t : Tables) (r : ℕ) : Type 0 where
+  pub kind-low : 1 ≤ nat (t .kinds) r
+  pub kind-high : nat (t .kinds) r ≤ 9
+  pub makes : nat (t .makes) r < t .n
+  pub first : nat (t .firsts) r ≡ total (take r (t .counts))
+  pub inside : nat (t .firsts) r + nat (t .counts) r ≤ t .e
+  pub some : 1 ≤ nat (t .counts) r
+  pub few : nat (t .counts) r ≤ 256
+  pub suits : arity (nat (t .kinds) r) (nat (t .counts) r) ≡ true
+  pub inputs : (i : ℕ) → i < nat (t .counts) r → nat (t .vars) (nat (t .firsts) r + i) < t .n
+  pub numbers : numberGood t r ≡ true
+
+-- checks 1 to 5 are passed
+pub record Sound (t : Tables) : Type 0 where
+  pub sized : Sized t
+  pub row : (r : ℕ) → r < t .m → SoundRow t r
+  pub whole : total (take (t .m) (t .counts)) ≡ t .e
+  pub once : (r s : ℕ) → r < s → s < t .m → nat (t .makes) r ≡ nat (t .makes) s → ⊥

@@ -37,7 +37,7 @@ entriesAt n m = 24 + 4 * n + 12 * m
 abbrev pub endsAt : ℕ → ℕ → ℕ → ℕ
 endsAt n m e = 24 + 4 * n + 12 * m + 4 * e
 
--- ── the bytes of a model ──
+-- ── the bytes of a model: header, start values, rows and entries ──
 abbrev pub headBytes : ℕ → ℕ → ℕ → List ℕ
 headBytes n m e =
     bytesOf 2 1 ++ bytesOf 2 n ++ bytesOf 2 m ++ bytesOf 2 e
@@ -81,6 +81,7 @@ abbrev pub counted : ℕ → ℕ → ℕ → Tables → Tables
 counted n m e t = lent n m e (t .kinds) (t .makes) (t .params) (t .firsts) (t .counts) (t .vars) (t .coefs)
 
 module _ (bytes : List ℕ) where
+  -- the counts that a file states
   abbrev pub nIn : ℕ
   nIn = field 2 2 bytes
 

@@ -9,7 +9,6 @@ use lib.ListN.{getD, take, drop}
 use Rattle.integers.specs.Integers.{eqZ}
 use Rattle.paper.specs.Lists.{any, tally}
 
--- ── numbers and blank ──
 -- -2,147,483,648: no value
 abbrev pub blank : ℤ
 blank = negsuc 2147483647
@@ -24,14 +23,13 @@ fit z = cond (inRange z) z blank
 abbrev pub someBlank : List ℤ → Bool
 someBlank xs = any (λ x. eqZ x blank) xs
 
--- ── 1. LINEAR ──
--- the sum of coefficient times input
+-- 1. LINEAR: the sum of coefficient times input
 abbrev pub sum : List ℤ → List ℤ → ℤ
 sum [] xs = pos 0
 sum (c ∷ cs) [] = pos 0
 sum (c ∷ cs) (x ∷ xs) = c *ℤ x +ℤ sum cs xs
 
--- ── 2. MIN and 3. MAX ──
+-- 2. MIN and 3. MAX: the lesser of two, and the greater
 abbrev pub lesser : ℤ → ℤ → ℤ
 lesser a b = cond (leZ a b) a b
 
@@ -48,7 +46,7 @@ abbrev pub extreme : (ℤ → ℤ → ℤ) → List ℤ → ℤ
 extreme f [] = blank
 extreme f (x ∷ xs) = leave f x xs
 
--- ── 4. ELEMENT ──
+-- 4. ELEMENT: the candidate that the index picks, counted from 0
 abbrev pub pick : ℤ → List ℤ → ℤ
 pick (pos i) candidates = getD candidates i blank
 pick (negsuc i) candidates = blank
@@ -57,28 +55,26 @@ abbrev pub element : List ℤ → ℤ
 element [] = blank
 element (index ∷ candidates) = pick index candidates
 
--- ── 5. SHARED and 6. COUNT ──
--- how many places hold z
+-- 6. COUNT: how many places hold z
 abbrev pub places : ℤ → List ℤ → ℕ
 places z xs = tally (λ x. eqZ x z) xs
 
--- how many places hold a value that stands in two places or more
+-- 5. SHARED: how many places hold a value that another place also holds
 abbrev pub sharing : List ℤ → ℕ
 sharing xs = tally (λ x. leb 2 (places x xs)) xs
 
--- ── 7. OVER ──
+-- 7. OVER: a - b if positive, else 0
 abbrev pub excess : ℤ → ℤ → ℤ
 excess a b = cond (ltZ b a) (fit (a -ℤ b)) (pos 0)
 
--- ── 8. DEPARTURES and 9. LAST ──
--- how many times start + k · headway are strictly before end: the gap divided by the headway, rounded up
+-- 8. DEPARTURES: how many times start + k · headway are strictly before end: the gap divided by the headway, rounded up
 abbrev pub trips : ℤ → ℤ → ℤ → ℕ
 trips s e h = cond (ltZ s e) ((natAbs (e -ℤ s) + natAbs h - 1) / natAbs h) 0
 
 abbrev pub departures : ℤ → ℤ → ℤ → ℤ
 departures s e h = cond (leZ h (pos 0)) blank (fit (pos (trips s e h)))
 
--- the last of so many times
+-- 9. LAST: the latest of so many times
 abbrev pub lastOf : ℤ → ℤ → ℕ → ℤ
 lastOf s h zero = blank
 lastOf s h (suc k) = fit (s +ℤ pos k *ℤ h)
@@ -86,11 +82,11 @@ lastOf s h (suc k) = fit (s +ℤ pos k *ℤ h)
 abbrev pub last : ℤ → ℤ → ℤ → ℤ
 last s e h = cond (leZ h (pos 0)) blank (lastOf s h (trips s e h))
 
--- ── a row's formula, picked by its kind code ──
+-- input i of a row
 abbrev pub inputAt : List ℤ → ℕ → ℤ
 inputAt xs i = getD xs i blank
 
--- kinds other than 4; a code that picks none is refused by check 2 and stands here as blank
+-- the formula that a kind code picks, but for 4; a code that picks none is refused by check 2 and stands here as blank
 abbrev pub plain : ℕ → ℤ → List ℤ → List ℤ → ℤ
 plain kind param coefs xs =
     cond (eqb kind 1) (fit (param +ℤ sum coefs xs))
@@ -111,7 +107,7 @@ strict kind param coefs xs = cond (someBlank xs) blank (plain kind param coefs x
 unfoldable pub formula : ℕ → ℤ → List ℤ → List ℤ → ℤ
 formula kind param coefs xs = cond (eqb kind 4) (element xs) (strict kind param coefs xs)
 
--- ── the inputs that a formula looks at: all, but of ELEMENT the index and then only the chosen candidate ──
+-- the inputs that a formula looks at: all, but of ELEMENT the index and then only the chosen candidate
 abbrev pub chosen : ℤ → List ℕ → List ℕ
 chosen (pos i) candidates = take 1 (drop i candidates)
 chosen (negsuc i) candidates = []

@@ -7,5 +7,4 @@ pub mod Calls
 pub mod File
 pub mod Sessions
 pub mod Demands
-pub mod Sound
 pub mod Runs

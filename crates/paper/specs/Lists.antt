@@ -5,7 +5,7 @@ use mathlib.Core.List.{List, [], _∷_, _++_}
 use lib.Dec.{eqb, leb, ltb}
 use lib.ListN.{getD, drop}
 
--- ── tests ──
+-- some entry passes a test; each does
 abbrev pub any : {A : Type 0} → (A → Bool) → List A → Bool
 any p [] = false
 any p (x ∷ xs) = p x || any p xs
@@ -30,7 +30,7 @@ same eq (x ∷ xs) (y ∷ ys) = eq x y && same eq xs ys
 abbrev pub between : ℕ → ℕ → ℕ → Bool
 between a x b = leb a x && leb x b
 
--- ── sums and places ──
+-- the sum, and the greatest, 0 for none
 abbrev pub total : List ℕ → ℕ
 total [] = 0
 total (x ∷ xs) = x + total xs
@@ -53,18 +53,17 @@ abbrev pub seek : ℕ → List ℕ → ℕ
 seek v [] = zero
 seek v (x ∷ xs) = cond (eqb x v) zero (suc (seek v xs))
 
--- ── the numbers below n ──
--- how many pass a test
+-- how many numbers below n pass a test
 abbrev pub size : (ℕ → Bool) → ℕ → ℕ
 size p zero = zero
 size p (suc n) = cond (p n) (suc (size p n)) (size p n)
 
--- the least that fails, or n
+-- the least number below n that fails, or n
 abbrev pub firstFail : (ℕ → Bool) → ℕ → ℕ
 firstFail p zero = zero
 firstFail p (suc n) = cond (ltb (firstFail p n) n) (firstFail p n) (cond (p n) (suc n) n)
 
--- f of each, in order
+-- f of each number below n, in order
 abbrev pub below : {A : Type 0} → (ℕ → A) → ℕ → List A
 below f zero = []
 below f (suc n) = below f n ++ (f n ∷ [])

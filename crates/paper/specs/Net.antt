@@ -33,7 +33,6 @@ unfoldable pub runs : {A : Type 0} → Rule A → (ℕ → A) → ℕ → ℕ �
 runs rule base zero v = base v
 runs rule base (suc k) v = rule (runs rule base k) v
 
--- ── dependence ──
 -- v depends on w
 pub data Depends (dep : ℕ → List ℕ) : ℕ → ℕ → Type 0 where
   direct : {v w : ℕ} → List·Memᴰ w (dep v) → Depends dep v w
@@ -43,7 +42,6 @@ pub data Depends (dep : ℕ → List ℕ) : ℕ → ℕ → Type 0 where
 abbrev pub able : (ℕ → List ℕ) → ℕ → ℕ → Bool
 able dep = runs (λ f v. all f (dep v)) (λ v. false)
 
--- ── a move ──
 -- the values with the pairs of a move put in; the first pair that names a variable decides
 abbrev pub moved : List (ℕ × ℤ) → Values → Values
 moved [] old v = old v

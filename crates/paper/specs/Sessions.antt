@@ -37,7 +37,6 @@ pub record State : Type 0 where
   pub session : Session
   pub stored : List ℤ
 
--- ── one call ──
 -- the row that is lent, and the session's own row afterwards
 abbrev pub rowLent : Row → List ℤ → List ℤ
 rowLent own mine = mine
@@ -65,7 +64,6 @@ module _ (now : State) where
   keptBy (tries l c) earlier = earlier
   keptBy (keeps l c) earlier = leaves (keepVerdict (modelOf l) c) (movePairs (c .move) ∷ earlier) earlier
 
--- ── runs ──
 -- start values with the moves applied, from the last of the list to its head
 abbrev pub applied : Values → List (List (ℕ × ℤ)) → Values
 applied s [] = s

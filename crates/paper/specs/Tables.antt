@@ -34,7 +34,6 @@ inputsAsked m e firsts counts vars row =
     (take (nat counts row) (drop (nat firsts row) vars)) []
 
 module _ (t : Tables) where
-  -- ── the model ──
   -- the part of an entry list that row r names
   abbrev pub part : {A : Type 0} → ℕ → List A → List A
   part r l = take (nat (t .counts) r) (drop (nat (t .firsts) r) l)
