@@ -6,18 +6,19 @@ use mathlib.Core.Bool.{true}
 use mathlib.Core.Path.{_≡_, refl, ap, sym, _∙_, subst}
 use Rattle.paper.specs.Lists.{firstFail}
 use Rattle.paper.specs.Tables.{Tables, net, inputsOf, ends}
-use Rattle.paper.specs.Checks.{Verdict, accepted, refused, check, startGood, Sound}
+use Rattle.paper.specs.Checks.{Verdict, accepted, refused, check, sized, startGood, Sound}
 use Rattle.paper.specs.Calls.{BuildLent, BuildLeft, buildFits, startValues, buildVerdict, buildLeaves, build}
 use Rattle.paper.specs.Demands.{Circular, FivePassed, LeastUnnumbered, CircularExactly, BuildRight}
-use Rattle.paper.proofs.Lists.{clash}
+use Rattle.paper.proofs.Lists.{clash, and-left}
 use Rattle.paper.proofs.Least.{firstFail-before, firstFail-fails}
 use Rattle.paper.proofs.Verdicts.{refused-not, check-stops, check-other, check-own, require-next, require-rest, require-held, require-other}
-use Rattle.paper.proofs.Accept.{Passed, tables-next, tables-passed, tables-other, made-below, inputs-below}
+use Rattle.paper.proofs.Sizes.{sized-facts}
+use Rattle.paper.proofs.Accept.{tables-next, tables-passed, tables-other, made-below, inputs-below}
 use Rattle.paper.proofs.Lawful.{lawful}
 use Rattle.paper.proofs.Numbers.{number-right}
 use Rattle.paper.proofs.Circle.{circle-unable, fails-circle, circle-fails, able-has, has-able}
 use Rattle.paper.proofs.Fresh.{afresh-equation}
-use Rattle.paper.proofs.Known.{BuildKnown, build-known, build-sound}
+use Rattle.paper.proofs.Known.{BuildKnown, build-known}
 use Rattle.paper.proofs.Outcomes.{build-judged}
 
 module _ (b : BuildLent) where
@@ -50,28 +51,24 @@ module _ (b : BuildLent) where
   -- ── checks 1 to 5 ──
   pub record Five : Type 0 where
     pub fits : buildFits b ≡ true
-    pub passed : Passed t
+    pub sound : Sound t
 
   five : FivePassed b → Five
-  five e = record { fits = require-held 1 0 (buildFits b) _ e; passed = tables-passed t accepted (require-rest 1 0 (buildFits b) _ e) .0 }
+  five e = let fits = require-held 1 0 (buildFits b) _ e in record { fits = fits; sound = tables-passed t (and-left (sized t) _ fits) accepted (require-rest 1 0 (buildFits b) _ e) .0 }
 
   five-passed : Five → FivePassed b
-  five-passed f = require-next 1 0 (buildFits b) _ (f .fits) ∙ tables-next t (f .passed) accepted
+  five-passed f = require-next 1 0 (buildFits b) _ (f .fits) ∙ tables-next t (f .sound) accepted
 
-  module _ (f : Five) where
-    sound : Sound t
-    sound = build-sound b (f .fits) (f .passed)
-
-    -- once they are passed, 6 and 7 decide
-    late : buildVerdict b ≡ check 6 (t .n) (ends t) (check 7 (t .n) (startGood t (startValues b)) accepted)
-    unfolding buildVerdict
-    late = require-next 1 0 (buildFits b) _ (f .fits) ∙ tables-next t (f .passed) _
+  -- once they are passed, 6 and 7 decide
+  late : Five → buildVerdict b ≡ check 6 (t .n) (ends t) (check 7 (t .n) (startGood t (startValues b)) accepted)
+  unfolding buildVerdict
+  late f = require-next 1 0 (buildFits b) _ (f .fits) ∙ tables-next t (f .sound) _
 
   -- ── refusal 6 ──
   circular-six : Five → Circular b → buildVerdict b ≡ refused 6 least
   circular-six f c =
-      let s = sound f in
-      late f ∙ check-stops 6 (t .n) (ends t) _ least refl (circle-fails (net t) (lawful t) (t .n) (inputs-below t s) (made-below t s) (s .sized .n-some) (c .0) (c .1))
+      let s = f .sound in
+      late f ∙ check-stops 6 (t .n) (ends t) _ least refl (circle-fails (net t) (lawful t) (t .n) (inputs-below t s) (made-below t s) (sized-facts t (s .sized) .n-some) (c .0) (c .1))
 
   pub record Six (p : ℕ) : Type 0 where
     pub five : Five
@@ -82,9 +79,9 @@ module _ (b : BuildLent) where
   unfolding buildVerdict
   six p e =
       let r₁ = require-other 1 0 (buildFits b) _ 6 p (λ q. omega arith) e in
-      let r₅ = tables-other t _ 6 p (omega arith) (r₁ .1) in
+      let r₅ = tables-other t (and-left (sized t) _ (r₁ .0)) _ 6 p (omega arith) (r₁ .1) in
       let r₆ = check-own 6 (t .n) (ends t) _ p later (r₅ .1) in
-      record { five = record { fits = r₁ .0; passed = r₅ .0 }; low = r₆ .0; place = r₆ .1 }
+      record { five = record { fits = r₁ .0; sound = r₅ .0 }; low = r₆ .0; place = r₆ .1 }
     where
       later : check 7 (t .n) (startGood t (startValues b)) accepted ≡ refused 6 p → ⊥
       later h = refused-not (sym (check-other 7 (t .n) (startGood t (startValues b)) accepted 6 p (λ q. omega arith) h .1))
@@ -103,14 +100,14 @@ module _ (b : BuildLent) where
   least-unnumbered : Five → least < t .n → LeastUnnumbered t least
   least-unnumbered f low = record {
     low = low;
-    cannot = λ c. clash (has-able (net t) (lawful t) (t .n) (inputs-below t (sound f)) least low c) (firstFail-fails (ends t) (t .n) low);
+    cannot = λ c. clash (has-able (net t) (lawful t) (t .n) (inputs-below t (f .sound)) least low c) (firstFail-fails (ends t) (t .n) low);
     can = λ v l. able-has (net t) (lawful t) (t .n) v (firstFail-before (ends t) (t .n) v l);
   }
 
   pub circular-exactly : CircularExactly b
   circular-exactly = record {
     given = λ e c. ap (λ (x : BuildLeft). x .answer .number) (build-judged b .is (refused 6 least) (circular-six (five e) c));
-    only = λ h. let k = answer-six h in let s = sound (k .five) in
-        (five-passed (k .five), fails-circle (net t) (lawful t) (t .n) (inputs-below t s) (made-below t s) (s .sized .n-some) (k .low));
+    only = λ h. let k = answer-six h in let s = k .five .sound in
+        (five-passed (k .five), fails-circle (net t) (lawful t) (t .n) (inputs-below t s) (made-below t s) (sized-facts t (s .sized) .n-some) (k .low));
     place = λ h. let k = answer-six h in subst (LeastUnnumbered t) (k .place) (least-unnumbered (k .five) (k .low));
   }

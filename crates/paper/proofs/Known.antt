@@ -11,47 +11,40 @@ use borrow.Author.Tests.{ltb-true, leb-true, eqb-true}
 use Rattle.integers.specs.Integers.{eqZ}
 use Rattle.paper.specs.Lists.{any, between, nat, below}
 use Rattle.paper.specs.Formula.{blank}
-use Rattle.paper.specs.Net.{able, names}
-use Rattle.paper.specs.Tables.{Tables, net, isMade, inputsOf, ends, numbers, order}
+use Rattle.paper.specs.Net.{able, number, names}
+use Rattle.paper.specs.Tables.{Tables, net, isMade, inputsOf, ends, order}
 use Rattle.paper.specs.Checks.{Verdict, accepted, sized, startGood, storedGood, numbered, Move, movePairs, moveFits, movable, namedOnce, hasValue, moveChecks, Sound}
 use Rattle.paper.specs.Calls.{BuildLent, buildFits, startValues, buildVerdict, Model, modelFits, storedValues, modelChecks, Tried, trialFits, trialVerdict, Kept, keepFits, keepVerdict}
 use Rattle.paper.proofs.Lists.{and-left, and-right, not-true, each}
 use Rattle.paper.proofs.Verdicts.{check-rest, check-held, require-rest, require-held}
 use Rattle.paper.proofs.Scan.{any-append}
 use Rattle.paper.proofs.Sizes.{sized-facts}
-use Rattle.paper.proofs.Accept.{Passed, tables-passed, passed-sound, made-below, inputs-below}
+use Rattle.paper.proofs.Accept.{tables-passed, made-below, inputs-below}
 use Rattle.paper.proofs.Lawful.{lawful}
 use Rattle.paper.proofs.Circle.{ends-everywhere}
 use Rattle.paper.proofs.Eight.{numbered-ends, numbered-numbers, numbered-order}
 
 -- chains that end at every variable of sound tables end everywhere
 pub sound-ends : (t : Tables) → Sound t → ((v : ℕ) → v < t .n → ends t v ≡ true) → (v : ℕ) → able (inputsOf t) (t .n) v ≡ true
-sound-ends t s = ends-everywhere (net t) (lawful t) (t .n) (inputs-below t s) (made-below t s) (s .sized .n-some)
+sound-ends t s = ends-everywhere (net t) (lawful t) (t .n) (inputs-below t s) (made-below t s) (sized-facts t (s .sized) .n-some)
 
 -- ── build ──
 pub record BuildKnown (b : BuildLent) : Type 0 where
   pub fits : buildFits b ≡ true
-  pub passed : Passed (b .tables)
   pub sound : Sound (b .tables)
   pub chains : (v : ℕ) → able (inputsOf (b .tables)) (b .tables .n) v ≡ true
   pub starts : (v : ℕ) → v < b .tables .n → startGood (b .tables) (startValues b) v ≡ true
-
--- of checks 1 to 5 alone
-pub build-sound : (b : BuildLent) → buildFits b ≡ true → Passed (b .tables) → Sound (b .tables)
-build-sound b fits p = passed-sound (b .tables) (sized-facts (b .tables) (and-left (sized (b .tables)) _ fits)) p
 
 pub build-known : (b : BuildLent) → buildVerdict b ≡ accepted → BuildKnown b
 unfolding buildVerdict
 build-known b e =
     let t = b .tables in
     let fits = require-held 1 0 (buildFits b) _ e in
-    let p = tables-passed t _ (require-rest 1 0 (buildFits b) _ e) in
-    let sound = build-sound b fits (p .0) in
+    let p = tables-passed t (and-left (sized t) _ fits) _ (require-rest 1 0 (buildFits b) _ e) in
     record {
       fits = fits;
-      passed = p .0;
-      sound = sound;
-      chains = sound-ends t sound (check-held 6 (t .n) (ends t) _ (p .1));
+      sound = p .0;
+      chains = sound-ends t (p .0) (check-held 6 (t .n) (ends t) _ (p .1));
       starts = check-held 7 (t .n) (startGood t (startValues b)) accepted (check-rest 6 (t .n) (ends t) _ (p .1));
     }
 
@@ -62,26 +55,25 @@ pub record ModelKnown (w : Model) : Type 0 where
   pub order-long : w .tables .m ≤ length (w .order)
   pub stored-long : w .tables .n ≤ length (w .stored)
   pub chains : (v : ℕ) → able (inputsOf (w .tables)) (w .tables .n) v ≡ true
-  pub numbers-are : take (w .tables .n) (w .numbers) ≡ numbers (w .tables)
+  pub numbers-are : (v : ℕ) → v < w .tables .n → nat (w .numbers) v ≡ number (net (w .tables)) (w .tables .n) v
   pub order-is : take (w .tables .m) (w .order) ≡ order (w .tables)
   pub stored : (v : ℕ) → v < w .tables .n → storedGood (w .tables) (storedValues w) v ≡ true
 
 pub model-known : (w : Model) (next : Verdict) → modelFits w ≡ true → modelChecks w next ≡ accepted → ModelKnown w × (next ≡ accepted)
 model-known w next fits e =
     let t = w .tables in
-    let p = tables-passed t _ e in
+    let p = tables-passed t (and-left (sized t) _ fits) _ e in
     let eight = require-held 8 0 (numbered t (w .numbers) (w .order)) _ (p .1) in
     let seven = require-rest 8 0 (numbered t (w .numbers) (w .order)) _ (p .1) in
-    let sound = passed-sound t (sized-facts t (and-left (sized t) _ fits)) (p .0) in
     let long = each _ (and-right (sized t) _ fits) in (
       record {
-        sound = sound;
+        sound = p .0;
         numbers-long = leb-true (t .n) (length (w .numbers)) (long .0);
         order-long = leb-true (t .m) (length (w .order)) (long .1 .0);
         stored-long = leb-true (t .n) (length (w .stored)) (long .1 .1 .0);
-        chains = sound-ends t sound (numbered-ends t (w .numbers) (w .order) eight);
+        chains = sound-ends t (p .0) (numbered-ends t (w .numbers) (w .order) eight);
         numbers-are = numbered-numbers t (w .numbers) (w .order) eight;
-        order-is = numbered-order t (w .numbers) (w .order) eight;
+        order-is = numbered-order t (w .numbers) (w .order) eight (leb-true (t .m) (length (w .order)) (long .1 .0));
         stored = check-held 7 (t .n) (storedGood t (storedValues w)) next seven;
       },
       check-rest 7 (t .n) (storedGood t (storedValues w)) next seven,

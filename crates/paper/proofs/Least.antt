@@ -3,10 +3,10 @@ use Prim.Native.Nat.{ℕ, zero, suc, _+_, _≤_, _<_}
 use native.Mathlib.Nat.{le-refl, not-suc-le-zero, lt-irrefl}
 use native.Mathlib.Omega.{arith}
 use mathlib.Core.Bool.{Bool, true, false, cond, _&&_}
-use mathlib.Core.Path.{_≡_, refl, ap, ap₂, _∙_}
+use mathlib.Core.Path.{_≡_, refl, ap, ap₂, sym, _∙_}
 use lib.Dec.{leb, ltb}
-use borrow.Author.Tests.{ltb-true, ltb-false, le-leb, lt-leb}
-use Rattle.paper.specs.Lists.{between, firstFail}
+use borrow.Author.Tests.{ltb-true, ltb-false, le-leb, lt-leb, eqb-true, eq-eqb}
+use Rattle.paper.specs.Lists.{between, firstFail, allBelow}
 use Rattle.paper.proofs.Lists.{clash}
 
 pub firstFail-le : (p : ℕ → Bool) (n : ℕ) → firstFail p n ≤ n
@@ -59,6 +59,13 @@ firstFail-none p n h = go (ltb (firstFail p n) n) refl
     go : (a : Bool) → ltb (firstFail p n) n ≡ a → n ≡ firstFail p n
     go true q = let l = ltb-true (firstFail p n) n q in clash (h (firstFail p n) l) (firstFail-fails p n l)
     go false q = let x = ltb-false (firstFail p n) n q in let y = firstFail-le p n in omega arith
+
+-- ── every number below n passes ──
+pub allBelow-at : (p : ℕ → Bool) (n : ℕ) → allBelow p n ≡ true → (v : ℕ) → v < n → p v ≡ true
+allBelow-at p n e v l = let h = eqb-true (firstFail p n) n e in firstFail-before p n v (omega arith)
+
+pub below-all : (p : ℕ → Bool) (n : ℕ) → ((v : ℕ) → v < n → p v ≡ true) → allBelow p n ≡ true
+below-all p n h = eq-eqb (firstFail p n) n (sym (firstFail-none p n h))
 
 -- ── `between` as a program tests it ──
 

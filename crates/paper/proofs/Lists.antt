@@ -7,7 +7,7 @@ use mathlib.Core.Path.{_≡_, refl, ap, ap₂, sym, _∙_}
 use lib.Dec.{eqb}
 use lib.ListN.{length, getD}
 use borrow.Author.Tests.{eq-eqb}
-use Rattle.paper.specs.Lists.{any, all, every, same}
+use Rattle.paper.specs.Lists.{any, all, every}
 
 -- ── tests ──
 pub clash {ℓ} : {X : Type ℓ} {b : Bool} → b ≡ true → b ≡ false → X
@@ -129,15 +129,3 @@ module _ {A : Type 0} (f g : A → Bool) where
   pub all-same : (xs : List A) → ((i : A) → List·Memᴰ i xs → f i ≡ g i) → all f xs ≡ all g xs
   all-same [] h = refl
   all-same (x ∷ xs) h = ap₂ _&&_ (h x (List·Memᴰ·head refl)) (all-same xs (λ i m. h i (List·Memᴰ·tail m)))
-
--- lists that a test of two says are the same
-module _ {A : Type 0} (eq : A → A → Bool) where
-  pub same-of : ((x y : A) → eq x y ≡ true → x ≡ y) → (xs ys : List A) → same eq xs ys ≡ true → xs ≡ ys
-  same-of sure [] [] e = refl
-  same-of sure [] (y ∷ ys) e = absurd (false≢true e)
-  same-of sure (x ∷ xs) [] e = absurd (false≢true e)
-  same-of sure (x ∷ xs) (y ∷ ys) e = ap₂ _∷_ (sure x y (and-left (eq x y) (same eq xs ys) e)) (same-of sure xs ys (and-right (eq x y) (same eq xs ys) e))
-
-  pub same-self : ((x : A) → eq x x ≡ true) → (xs : List A) → same eq xs xs ≡ true
-  same-self sure [] = refl
-  same-self sure (x ∷ xs) = ap₂ _&&_ (sure x) (same-self sure xs)

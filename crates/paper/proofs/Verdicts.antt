@@ -29,15 +29,21 @@ pub then-then : (a b c : Verdict) → andThen (andThen a b) c ≡ andThen a (and
 then-then accepted b c = refl
 then-then (refused number place) b c = refl
 
--- a chain of checks is the chain up to the next, and then the next
-pub check-then : (code bound : ℕ) (good : ℕ → Bool) (next : Verdict) → check code bound good next ≡ andThen (check code bound good accepted) next
+-- a chain of checks: it decides where it refuses, and the next where it accepts
+abbrev pub Chain : (Verdict → Verdict) → Type 0
+Chain F = (next : Verdict) → F next ≡ andThen (F accepted) next
+
+pub chain-after : (F G : Verdict → Verdict) → Chain F → Chain G → Chain (λ next. F (G next))
+chain-after F G f g next = f (G next) ∙ ap (andThen (F accepted)) (g next) ∙ sym (then-then (F accepted) (G accepted) next) ∙ ap (λ v. andThen v next) (sym (f (G accepted)))
+
+pub check-then : (code bound : ℕ) (good : ℕ → Bool) → Chain (check code bound good)
 check-then code bound good next = go (ltb (firstFail good bound) bound)
   where
     go : (b : Bool) → cond b (refused code (firstFail good bound)) next ≡ andThen (cond b (refused code (firstFail good bound)) accepted) next
     go true = refl
     go false = refl
 
-pub require-then : (code place : ℕ) (good : Bool) (next : Verdict) → require code place good next ≡ andThen (require code place good accepted) next
+pub require-then : (code place : ℕ) (good : Bool) → Chain (require code place good)
 require-then code place true next = refl
 require-then code place false next = refl
 

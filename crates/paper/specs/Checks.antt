@@ -1,5 +1,5 @@
 -- The checks on tables and moves, and what passed ones say. Assumes nothing.
-use Prim.Native.Nat.{ℕ, pred, _+_, _≤_, _<_}
+use Prim.Native.Nat.{ℕ, pred, _+_, _<_}
 use mathlib.Core.Bool.{Bool, true, cond, not, _&&_, _||_}
 use mathlib.Core.List.{List, [], _∷_}
 use mathlib.Core.Path.{_≡_}
@@ -7,10 +7,10 @@ use lib.IntN.{ℤ, pos, natAbs}
 use lib.Dec.{eqb, leb, ltb}
 use lib.ListN.{length, getD, take}
 use Rattle.integers.specs.Integers.{eqZ}
-use Rattle.paper.specs.Lists.{any, all, every, same, between, total, nat, firstFail, below}
+use Rattle.paper.specs.Lists.{any, all, every, between, total, nat, firstFail, allBelow, below}
 use Rattle.paper.specs.Formula.{blank}
-use Rattle.paper.specs.Net.{Values}
-use Rattle.paper.specs.Tables.{Tables, part, isMade, ends, numbers, order}
+use Rattle.paper.specs.Net.{Values, number}
+use Rattle.paper.specs.Tables.{Tables, part, isMade, net, ends, order}
 
 -- ── verdicts ──
 pub data Verdict : Type 0 where
@@ -82,10 +82,12 @@ module _ (t : Tables) where
   abbrev pub storedGood : Values → ℕ → Bool
   storedGood old v = isMade t v || not (eqZ (old v) blank)
 
-  -- 8: the lent numbers and order are what build gives
+  -- 8: chains of inputs end, and the lent numbers and order are what build gives
   abbrev pub numbered : List ℕ → List ℕ → Bool
   numbered nums ord =
-      every (eqb (firstFail (ends t) (t .n)) (t .n) ∷ same eqb (take (t .n) nums) (numbers t) ∷ same eqb (take (t .m) ord) (order t) ∷ [])
+      every (
+      allBelow (ends t) (t .n) ∷ allBelow (λ v. eqb (nat nums v) (number (net t) (t .n) v)) (t .n)
+      ∷ allBelow (λ i. eqb (nat ord i) (nat (order t) i)) (t .m) ∷ [])
 
 -- ── a move: the variables and the new values of its pairs ──
 pub record Move : Type 0 where
@@ -118,37 +120,11 @@ module _ (mv : Move) where
   abbrev pub moveChecks : Tables → Verdict → Verdict
   moveChecks t next = check 10 (mv .pairs) (movable t) (check 11 (mv .pairs) namedOnce (check 12 (mv .pairs) hasValue next))
 
--- ── what code may rely on once checks 1 to 5 are passed (`proofs/Accept.antt` shows that it may) ──
--- check 1 is passed, as far as it is about the tables
-pub record Sized (t : Tables) : Type 0 where
-  pub n-some : 1 ≤ t .n
-  pub n-most : t .n ≤ 4096
-  pub m-most : t .m ≤ t .n
-  pub e-most : t .e ≤ 16384
-  pub kinds : t .m ≤ length (t .kinds)
-  pub makes : t .m ≤ length (t .makes)
-  pub params : t .m ≤ length (t .params)
-  pub firsts : t .m ≤ length (t .firsts)
-  pub counts : t .m ≤ length (t .counts)
-  pub vars : t .e ≤ length (t .vars)
-  pub coefs : t .e ≤ length (t .coefs)
-
--- one row of the tables
-pub record SoundRow (t : Tables) (r : ℕ) : Type 0 where
-  pub kind-low : 1 ≤ nat (t .kinds) r
-  pub kind-high : nat (t .kinds) r ≤ 9
-  pub makes : nat (t .makes) r < t .n
-  pub first : nat (t .firsts) r ≡ total (take r (t .counts))
-  pub inside : nat (t .firsts) r + nat (t .counts) r ≤ t .e
-  pub some : 1 ≤ nat (t .counts) r
-  pub few : nat (t .counts) r ≤ 256
-  pub suits : arity (nat (t .kinds) r) (nat (t .counts) r) ≡ true
-  pub inputs : (i : ℕ) → i < nat (t .counts) r → nat (t .vars) (nat (t .firsts) r + i) < t .n
-  pub numbers : numberGood t r ≡ true
-
--- checks 1 to 5 are passed
+-- ── checks 1 to 5 are passed: what code may rely on ──
 pub record Sound (t : Tables) : Type 0 where
-  pub sized : Sized t
-  pub row : (r : ℕ) → r < t .m → SoundRow t r
-  pub whole : total (take (t .m) (t .counts)) ≡ t .e
-  pub once : (r s : ℕ) → r < s → s < t .m → nat (t .makes) r ≡ nat (t .makes) s → ⊥
+  pub sized : sized t ≡ true
+  pub kinds : (r : ℕ) → r < t .m → kindGood t r ≡ true
+  pub shapes : (r : ℕ) → r < t .m → shapeGood t r ≡ true
+  pub whole : eqb (total (take (t .m) (t .counts))) (t .e) ≡ true
+  pub numbers : (r : ℕ) → r < t .m → numberGood t r ≡ true
+  pub once : (r : ℕ) → r < t .m → madeOnce t r ≡ true

@@ -19,13 +19,6 @@ unfoldable pub every : List Bool → Bool
 every [] = true
 every (b ∷ bs) = b && every bs
 
--- the same entries, by a test of two
-abbrev pub same : {A : Type 0} → (A → A → Bool) → List A → List A → Bool
-same eq [] [] = true
-same eq [] (y ∷ ys) = false
-same eq (x ∷ xs) [] = false
-same eq (x ∷ xs) (y ∷ ys) = eq x y && same eq xs ys
-
 -- x is from a to b
 abbrev pub between : ℕ → ℕ → ℕ → Bool
 between a x b = leb a x && leb x b
@@ -62,6 +55,10 @@ size p (suc n) = cond (p n) (suc (size p n)) (size p n)
 abbrev pub firstFail : (ℕ → Bool) → ℕ → ℕ
 firstFail p zero = zero
 firstFail p (suc n) = cond (ltb (firstFail p n) n) (firstFail p n) (cond (p n) (suc n) n)
+
+-- every number below n passes
+abbrev pub allBelow : (ℕ → Bool) → ℕ → Bool
+allBelow p n = eqb (firstFail p n) n
 
 -- f of each number below n, in order
 abbrev pub below : {A : Type 0} → (ℕ → A) → ℕ → List A

@@ -1,13 +1,13 @@
 -- The runs that document 01 marks (p), as one table with one test: each is a build of the tables, or a trial over what build left, by the
 -- calls themselves. Assumes nothing.
 use Prim.Native.Nat.{ℕ, suc}
-use mathlib.Core.Bool.{Bool, _&&_}
+use mathlib.Core.Bool.{Bool, true, false, _&&_}
 use mathlib.Core.List.{List, [], _∷_, map, _++_}
 use lib.IntN.{ℤ, pos, negsuc}
 use lib.Dec.{eqb}
 use lib.ListN.{length, replicate}
 use Rattle.integers.specs.Integers.{eqZ}
-use Rattle.paper.specs.Lists.{all, same}
+use Rattle.paper.specs.Lists.{all}
 use Rattle.paper.specs.Formula.{blank}
 use Rattle.paper.specs.Tables.{Tables, lent}
 use Rattle.paper.specs.Checks.{Move}
@@ -23,6 +23,13 @@ pub data Run : Type 0 where
   tries : Tables → List ℤ → List (ℕ × ℤ) → List ℕ → ℕ → List ℤ → ℕ → Run
 
 -- ── the test ──
+-- the same entries, by a test of two
+abbrev pub same : {A : Type 0} → (A → A → Bool) → List A → List A → Bool
+same eq [] [] = true
+same eq [] (y ∷ ys) = false
+same eq (x ∷ xs) [] = false
+same eq (x ∷ xs) (y ∷ ys) = eq x y && same eq xs ys
+
 abbrev pub zeros : ℕ → List ℕ
 zeros k = replicate k 0
 

@@ -5,7 +5,7 @@ use mathlib.Core.List.{List, [], _∷_, _++_, map}
 use lib.IntN.{ℤ, pos}
 use lib.Dec.{eqb, leb, ltb}
 use lib.ListN.{length, getD, take, drop}
-use Rattle.paper.specs.Lists.{every, nat, seek, below}
+use Rattle.paper.specs.Lists.{every, nat, seek}
 use Rattle.paper.specs.Formula.{formula, looked}
 use Rattle.paper.specs.Net.{Net, Values, able, number}
 
@@ -65,9 +65,6 @@ module _ (t : Tables) where
   -- v can have a number
   abbrev pub ends : ℕ → Bool
   ends = able inputsOf (t .n)
-
-  abbrev pub numbers : List ℕ
-  numbers = below (number net (t .n)) (t .n)
 
   -- the rows below k whose variable has the number d, ascending
   abbrev pub level : (ℕ → ℕ) → ℕ → ℕ → List ℕ
