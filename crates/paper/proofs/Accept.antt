@@ -9,11 +9,11 @@ use mathlib.Core.Path.{_≡_, refl, ap, sym, _∙_}
 use lib.Dec.{eqb, leb, ltb}
 use lib.ListN.{length, take, length-take}
 use lib.Seq.{getD-take}
-use borrow.Author.Tests.{ltb-true, leb-true, eqb-true, eq-eqb, ne-eqb, lt-ltb}
+use borrow.Author.Tests.{ltb-true, leb-true, eqb-true, eq-eqb, ne-eqb, lt-ltb, not-true}
 use Rattle.paper.specs.Lists.{any, all, between, total, nat, seek}
 use Rattle.paper.specs.Tables.{Tables, part, rowOf, isMade, inputsOf}
 use Rattle.paper.specs.Checks.{Verdict, accepted, refused, check, require, arity, sized, kindGood, shapeGood, numberGood, madeOnce, tableChecks, Sound}
-use Rattle.paper.proofs.Lists.{clash, and-left, and-right, not-true, each, all-in, all-at, any-at}
+use Rattle.paper.proofs.Lists.{clash, and-left, and-right, each, all-in, all-at, any-at}
 use Rattle.paper.proofs.Scan.{part-length}
 use Rattle.paper.proofs.Verdicts.{Chain, chain-after, check-then, require-then, check-next, check-rest, check-held, check-other, require-next, require-rest, require-held, require-other}
 use Rattle.paper.proofs.Sizes.{Sized, sized-facts}

@@ -7,7 +7,7 @@ use mathlib.Core.Path.{_≡_, refl, sym, _∙_}
 use lib.IntN.{ℤ, pos}
 use lib.Dec.{eqb, ltb}
 use lib.ListN.{length, getD, take}
-use borrow.Author.Tests.{ltb-true, leb-true, eqb-true}
+use borrow.Author.Tests.{ltb-true, leb-true, eqb-true, not-true}
 use Rattle.integers.specs.Integers.{eqZ}
 use Rattle.paper.specs.Lists.{any, between, nat, below}
 use Rattle.paper.specs.Formula.{blank}
@@ -15,7 +15,7 @@ use Rattle.paper.specs.Net.{able, number, names}
 use Rattle.paper.specs.Tables.{Tables, net, isMade, inputsOf, ends, order}
 use Rattle.paper.specs.Checks.{Verdict, accepted, sized, startGood, storedGood, numbered, Move, movePairs, moveFits, movable, namedOnce, hasValue, moveChecks, Sound}
 use Rattle.paper.specs.Calls.{BuildLent, buildFits, startValues, buildVerdict, Model, modelFits, storedValues, modelChecks, Tried, trialFits, trialVerdict, Kept, keepFits, keepVerdict}
-use Rattle.paper.proofs.Lists.{and-left, and-right, not-true, each}
+use Rattle.paper.proofs.Lists.{and-left, and-right, each}
 use Rattle.paper.proofs.Verdicts.{check-rest, check-held, require-rest, require-held}
 use Rattle.paper.proofs.Scan.{any-append}
 use Rattle.paper.proofs.Sizes.{sized-facts}

@@ -18,4 +18,14 @@ pub mod Known
 pub mod Outcomes
 pub mod Build
 pub mod Session
+pub mod Bytes
+pub mod Written
+pub mod Fields
+pub mod Shown
+pub mod Reading
+pub mod Rewritten
+pub mod Reread
+pub mod RoundTrips
+pub mod FileRuns
+pub mod Demands
 pub mod Proved

@@ -33,14 +33,6 @@ pub or-right : (a : Bool) {b : Bool} → b ≡ true → (a || b) ≡ true
 or-right true e = refl
 or-right false e = e
 
-pub not-false : (b : Bool) → not b ≡ false → b ≡ true
-not-false true e = refl
-not-false false e = absurd (true≢false e)
-
-pub not-true : (b : Bool) → not b ≡ true → b ≡ false
-not-true true e = absurd (false≢true e)
-not-true false e = refl
-
 pub eqb-self : (a : ℕ) → eqb a a ≡ true
 eqb-self a = eq-eqb a a refl
 

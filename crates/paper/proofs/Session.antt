@@ -231,8 +231,8 @@ module _ (b : BuildLent) (ok : build b .answer .number ≡ 0) where
         refl,
       )
 
-  pub demand3 : (cs : List Call) → Proper b cs → Demand3 b cs
-  demand3 cs p = record {
+  pub session : (cs : List Call) → Proper b cs → Demand3 b cs
+  session cs p = record {
     stored = holds cs p .row-is;
     moves = moves-kept cs;
     trial-accepted = trial-right cs p;

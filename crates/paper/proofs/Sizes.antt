@@ -1,13 +1,16 @@
--- Check 1 of the tables as facts. Assumes nothing.
+-- What check 1 says of the tables, and of the start values beside them: each test is an order between two numbers. Assumes nothing.
 use Prim.Native.Nat.{_≤_}
-use mathlib.Core.Bool.{true}
-use mathlib.Core.Path.{_≡_}
-use lib.Dec.{leb}
+use mathlib.Core.Bool.{true, _&&_}
+use mathlib.Core.List.{List}
+use mathlib.Core.Path.{_≡_, ap₂}
+use lib.IntN.{ℤ}
 use lib.ListN.{length}
-use borrow.Author.Tests.{leb-true}
+use borrow.Author.Tests.{leb-true, le-leb}
 use Rattle.paper.specs.Tables.{Tables}
 use Rattle.paper.specs.Checks.{sized}
-use Rattle.paper.proofs.Lists.{and-left, and-right, each}
+use Rattle.paper.specs.File.{held}
+use Rattle.paper.proofs.Lists.{and-left, and-right, each, all-yes}
+use Rattle.paper.proofs.Least.{between-in}
 
 pub record Sized (t : Tables) : Type 0 where
   pub n-some : 1 ≤ t .n
@@ -22,19 +25,16 @@ pub record Sized (t : Tables) : Type 0 where
   pub vars : t .e ≤ length (t .vars)
   pub coefs : t .e ≤ length (t .coefs)
 
-pub sized-facts : (t : Tables) → sized t ≡ true → Sized t
-sized-facts t h =
-    let f = each _ h in
-    record {
-      n-some = leb-true _ _ (and-left (leb 1 (t .n)) (leb (t .n) 4096) (f .0));
-      n-most = leb-true _ _ (and-right (leb 1 (t .n)) (leb (t .n) 4096) (f .0));
-      m-most = leb-true _ _ (f .1 .0);
-      e-most = leb-true _ _ (f .1 .1 .0);
-      kinds = leb-true _ _ (f .1 .1 .1 .0);
-      makes = leb-true _ _ (f .1 .1 .1 .1 .0);
-      params = leb-true _ _ (f .1 .1 .1 .1 .1 .0);
-      firsts = leb-true _ _ (f .1 .1 .1 .1 .1 .1 .0);
-      counts = leb-true _ _ (f .1 .1 .1 .1 .1 .1 .1 .0);
-      vars = leb-true _ _ (f .1 .1 .1 .1 .1 .1 .1 .1 .0);
-      coefs = leb-true _ _ (f .1 .1 .1 .1 .1 .1 .1 .1 .1 .0);
-    }
+module _ (t : Tables) where
+  pub sized-facts : sized t ≡ true → Sized t
+  sized-facts h = let s = each _ h in search (leb-true, and-left, and-right)
+
+  pub sized-of : Sized t → sized t ≡ true
+  sized-of s = all-yes _ (search (le-leb, between-in) depth 11)
+
+  module _ (starts : List ℤ) where
+    pub held-facts : held t starts ≡ true → Sized t × (t .n ≤ length starts)
+    held-facts h = search (sized-facts, leb-true, and-left, and-right)
+
+    pub held-of : Sized t → t .n ≤ length starts → held t starts ≡ true
+    held-of s h = ap₂ _&&_ (sized-of s) (le-leb _ _ h)

@@ -1,0 +1,31 @@
+-- The three demands, each from the page that proves it. Assumes nothing.
+use mathlib.Core.List.{List}
+use mathlib.Core.Path.{_≡_}
+use Rattle.paper.specs.Calls.{BuildLent, build}
+use Rattle.paper.specs.Sessions.{Call, Proper}
+use Rattle.paper.specs.Demands.{Demand1, Demand2, Demand3}
+use Rattle.paper.proofs.Outcomes.{build-judged, trial-judged, keep-judged}
+use Rattle.paper.proofs.Build.{build-right, circular-exactly}
+use Rattle.paper.proofs.RoundTrips.{write-refused, read-refused-as-was, read-back, written-back}
+use Rattle.paper.proofs.Session.{session}
+
+-- a call works, or refuses with a number of its own and changes nothing
+pub demand1 : Demand1
+demand1 = record {
+  build-number = λ l. build-judged l .given;
+  build-refused = λ l. build-judged l .as-was;
+  trial-number = λ s w c. trial-judged s w c .given;
+  trial-refused = λ s w c. trial-judged s w c .as-was;
+  keep-number = λ s w c. keep-judged s w c .given;
+  keep-refused = λ s w c. keep-judged s w c .as-was;
+  write-refused = write-refused;
+  read-refused = read-refused-as-was;
+}
+
+-- numbers, values and files are what the paper says
+pub demand2 : Demand2
+demand2 = record { build-accepted = build-right; build-circular = circular-exactly; read-back = read-back; written-back = written-back }
+
+-- over any run of trials and keeps after an accepted build
+pub demand3 : (b : BuildLent) → build b .answer .number ≡ 0 → (cs : List Call) → Proper b cs → Demand3 b cs
+demand3 b ok cs p = session b ok cs p
