@@ -12,14 +12,14 @@ use lib.Dec.{eqb, ltb}
 use lib.ListN.{length}
 use borrow.Author.Tests.{eqb-true, ltb-true, ltb-false}
 use Rattle.paper.specs.Lists.{any, all, firstFail}
-use Rattle.paper.specs.Net.{Net, runs, able, Depends, direct, through, numbering, Numbers, number}
+use Rattle.paper.specs.Net.{Net, runs, able, Depends, direct, through, numbering, number}
 use Rattle.paper.specs.Demands.{CanHave}
 use Rattle.paper.proofs.Lists.{all-lacks, all-same, any-has}
 use Rattle.paper.proofs.Least.{firstFail-before, firstFail-fails}
 use Rattle.paper.proofs.Count.{Distinct, distinct-length}
 use Rattle.paper.proofs.Fix.{Local, stable, able-suc}
 use Rattle.paper.proofs.Lawful.{Lawful}
-use Rattle.paper.proofs.Numbers.{numbering-local, lower, circular-unnumbered}
+use Rattle.paper.proofs.Numbers.{Numbers, numbering-local, lower, circular-unnumbered}
 
 -- ── chains, whatever a variable's inputs are ──
 module _ (dep : ℕ → List ℕ) where

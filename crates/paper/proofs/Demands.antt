@@ -2,8 +2,7 @@
 use mathlib.Core.List.{List}
 use mathlib.Core.Path.{_≡_}
 use Rattle.paper.specs.Calls.{BuildLent, build}
-use Rattle.paper.specs.Sessions.{Call, Proper}
-use Rattle.paper.specs.Demands.{Demand1, Demand2, Demand3}
+use Rattle.paper.specs.Demands.{Call, Proper, Demand1, Demand2, Demand3}
 use Rattle.paper.proofs.Outcomes.{build-judged, trial-judged, keep-judged}
 use Rattle.paper.proofs.Build.{build-right, circular-exactly}
 use Rattle.paper.proofs.RoundTrips.{write-refused, read-refused-as-was, read-back, written-back}

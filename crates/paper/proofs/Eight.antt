@@ -10,13 +10,13 @@ use lib.ListN.{length, take}
 use lib.Seq.{ext-getD, length-take-le, getD-take}
 use borrow.Author.Tests.{eqb-true, eq-eqb}
 use Rattle.paper.specs.Lists.{nat}
-use Rattle.paper.specs.Net.{able, Numbers, number}
+use Rattle.paper.specs.Net.{able, number}
 use Rattle.paper.specs.Tables.{Tables, net, isMade, inputsOf, ends, order}
 use Rattle.paper.specs.Checks.{numbered}
 use Rattle.paper.proofs.Lists.{each, all-yes}
 use Rattle.paper.proofs.Least.{allBelow-at, below-all}
 use Rattle.paper.proofs.Lawful.{lawful}
-use Rattle.paper.proofs.Numbers.{number-right, numbers-unique}
+use Rattle.paper.proofs.Numbers.{Numbers, number-right, numbers-unique}
 use Rattle.paper.proofs.Circle.{numbers-end}
 use Rattle.paper.proofs.Order.{Ascends, rank, order-checked, order-length}
 

@@ -6,7 +6,7 @@ use mathlib.Core.List.{List, [], _∷_, List·Memᴰ}
 use mathlib.Core.Path.{_≡_, refl, ap, sym, _∙_, fun-ext}
 use lib.IntN.{ℤ, pos}
 use lib.Dec.{eqb}
-use Rattle.paper.specs.Net.{Values, Net, Rule, runs, able, valuation, afresh, Fresh, moved, names}
+use Rattle.paper.specs.Net.{Values, Net, Rule, runs, able, valuation, afresh, moved, names}
 use Rattle.paper.proofs.Fix.{Local, stable, solution, is-solution}
 use Rattle.paper.proofs.Lawful.{Lawful}
 
@@ -20,6 +20,10 @@ unnamed (p ∷ ps) s v e = go (eqb (p .0) v) e (unnamed ps s v)
     go false h ih = ih h
 
 module _ (N : Net) where
+  -- stored values that are the fresh ones of their own search variables
+  abbrev pub Fresh : Values → Type 0
+  Fresh old = (v : ℕ) → old v ≡ valuation N old old v
+
   -- ── only the search variables' values matter ──
   abbrev pub Alike : Values → Values → Type 0
   Alike s t = (v : ℕ) → N .made v ≡ false → s v ≡ t v

@@ -7,7 +7,7 @@ use mathlib.Core.Bool.{Bool, true, false, cond}
 use mathlib.Core.List.{List, [], _∷_, map, List·Memᴰ, List·Memᴰ·head, List·Memᴰ·tail, List·Memᴰ·not-nil}
 use mathlib.Core.Path.{_≡_, refl, ap, subst}
 use Rattle.paper.specs.Lists.{greatest}
-use Rattle.paper.specs.Net.{Net, runs, able, Depends, direct, through, numbering, Numbers, number}
+use Rattle.paper.specs.Net.{Net, runs, able, Depends, direct, through, numbering, number}
 use Rattle.paper.specs.Demands.{Meets}
 use Rattle.paper.proofs.Lists.{map-same}
 use Rattle.paper.proofs.Fix.{Local, unique, solution}
@@ -18,6 +18,10 @@ greatest-le f (x ∷ xs) (List·Memᴰ·head q) = rw q (omega arith)
 greatest-le f (x ∷ xs) (List·Memᴰ·tail m) = let h = greatest-le f xs m in omega arith
 
 module _ (N : Net) where
+  -- a table of numbers that meets the paper's sentence at every variable
+  abbrev pub Numbers : (ℕ → ℕ) → Type 0
+  Numbers num = (v : ℕ) → num v ≡ numbering N num v
+
   pub numbering-local : Local (N .ins) (numbering N)
   numbering-local f g v h = ap (λ l. cond (N .made v) (suc (greatest l)) zero) (map-same f g (N .ins v) h)
 

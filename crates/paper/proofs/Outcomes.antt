@@ -2,16 +2,26 @@
 -- program meets a call's equation by its verdict and field by field. Assumes nothing.
 use Prim.Native.Nat.{ℕ, suc, pred}
 use native.Mathlib.Omega.{arith}
-use mathlib.Core.Bool.{Bool, true, false, cond}
+use mathlib.Core.Bool.{Bool, true, false, cond, not, _&&_}
 use mathlib.Core.Path.{_≡_, refl, ap, sym, _∙_}
-use lib.Dec.{eqb, ltb}
+use lib.Dec.{eqb, leb, ltb}
 use lib.ListN.{take}
 use Rattle.paper.specs.Lists.{between, total, nat, firstFail}
 use Rattle.paper.specs.Tables.{Tables, ends}
 use Rattle.paper.specs.Checks.{Verdict, accepted, refused, check, require, kindGood, shapeGood, numberGood, madeOnce, tableChecks, startGood, storedGood, numbered, Move, movable, namedOnce, hasValue, moveChecks}
 use Rattle.paper.specs.Calls.{Session, Answer, BuildLent, BuildLeft, buildFits, startValues, buildVerdict, buildLeaves, build, Model, storedValues, modelChecks, Tried, TrialLeft, trialFits, trialVerdict, trialLeaves, trial, Kept, KeepLeft, keepFits, keepVerdict, keepLeaves, keep}
-use Rattle.paper.specs.Demands.{buildAsWas, trialAsWas, keepAsWas, buildNumber, trialNumber, keepNumber}
+use Rattle.paper.specs.Demands.{buildAsWas, trialAsWas, keepAsWas}
 use Rattle.paper.proofs.Verdicts.{refused-not}
+
+-- build gives 1 to 7; trial all of 1 to 13 but 6; keep the same except 9 and 13
+abbrev pub buildNumber : ℕ → Bool
+buildNumber code = leb code 7
+
+abbrev pub trialNumber : ℕ → Bool
+trialNumber code = leb code 13 && not (eqb code 6)
+
+abbrev pub keepNumber : ℕ → Bool
+keepNumber code = leb code 13 && not (eqb code 6) && not (eqb code 9) && not (eqb code 13)
 
 -- ── which numbers a verdict gives: never 0 if it refuses ──
 data Gives (ok : ℕ → Bool) : Verdict → Type 0 where

@@ -10,11 +10,11 @@ use borrow.Author.Tests.{not-false}
 use Rattle.integers.specs.Integers.{eqZ}
 use Rattle.integers.proofs.Order.{eqZ-yes}
 use Rattle.paper.specs.Lists.{any}
-use Rattle.paper.specs.Net.{Values, Net, able, afresh, Fresh, differs, marking, marked, Route, input-to-output, output-to-input, mark-guided, live, routing, new, asking, moved}
+use Rattle.paper.specs.Net.{Values, Net, able, afresh, differs, marking, marked, Route, input-to-output, output-to-input, mark-guided, live, routing, new, asking, moved}
 use Rattle.paper.proofs.Lists.{any-out, any-same}
 use Rattle.paper.proofs.Fix.{Local, solution}
 use Rattle.paper.proofs.Lawful.{Lawful}
-use Rattle.paper.proofs.Fresh.{form-same, moved-alike, afresh-alike, afresh-unique, afresh-fresh, afresh-search}
+use Rattle.paper.proofs.Fresh.{Fresh, form-same, moved-alike, afresh-alike, afresh-unique, afresh-fresh, afresh-search}
 
 module _ (N : Net) (L : Lawful N) where
   -- ── each rule looks at the inputs alone ──

@@ -15,8 +15,7 @@ use Rattle.paper.specs.Net.{Net, Values, Route, input-to-output, afresh,
 use Rattle.paper.specs.Tables.{Tables, net, isMade, valuesIn}
 use Rattle.paper.specs.Checks.{Verdict, accepted, refused, leaves, movePairs}
 use Rattle.paper.specs.Calls.{Session, onceMore, newValues, evaluates, BuildLent, BuildLeft, startValues, build, Model, Tried, TrialLeft, askedList, routeOf, trialVerdict, trialLeaves, trial, Kept, KeepLeft, keepVerdict, keepLeaves, keep}
-use Rattle.paper.specs.Sessions.{Row, own, another, Lends, Call, tries, keeps, State, rowLent, rowAfter, modelOf, verdictOf, lendsOf, step, keptBy, applied, ownModel, fresh, after, history, Proper}
-use Rattle.paper.specs.Demands.{old, renewed, tried, triedSet, TrialRight, kept, keptSet, KeepRight, Demand3}
+use Rattle.paper.specs.Demands.{evaluatedBy, Row, own, another, Lends, Call, tries, keeps, State, rowLent, rowAfter, modelOf, verdictOf, lendsOf, step, keptBy, applied, ownModel, fresh, after, history, Proper, old, renewed, tried, triedSet, TrialRight, kept, KeepRight, Told, Demand3}
 use Rattle.paper.proofs.Buffers.{length-below, getD-below, over-front, over-over, ones-below}
 use Rattle.paper.proofs.Lawful.{lawful}
 use Rattle.paper.proofs.Accept.{made-below}
@@ -152,21 +151,27 @@ module _ (b : BuildLent) (ok : build b .answer .number ≡ 0) where
         → evaluates t (valuesIn t (after b cs .stored)) r mv asked ≡ evaluated N r (old b cs) (moved mv (old b cs)) asked (t .n)
     set-is r mv asked = ap (λ o. evaluated N r o (moved mv o) asked (t .n)) old-is
 
-    -- flags say which variables, and their number of ones how many
-    flags-ones : (before : List ℕ) {flags : List ℕ} (set : ℕ → Bool) → flags ≡ over (t .n) (λ v. cond (set v) 1 0) before → size set (t .n) ≡ tally (eqb 1) (take (t .n) flags)
-    flags-ones before set e = sym (ap (λ l. tally (eqb 1) (take (t .n) l)) e ∙ ap (tally (eqb 1)) (over-front (λ v. cond (set v) 1 0) (t .n) before) ∙ ones-below set (t .n))
+    -- a count that is the size of a set, and flags that are 1 at it
+    told-by : (set : ℕ → Bool) {mine : ℕ → Bool} {count : ℕ} {flags : List ℕ} (before : List ℕ) → mine ≡ set → count ≡ size mine (t .n)
+        → flags ≡ over (t .n) (λ v. cond (mine v) 1 0) before → Told b cs set count flags before
+    told-by set {mine} {count} {flags} before e c f =
+        let are : flags ≡ over (t .n) (λ v. cond (set v) 1 0) before = f ∙ ap (λ (q : ℕ → Bool). over (t .n) (λ v. cond (q v) 1 0) before) e in
+        let is : count ≡ size set (t .n) = c ∙ ap (λ q. size q (t .n)) e in
+        record {
+          flags-are = are;
+          set-size = is;
+          ones = is ∙ sym (ap (λ l. tally (eqb 1) (take (t .n) l)) are ∙ ap (tally (eqb 1)) (over-front (λ v. cond (set v) 1 0) (t .n) before) ∙ ones-below set (t .n));
+        }
 
     pub trial-right : (c : Tried) → tried b cs (ownModel b) c .answer .number ≡ 0 → TrialRight b cs (ownModel b) c
     trial-right c h = record {
-      results = ap (λ (x : TrialLeft). x .results) left ∙ ap (λ (f : Values). over (c .asked) (λ i. f (nat (c .askedVars) i)) (c .results)) news;
+      results = ap (λ (x : TrialLeft). x .results) left ∙ ap (λ (f : Values). over (c .asked) (λ i. f (nat (c .askedVars) i)) (c .results)) (new-is r mv asked);
       row =
           ap (λ (x : TrialLeft). x .trial) left
-          ∙ ap (λ (f : Values). over (t .n) (λ v. cond (names mv v || evaluates t o r mv asked v) (f v) (o v)) (c .trial)) news
-          ∙ ap (λ (q : ℕ → Bool). over (t .n) (λ v. cond (names mv v || q v) (renewed b cs (c .move) v) (o v)) (c .trial)) (set-is r mv asked)
+          ∙ ap (λ (f : Values). over (t .n) (λ v. cond (names mv v || evaluates t stored r mv asked v) (f v) (stored v)) (c .trial)) (new-is r mv asked)
+          ∙ ap (λ (q : ℕ → Bool). over (t .n) (λ v. cond (names mv v || q v) (renewed b cs (c .move) v) (stored v)) (c .trial)) (set-is r mv asked)
           ∙ ap (λ (f : Values). over (t .n) (λ v. cond (names mv v || triedSet b cs (ownModel b) c v) (renewed b cs (c .move) v) (f v)) (c .trial)) old-is;
-      flags = flags;
-      count = count;
-      ones = count ∙ flags-ones (c .flags) (triedSet b cs (ownModel b) c) flags;
+      told = told-by (triedSet b cs (ownModel b) c) (c .flags) (set-is r mv asked) (ap (λ (x : TrialLeft). x .answer .evaluations) left) (ap (λ (x : TrialLeft). x .flags) left);
       session = ap (λ (x : TrialLeft). x .session) left ∙ sym (ap (λ (x : TrialLeft). record { kept = now .session .kept; evaluations = x .answer .evaluations }) left);
     }
       where
@@ -179,28 +184,19 @@ module _ (b : BuildLent) (ok : build b .answer .number ≡ 0) where
         asked : List ℕ
         asked = askedList c
 
-        o : Values
-        o = valuesIn t (after b cs .stored)
+        stored : Values
+        stored = valuesIn t (after b cs .stored)
 
         left : tried b cs (ownModel b) c ≡ trialLeaves w c (after b cs .session) accepted
         left = trial-judged (after b cs .session) w c .is accepted (trial-judged (after b cs .session) w c .good h)
-
-        news : newValues t (valuesIn t (after b cs .stored)) (routeOf (c .route)) (movePairs (c .move)) (askedList c) ≡ renewed b cs (c .move)
-        news = new-is (routeOf (c .route)) (movePairs (c .move)) (askedList c)
-
-        flags : tried b cs (ownModel b) c .flags ≡ over (t .n) (λ v. cond (triedSet b cs (ownModel b) c v) 1 0) (c .flags)
-        flags = ap (λ (x : TrialLeft). x .flags) left ∙ ap (λ (q : ℕ → Bool). over (t .n) (λ v. cond (q v) 1 0) (c .flags)) (set-is (routeOf (c .route)) (movePairs (c .move)) (askedList c))
-
-        count : tried b cs (ownModel b) c .answer .evaluations ≡ size (triedSet b cs (ownModel b) c) (t .n)
-        count = ap (λ (x : TrialLeft). x .answer .evaluations) left ∙ ap (λ q. size q (t .n)) (set-is (routeOf (c .route)) (movePairs (c .move)) (askedList c))
 
     pub keep-right : (c : Kept) → kept b cs (ownModel b) c .answer .number ≡ 0 → KeepRight b cs (ownModel b) c
     keep-right c h = record {
       move = ap (λ v. leaves v (movePairs (c .move) ∷ history b cs) (history b cs)) good;
       stored = keep-holds now c (applied (startValues b) (history b cs)) (holds cs p) good .row-is;
-      flags = flags;
-      count = count;
-      ones = count ∙ flags-ones (c .flags) (keptSet b cs (ownModel b) c) flags;
+      told =
+          told-by (evaluatedBy b cs input-to-output (c .move) []) (c .flags) (set-is input-to-output (movePairs (c .move)) [])
+          (ap (λ (x : KeepLeft). x .answer .evaluations) left) (ap (λ (x : KeepLeft). x .flags) left);
       session = ap (λ (x : KeepLeft). x .session) left ∙ sym (ap (λ (x : KeepLeft). record { kept = onceMore (now .session .kept); evaluations = x .answer .evaluations }) left);
     }
       where
@@ -208,13 +204,7 @@ module _ (b : BuildLent) (ok : build b .answer .number ≡ 0) where
         good = keep-judged (after b cs .session) w c .good h
 
         left : kept b cs (ownModel b) c ≡ keepLeaves w c (after b cs .session) accepted
-        left = keep-judged (after b cs .session) w c .is accepted (keep-judged (after b cs .session) w c .good h)
-
-        flags : kept b cs (ownModel b) c .flags ≡ over (t .n) (λ v. cond (keptSet b cs (ownModel b) c v) 1 0) (c .flags)
-        flags = ap (λ (x : KeepLeft). x .flags) left ∙ ap (λ (q : ℕ → Bool). over (t .n) (λ v. cond (q v) 1 0) (c .flags)) (set-is input-to-output (movePairs (c .move)) [])
-
-        count : kept b cs (ownModel b) c .answer .evaluations ≡ size (keptSet b cs (ownModel b) c) (t .n)
-        count = ap (λ (x : KeepLeft). x .answer .evaluations) left ∙ ap (λ q. size q (t .n)) (set-is input-to-output (movePairs (c .move)) [])
+        left = keep-judged (after b cs .session) w c .is accepted good
 
   -- ── demand 3 ──
   -- a refused keep leaves the state and the history

@@ -55,8 +55,8 @@ module _ (t : Tables) (starts : List ℤ) where
           head = stands-holds b 0 headFields (omega arith) (omega arith) head;
           start = stands-table b 4 24 startFields (λ v. refl) (λ v. omega arith) n (λ v l. (fits-ofZ (fit .starts v l) .fits, tt)) values;
           row = stands-table b 12 (rowsAt n) rowFields (λ r. refl) (λ r. omega arith) m
-              (λ r l. (fit .kinds r l, (fit .makes r l, (fits-ofZ (fit .params r l) .fits, (fit .firsts r l, (fit .counts r l, tt)))))) rows;
-          entry = stands-table b 4 (entriesAt n m) entryFields (λ i. refl) (λ i. omega arith) e (λ i l. (fit .vars i l, (fits-ofZ (fit .coefs i l) .fits, tt))) entries;
+              (λ r l. (fit .rows r l .0, (fit .rows r l .1, (fits-ofZ (fit .rows r l .2) .fits, (fit .rows r l .3, (fit .rows r l .4, tt)))))) rows;
+          entry = stands-table b 4 (entriesAt n m) entryFields (λ i. refl) (λ i. omega arith) e (λ i l. (fit .entries i l .0, (fits-ofZ (fit .entries i l .1) .fits, tt))) entries;
         }
 
     stands-of : ((i : ℕ) → nat b i < 256) → Shows b → Stands b 0 (fileBytes t starts)

@@ -1,7 +1,6 @@
--- The three calls, each as one function: from the session record, and what else the call is lent, to what it leaves, accepted or refused.
--- A call's contract is one equation: what the caller has at exit is what this function gives of what the caller lent at entry.
--- What a call is lent only to read (tables, start values, in trial the stored values) is not among what it leaves: it cannot change.
--- Assumes nothing.
+-- The three calls, each as one function from what it is lent to what it leaves, accepted or refused. A call's contract is one equation: what
+-- the caller has at exit is what this function gives of what the caller lent at entry. What a call is lent only to read is not among what it
+-- leaves: it cannot change. Assumes nothing.
 use Prim.Native.Nat.{ℕ, suc, min}
 use mathlib.Core.Bool.{Bool, cond, _&&_, _||_}
 use mathlib.Core.List.{List, [], _∷_, _++_}
@@ -34,15 +33,12 @@ onceMore kept = min (suc kept) 4294967295
 
 -- ── what a move does by a route, over stored values `old` ──
 module _ (t : Tables) (old : Values) (r : Route) (mv : List (ℕ × ℤ)) (asked : List ℕ) where
-  -- the new values; the variables that the route evaluates, and their number
+  -- the new values, and the variables that the route evaluates
   abbrev pub newValues : Values
   newValues = new (net t) r old (moved mv old) (t .n)
 
   abbrev pub evaluates : ℕ → Bool
   evaluates = evaluated (net t) r old (moved mv old) asked (t .n)
-
-  abbrev pub evaluations : ℕ
-  evaluations = size evaluates (t .n)
 
   -- the new value of every variable moved or evaluated, and old elsewhere
   abbrev pub trialRow : List ℤ → List ℤ
@@ -51,9 +47,6 @@ module _ (t : Tables) (old : Values) (r : Route) (mv : List (ℕ × ℤ)) (asked
   -- 1 for each variable evaluated, and 0 elsewhere
   abbrev pub flagRow : List ℕ → List ℕ
   flagRow = over (t .n) (λ v. cond (evaluates v) 1 0)
-
-  abbrev pub keptRow : List ℤ → List ℤ
-  keptRow = over (t .n) newValues
 
 -- ── build ──
 pub record BuildLent : Type 0 where
@@ -148,16 +141,13 @@ module _ (w : Model) (c : Tried) where
 
   unfoldable pub trialVerdict : Verdict
   trialVerdict = let t = w .tables in
-      require 1 0 trialFits
-      (modelChecks w
-      (require 9 0 (between 1 (c .route) 3)
-      (moveChecks (c .move) t
-      (check 13 (c .asked) (λ i. ltb (nat (c .askedVars) i) (t .n)) accepted))))
+      require 1 0 trialFits (modelChecks w (require 9 0 (between 1 (c .route) 3)
+      (moveChecks (c .move) t (check 13 (c .asked) (λ i. ltb (nat (c .askedVars) i) (t .n)) accepted))))
 
   abbrev pub trialLeaves : Session → Verdict → TrialLeft
   trialLeaves s v =
       let t = w .tables in let old = storedValues w in let r = routeOf (c .route) in let mv = movePairs (c .move) in let asked = askedList c in
-      let count = evaluations t old r mv asked in
+      let count = size (evaluates t old r mv asked) (t .n) in
       record {
         answer = answered v count;
         session = leaves v (record { kept = s .kept; evaluations = count }) s;
@@ -190,11 +180,11 @@ module _ (w : Model) (c : Kept) where
   abbrev pub keepLeaves : Session → Verdict → KeepLeft
   keepLeaves s v =
       let t = w .tables in let old = storedValues w in let mv = movePairs (c .move) in
-      let count = evaluations t old input-to-output mv [] in
+      let count = size (evaluates t old input-to-output mv []) (t .n) in
       record {
         answer = answered v count;
         session = leaves v (record { kept = onceMore (s .kept); evaluations = count }) s;
-        stored = leaves v (keptRow t old input-to-output mv [] (w .stored)) (w .stored);
+        stored = leaves v (over (t .n) (newValues t old input-to-output mv []) (w .stored)) (w .stored);
         flags = leaves v (flagRow t old input-to-output mv [] (c .flags)) (c .flags);
       }
 

@@ -12,7 +12,6 @@ use Rattle.paper.specs.Formula.{blank}
 use Rattle.paper.specs.Net.{Values, number}
 use Rattle.paper.specs.Tables.{Tables, part, isMade, net, ends, order}
 
--- ── verdicts ──
 pub data Verdict : Type 0 where
   accepted : Verdict
   -- the number and the place
@@ -31,7 +30,6 @@ abbrev pub leaves : {A : Type 0} → Verdict → A → A → A
 leaves accepted after before = after
 leaves (refused number place) after before = before
 
--- ── the tables ──
 -- how many inputs a kind takes
 abbrev pub arity : ℕ → ℕ → Bool
 arity kind count = between (cond (eqb kind 4) 2 1) count 256 && (not (eqb kind 7) || eqb count 2) && (not (eqb kind 8 || eqb kind 9) || eqb count 3)
@@ -68,11 +66,8 @@ module _ (t : Tables) where
   -- checks 2 to 5, the same for every call
   abbrev pub tableChecks : Verdict → Verdict
   tableChecks next =
-      check 2 (t .m) kindGood
-      (check 3 (t .m) shapeGood
-      (require 3 (pred (t .m)) (eqb (total (take (t .m) (t .counts))) (t .e))
-      (check 4 (t .m) numberGood
-      (check 5 (t .m) madeOnce next))))
+      check 2 (t .m) kindGood (check 3 (t .m) shapeGood (require 3 (pred (t .m)) (eqb (total (take (t .m) (t .counts))) (t .e))
+      (check 4 (t .m) numberGood (check 5 (t .m) madeOnce next))))
 
   -- 7 in build: a search variable is not blank, a made one starts at 0
   abbrev pub startGood : Values → ℕ → Bool

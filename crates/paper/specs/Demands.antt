@@ -1,4 +1,4 @@
--- The three demands as statements over the definitions. `proofs/Demands.antt` proves them. Assumes nothing.
+-- Runs of calls, and the three demands as statements over the definitions. `proofs/Demands.antt` proves them. Assumes nothing.
 use Prim.Native.Nat.{ℕ, min, _≤_, _<_}
 use mathlib.Core.Bool.{Bool, true, cond, not, _&&_, _||_}
 use mathlib.Core.List.{List, [], _∷_, _++_}
@@ -9,12 +9,11 @@ use lib.ListN.{length, getD, take, drop}
 use mir.Syntax.{w16, w32}
 use mir.Val.{SFits}
 use Rattle.paper.specs.Lists.{nat, size, tally, over}
-use Rattle.paper.specs.Net.{Net, Values, Route, Depends, Numbers, numbering, number, valuation, afresh, moved, names, evaluated, input-to-output}
+use Rattle.paper.specs.Net.{Net, Values, Route, Depends, numbering, number, valuation, afresh, moved, names, evaluated, input-to-output}
 use Rattle.paper.specs.Tables.{Tables, lent, net, inputsOf, order}
-use Rattle.paper.specs.Checks.{accepted, refused, require, tableChecks, Move, movePairs}
-use Rattle.paper.specs.Calls.{Session, Answer, onceMore, BuildLent, BuildLeft, startValues, buildFits, build, Model, Tried, TrialLeft, askedList, routeOf, trial, Kept, KeepLeft, keep}
+use Rattle.paper.specs.Checks.{Verdict, accepted, refused, require, leaves, tableChecks, Move, movePairs}
+use Rattle.paper.specs.Calls.{Session, Answer, onceMore, BuildLent, BuildLeft, startValues, buildFits, build, Model, Tried, TrialLeft, askedList, routeOf, trial, trialVerdict, Kept, KeepLeft, keep, keepVerdict}
 use Rattle.paper.specs.File.{endsAt, held, write, counted, read}
-use Rattle.paper.specs.Sessions.{Lends, Call, tries, keeps, modelOf, ownModel, fresh, after, history}
 
 -- ── demand 1: a call works, or refuses with a number of its own and changes nothing ──
 -- everything but the answer as it was
@@ -28,21 +27,12 @@ abbrev pub keepAsWas : Session → Model → Kept → Answer → KeepLeft
 keepAsWas s w c answer = record { answer = answer; session = s; stored = w .stored; flags = c .flags }
 
 -- build gives 1 to 7; trial all of 1 to 13 but 6; keep the same except 9 and 13
-abbrev pub buildNumber : ℕ → Bool
-buildNumber code = leb code 7
-
-abbrev pub trialNumber : ℕ → Bool
-trialNumber code = leb code 13 && not (eqb code 6)
-
-abbrev pub keepNumber : ℕ → Bool
-keepNumber code = trialNumber code && not (eqb code 9) && not (eqb code 13)
-
 pub record Demand1 : Type 0 where
-  pub build-number : (l : BuildLent) → buildNumber (build l .answer .number) ≡ true
+  pub build-number : (l : BuildLent) → leb (build l .answer .number) 7 ≡ true
   pub build-refused : (l : BuildLent) → (build l .answer .number ≡ 0 → ⊥) → build l ≡ buildAsWas l (build l .answer)
-  pub trial-number : (s : Session) (w : Model) (c : Tried) → trialNumber (trial s w c .answer .number) ≡ true
+  pub trial-number : (s : Session) (w : Model) (c : Tried) → let k = trial s w c .answer .number in (leb k 13 && not (eqb k 6)) ≡ true
   pub trial-refused : (s : Session) (w : Model) (c : Tried) → (trial s w c .answer .number ≡ 0 → ⊥) → trial s w c ≡ trialAsWas s c (trial s w c .answer)
-  pub keep-number : (s : Session) (w : Model) (c : Kept) → keepNumber (keep s w c .answer .number) ≡ true
+  pub keep-number : (s : Session) (w : Model) (c : Kept) → let k = keep s w c .answer .number in (leb k 13 && not (eqb k 6) && not (eqb k 9) && not (eqb k 13)) ≡ true
   pub keep-refused : (s : Session) (w : Model) (c : Kept) → (keep s w c .answer .number ≡ 0 → ⊥) → keep s w c ≡ keepAsWas s w c (keep s w c .answer)
   pub write-refused : (t : Tables) (starts : List ℤ) (bytes : List ℕ) → (write t starts bytes .0 ≡ accepted → ⊥) → write t starts bytes ≡ (refused 1 0, bytes)
   pub read-refused : (bytes : List ℕ) (t : Tables) (starts : List ℤ) → (read bytes t starts .0 ≡ accepted → ⊥) → read bytes t starts .1 ≡ (counted 0 0 0 t, starts)
@@ -85,7 +75,7 @@ module _ (b : BuildLent) where
     pub not-circular : Circular → ⊥
     -- the numbers are the paper's: 0 at search variables, 1 plus the greatest of the inputs' at made ones
     pub numbers : build b .numbers ≡ over (t .n) (number (net t) (t .n)) (b .numbers)
-    pub numbers-meet : Numbers (net t) (number (net t) (t .n))
+    pub numbers-meet : (v : ℕ) → number (net t) (t .n) v ≡ numbering (net t) (number (net t) (t .n)) v
     pub ordered : build b .order ≡ order t ++ drop (t .m) (b .order)
     -- the stored values are the start values at search variables, and the formula over the inputs' at made ones
     pub stored : build b .stored ≡ over (t .n) (afresh (net t) (startValues b) (t .n)) (b .stored)
@@ -95,22 +85,14 @@ module _ (b : BuildLent) where
 
 -- each number is one of its field, as it is in lent rows of those widths
 pub record Fitting (t : Tables) (s : List ℤ) : Type 0 where
-  pub kinds : (r : ℕ) → r < t .m → nat (t .kinds) r < 65536
-  pub makes : (r : ℕ) → r < t .m → nat (t .makes) r < 65536
-  pub params : (r : ℕ) → r < t .m → SFits w32 (getD (t .params) r (pos 0))
-  pub firsts : (r : ℕ) → r < t .m → nat (t .firsts) r < 65536
-  pub counts : (r : ℕ) → r < t .m → nat (t .counts) r < 65536
-  pub vars : (i : ℕ) → i < t .e → nat (t .vars) i < 65536
-  pub coefs : (i : ℕ) → i < t .e → SFits w16 (getD (t .coefs) i (pos 0))
   pub starts : (v : ℕ) → v < t .n → SFits w32 (getD s v (pos 0))
+  pub rows : (r : ℕ) → r < t .m
+      → (nat (t .kinds) r < 65536) × (nat (t .makes) r < 65536) × SFits w32 (getD (t .params) r (pos 0)) × (nat (t .firsts) r < 65536) × (nat (t .counts) r < 65536)
+  pub entries : (i : ℕ) → i < t .e → (nat (t .vars) i < 65536) × SFits w16 (getD (t .coefs) i (pos 0))
 
 -- a model without what its lent rows hold beyond the counts
 abbrev pub cut : Tables × List ℤ → Tables × List ℤ
-cut (t, s) = (
-  lent (t .n) (t .m) (t .e) (take (t .m) (t .kinds)) (take (t .m) (t .makes)) (take (t .m) (t .params)) (take (t .m) (t .firsts)) (take (t .m) (t .counts))
-      (take (t .e) (t .vars)) (take (t .e) (t .coefs)),
-  take (t .n) s,
-)
+cut (t, s) = let m = t .m in let e = t .e in (lent (t .n) m e (take m (t .kinds)) (take m (t .makes)) (take m (t .params)) (take m (t .firsts)) (take m (t .counts)) (take e (t .vars)) (take e (t .coefs)), take (t .n) s)
 
 -- what was written is read back to the same model, by lent rows that hold it
 abbrev pub ReadBack : Type 0
@@ -133,7 +115,91 @@ pub record Demand2 : Type 0 where
   pub read-back : ReadBack
   pub written-back : WrittenBack
 
--- ── demand 3: over any run of trials and keeps ──
+-- ── demand 3: over any run of trials and keeps after an accepted build ──
+-- All that a call is lent is free but the session record. A run lists its calls with the latest first, so what holds after every run holds after
+-- each call of it. The moves kept are listed the same way.
+
+-- the row of stored values that a call is lent: the session's own, or another
+pub data Row : Type 0 where
+  own : Row
+  another : List ℤ → Row
+
+-- the model that it is lent
+pub record Lends : Type 0 where
+  pub tables : Tables
+  pub numbers : List ℕ
+  pub order : List ℕ
+  pub stored : Row
+
+pub data Call : Type 0 where
+  tries : Lends → Tried → Call
+  keeps : Lends → Kept → Call
+
+abbrev pub lendsOf : Call → Lends
+lendsOf (tries l c) = l
+lendsOf (keeps l c) = l
+
+-- what the calls hand on: the record and the session's own row
+pub record State : Type 0 where
+  pub session : Session
+  pub stored : List ℤ
+
+-- the row that is lent, and the session's own row afterwards
+abbrev pub rowLent : Row → List ℤ → List ℤ
+rowLent own mine = mine
+rowLent (another row) mine = row
+
+abbrev pub rowAfter : Row → List ℤ → List ℤ → List ℤ
+rowAfter own left mine = left
+rowAfter (another row) left mine = mine
+
+module _ (now : State) where
+  abbrev pub modelOf : Lends → Model
+  modelOf l = record { tables = l .tables; numbers = l .numbers; order = l .order; stored = rowLent (l .stored) (now .stored) }
+
+  abbrev pub verdictOf : Call → Verdict
+  verdictOf (tries l c) = trialVerdict (modelOf l) c
+  verdictOf (keeps l c) = keepVerdict (modelOf l) c
+
+  abbrev pub step : Call → State
+  step (tries l c) = record { session = trial (now .session) (modelOf l) c .session; stored = now .stored }
+  step (keeps l c) = let left = keep (now .session) (modelOf l) c in
+      record { session = left .session; stored = rowAfter (l .stored) (left .stored) (now .stored) }
+
+  -- the moves kept
+  abbrev pub keptBy : Call → List (List (ℕ × ℤ)) → List (List (ℕ × ℤ))
+  keptBy (tries l c) earlier = earlier
+  keptBy (keeps l c) earlier = leaves (keepVerdict (modelOf l) c) (movePairs (c .move) ∷ earlier) earlier
+
+-- start values with the moves applied, from the last of the list to its head
+abbrev pub applied : Values → List (List (ℕ × ℤ)) → Values
+applied s [] = s
+applied s (mv ∷ earlier) = moved mv (applied s earlier)
+
+module _ (b : BuildLent) where
+  -- what build was lent and left
+  abbrev pub ownModel : Lends
+  ownModel = record { tables = b .tables; numbers = build b .numbers; order = build b .order; stored = own }
+
+  -- values worked out afresh from the start values with these moves applied
+  abbrev pub fresh : List (List (ℕ × ℤ)) → Values
+  fresh moves = afresh (net (b .tables)) (applied (startValues b) moves) (b .tables .n)
+
+  -- the state after a run
+  abbrev pub after : List Call → State
+  after [] = record { session = build b .session; stored = build b .stored }
+  after (c ∷ earlier) = step (after earlier) c
+
+  -- the moves kept in it, latest first
+  abbrev pub history : List Call → List (List (ℕ × ℤ))
+  history [] = []
+  history (c ∷ earlier) = keptBy (after earlier) c (history earlier)
+
+  -- each accepted call was lent the model's own; refused ones were lent anything
+  abbrev pub Proper : List Call → Type 0
+  Proper [] = Unit {0}
+  Proper (c ∷ earlier) = (verdictOf (after earlier) c ≡ accepted → lendsOf c ≡ ownModel) × Proper earlier
+
 module _ (b : BuildLent) (cs : List Call) where
   abbrev n : ℕ
   n = b .tables .n
@@ -149,6 +215,12 @@ module _ (b : BuildLent) (cs : List Call) where
   abbrev pub evaluatedBy : Route → Move → List ℕ → ℕ → Bool
   evaluatedBy r mv asked = evaluated (net (b .tables)) r old (moved (movePairs mv) old) asked n
 
+  -- flags are 1 at a set of variables and 0 elsewhere, and the count is its size and so the number of ones
+  pub record Told (set : ℕ → Bool) (count : ℕ) (flags before : List ℕ) : Type 0 where
+    pub flags-are : flags ≡ over n (λ v. cond (set v) 1 0) before
+    pub set-size : count ≡ size set n
+    pub ones : count ≡ tally (eqb 1) (take n flags)
+
   -- an accepted trial after the run
   module _ (l : Lends) (c : Tried) where
     abbrev pub tried : TrialLeft
@@ -162,10 +234,7 @@ module _ (b : BuildLent) (cs : List Call) where
       pub results : tried .results ≡ over (c .asked) (λ i. renewed (c .move) (nat (c .askedVars) i)) (c .results)
       -- the trial buffer: new where moved or evaluated, old elsewhere
       pub row : tried .trial ≡ over n (λ v. cond (names (movePairs (c .move)) v || triedSet v) (renewed (c .move) v) (old v)) (c .trial)
-      pub flags : tried .flags ≡ over n (λ v. cond (triedSet v) 1 0) (c .flags)
-      -- the count is the size of the route's set, and the number of ones in the flags
-      pub count : tried .answer .evaluations ≡ size triedSet n
-      pub ones : tried .answer .evaluations ≡ tally (eqb 1) (take n (tried .flags))
+      pub told : Told triedSet (tried .answer .evaluations) (tried .flags) (c .flags)
       pub session : tried .session ≡ record { kept = after b cs .session .kept; evaluations = tried .answer .evaluations }
 
   -- an accepted keep after the run
@@ -173,16 +242,11 @@ module _ (b : BuildLent) (cs : List Call) where
     abbrev pub kept : KeepLeft
     kept = keep (after b cs .session) (modelOf (after b cs) l) c
 
-    abbrev pub keptSet : ℕ → Bool
-    keptSet = evaluatedBy input-to-output (c .move) []
-
     pub record KeepRight : Type 0 where
       -- its move heads the history, and the stored values are the fresh ones of that
       pub move : history b (keeps l c ∷ cs) ≡ movePairs (c .move) ∷ history b cs
       pub stored : kept .stored ≡ over n (renewed (c .move)) (b .stored)
-      pub flags : kept .flags ≡ over n (λ v. cond (keptSet v) 1 0) (c .flags)
-      pub count : kept .answer .evaluations ≡ size keptSet n
-      pub ones : kept .answer .evaluations ≡ tally (eqb 1) (take n (kept .flags))
+      pub told : Told (evaluatedBy input-to-output (c .move) []) (kept .answer .evaluations) (kept .flags) (c .flags)
       pub session : kept .session ≡ record { kept = onceMore (after b cs .session .kept); evaluations = kept .answer .evaluations }
 
   pub record Demand3 : Type 0 where

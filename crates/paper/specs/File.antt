@@ -11,8 +11,7 @@ use Rattle.paper.specs.Lists.{between, nat, over}
 use Rattle.paper.specs.Tables.{Tables, lent}
 use Rattle.paper.specs.Checks.{Verdict, accepted, require, leaves, sized}
 
--- ── numbers as bytes; a signed number goes by its bits ──
--- the w lowest bytes of x, the least first
+-- the w lowest bytes of x, the least first; a signed number goes by its bits
 abbrev pub bytesOf : ℕ → ℕ → List ℕ
 bytesOf zero x = []
 bytesOf (suc w) x = x % 256 ∷ bytesOf w (x / 256)
@@ -27,7 +26,7 @@ abbrev pub joined : (ℕ → List ℕ) → ℕ → List ℕ
 joined f zero = []
 joined f (suc n) = joined f n ++ f n
 
--- ── the places of the parts ──
+-- where rows and entries begin, and where the file ends
 abbrev pub rowsAt : ℕ → ℕ
 rowsAt n = 24 + 4 * n
 
@@ -61,7 +60,6 @@ fileBytes t starts =
     ++ joined (rowBytes (t .kinds) (t .makes) (t .params) (t .firsts) (t .counts)) (t .m)
     ++ joined (entryBytes (t .vars) (t .coefs)) (t .e)
 
--- ── writing ──
 -- the counts are within their bounds, and no lent row is shorter than they ask
 abbrev pub held : Tables → List ℤ → Bool
 held t starts = sized t && leb (t .n) (length starts)
@@ -75,7 +73,6 @@ write t starts bytes =
     let v = writeVerdict t starts bytes in
     (v, leaves v (fileBytes t starts ++ drop (endsAt (t .n) (t .m) (t .e)) bytes) bytes)
 
--- ── reading ──
 -- lent tables under other counts
 abbrev pub counted : ℕ → ℕ → ℕ → Tables → Tables
 counted n m e t = lent n m e (t .kinds) (t .makes) (t .params) (t .firsts) (t .counts) (t .vars) (t .coefs)

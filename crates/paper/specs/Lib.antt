@@ -5,6 +5,5 @@ pub mod Tables
 pub mod Checks
 pub mod Calls
 pub mod File
-pub mod Sessions
 pub mod Demands
 pub mod Runs

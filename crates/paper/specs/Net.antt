@@ -65,20 +65,12 @@ module _ (N : Net) where
   abbrev pub number : ℕ → ℕ → ℕ
   number = runs numbering (λ v. zero)
 
-  -- a table of numbers that says so of every variable
-  abbrev pub Numbers : (ℕ → ℕ) → Type 0
-  Numbers num = (v : ℕ) → num v ≡ numbering num v
-
   -- ── values worked out afresh from the search variables' values s ──
   abbrev pub valuation : Values → Rule ℤ
   valuation s f v = cond (N .made v) (N .form v f) (s v)
 
   abbrev pub afresh : Values → ℕ → Values
   afresh s = runs (valuation s) (λ v. pos zero)
-
-  -- stored values that are the fresh ones of their own search variables
-  abbrev pub Fresh : Values → Type 0
-  Fresh old = (v : ℕ) → old v ≡ valuation old old v
 
   -- ── the three routes, over any stored values `old`; s is old with the move put in ──
   -- route 3 marks a search variable that differs, and what is made from a marked variable
