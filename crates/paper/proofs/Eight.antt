@@ -11,10 +11,12 @@ use lib.Seq.{ext-getD, length-take-le, getD-take}
 use borrow.Author.Tests.{eqb-true, eq-eqb}
 use Rattle.paper.specs.Lists.{nat}
 use Rattle.paper.specs.Net.{able, number}
-use Rattle.paper.specs.Tables.{Tables, net, isMade, inputsOf, ends, order}
-use Rattle.paper.specs.Checks.{numbered}
+use Rattle.paper.specs.Tables.{Tables, net, inputsOf, ends, order}
+use Rattle.paper.specs.Checks.{numbered, Sound}
 use Rattle.paper.proofs.Lists.{each, all-yes}
 use Rattle.paper.proofs.Least.{allBelow-at, below-all}
+use Rattle.paper.proofs.Sizes.{sized-facts}
+use Rattle.paper.proofs.Accept.{made-below, inputs-below}
 use Rattle.paper.proofs.Lawful.{lawful}
 use Rattle.paper.proofs.Numbers.{Numbers, number-right, numbers-unique}
 use Rattle.paper.proofs.Circle.{numbers-end}
@@ -45,8 +47,8 @@ numbered-of t nums ord chains p q =
       ),
     )
 
--- ── by the equations ──
-module _ (t : Tables) (below-n : (v i : ℕ) → List·Memᴰ i (inputsOf t v) → i < t .n) (bound : (v : ℕ) → isMade t v ≡ true → v < t .n) (0<n : 0 < t .n) where
+-- ── by the equations, over tables that passed checks 1 to 5 ──
+module _ (t : Tables) (s : Sound t) where
   -- numbers that meet the sentence are build's, and every chain ends
   pub numbers-checked : (nums : List ℕ) → Numbers (net t) (nat (take (t .n) nums))
       → ((v : ℕ) → able (inputsOf t) (t .n) v ≡ true) × ((v : ℕ) → v < t .n → nat nums v ≡ number (net t) (t .n) v)
@@ -58,7 +60,7 @@ module _ (t : Tables) (below-n : (v i : ℕ) → List·Memᴰ i (inputsOf t v) �
   )
     where
       chain : (v : ℕ) → able (inputsOf t) (t .n) v ≡ true
-      chain = numbers-end (net t) (lawful t) (t .n) below-n bound 0<n (nat (take (t .n) nums)) h
+      chain = numbers-end (net t) (lawful t) (t .n) (inputs-below t s) (made-below t s) (sized-facts t (s .sized) .n-some) (nat (take (t .n) nums)) h
 
   -- with an order that rises strictly the two are what build gives
   pub checked : (nums ord : List ℕ) → Numbers (net t) (nat (take (t .n) nums)) → t .m ≤ length ord → ((r : ℕ) → List·Memᴰ r (take (t .m) ord) → r < t .m) → Ascends (rank t) (take (t .m) ord) → numbered t nums ord ≡ true

@@ -5,7 +5,6 @@
 use Prim.Native.Nat.{ℕ, zero, suc}
 use mathlib.Core.Bool.{Bool, true, false, cond, not, _&&_, _||_}
 use mathlib.Core.List.{List, [], _∷_, map, List·Memᴰ}
-use mathlib.Core.Path.{_≡_}
 use lib.IntN.{ℤ, pos}
 use lib.Dec.{eqb}
 use Rattle.integers.specs.Integers.{eqZ}
