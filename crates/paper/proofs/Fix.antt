@@ -23,7 +23,7 @@ module _ (dep : ℕ → List ℕ) where
   able-suc k v e m = all-in (able dep k) (dep v) e m
 
 module _ (dep : ℕ → List ℕ) {A : Type 0} (rule : Rule A) (loc : Local dep rule) where
-  -- more fuel, or another start, changes nothing
+  -- more uses of the rule, or another start, change nothing
   pub stable : (a b : ℕ → A) (k i j v : ℕ) → able dep k v ≡ true → k ≤ i → k ≤ j → runs rule a i v ≡ runs rule b j v
   unfolding runs
   stable a b zero i j v e p q = absurd (false≢true e)

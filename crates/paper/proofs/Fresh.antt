@@ -1,13 +1,13 @@
 -- Values worked out afresh: where every chain of inputs ends they exist, are the only ones that meet the paper's sentence, and depend on the
 -- search variables' values alone. Assumes nothing.
-use Prim.Native.Nat.{ℕ, zero, _≤_}
+use Prim.Native.Nat.{ℕ, zero}
 use mathlib.Core.Bool.{Bool, true, false, cond, _||_, true≢false}
 use mathlib.Core.List.{List, [], _∷_, List·Memᴰ}
 use mathlib.Core.Path.{_≡_, refl, ap, sym, _∙_, fun-ext}
 use lib.IntN.{ℤ, pos}
 use lib.Dec.{eqb}
 use Rattle.paper.specs.Net.{Values, Net, Rule, runs, able, valuation, afresh, moved, names}
-use Rattle.paper.proofs.Fix.{Local, stable, solution, is-solution}
+use Rattle.paper.proofs.Fix.{Local, solution, is-solution}
 use Rattle.paper.proofs.Lawful.{Lawful}
 
 -- a variable that the move does not name keeps its value
@@ -50,9 +50,6 @@ module _ (N : Net) (L : Lawful N) where
     -- ── they exist, and are the only ones ──
     pub afresh-equation : (s : Values) (v : ℕ) → afresh N s k v ≡ valuation N s (afresh N s k) v
     afresh-equation s = solution (N .ins) (valuation N s) (valuation-local s) (λ v. pos zero) k ends
-
-    pub afresh-fuel : (s : Values) (i j v : ℕ) → k ≤ i → k ≤ j → afresh N s i v ≡ afresh N s j v
-    afresh-fuel s i j v p q = stable (N .ins) (valuation N s) (valuation-local s) (λ v. pos zero) (λ v. pos zero) k i j v (ends v) p q
 
     pub afresh-unique : (s f : Values) → ((v : ℕ) → f v ≡ valuation N s f v) → (v : ℕ) → f v ≡ afresh N s k v
     afresh-unique s f h = is-solution (N .ins) (valuation N s) (valuation-local s) (λ v. pos zero) f k ends h

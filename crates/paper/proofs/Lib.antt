@@ -2,8 +2,8 @@ pub mod Lists
 pub mod Least
 pub mod Count
 pub mod Buffers
-pub mod Verdicts
 pub mod Scan
+pub mod Verdicts
 pub mod Sizes
 pub mod Accept
 pub mod Fix
@@ -27,5 +27,5 @@ pub mod Rewritten
 pub mod Reread
 pub mod RoundTrips
 pub mod FileRuns
-pub mod Demands
 pub mod Proved
+pub mod Demands
