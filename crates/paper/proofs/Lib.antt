@@ -18,6 +18,10 @@ pub mod Known
 pub mod Outcomes
 pub mod Build
 pub mod Session
+pub mod Windows
+pub mod Extreme
+pub mod Formulas
+pub mod Ranges
 pub mod Bytes
 pub mod Written
 pub mod Fields

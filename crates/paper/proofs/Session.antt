@@ -1,6 +1,6 @@
 -- Demand 3: after an accepted build, over any run of trials and keeps, each keep puts its move into the search values and leaves fresh ones, a
 -- trial works over them and leaves them, and a refused call leaves everything. Assumes nothing.
-use Prim.Native.Nat.{ℕ, min, _≤_}
+use Prim.Native.Nat.{ℕ, suc, min, _≤_}
 use native.Mathlib.Nat.{lt-irrefl}
 use native.Mathlib.Omega.{arith}
 use mathlib.Core.Bool.{Bool, true, false, cond, _||_}
@@ -14,7 +14,7 @@ use Rattle.paper.specs.Lists.{tally, nat, size, below, over}
 use Rattle.paper.specs.Net.{Net, Values, Route, input-to-output, afresh, new, moved, names, evaluated}
 use Rattle.paper.specs.Tables.{Tables, net, isMade, valuesIn}
 use Rattle.paper.specs.Checks.{Verdict, accepted, refused, leaves, movePairs}
-use Rattle.paper.specs.Calls.{Session, onceMore, newValues, evaluates, BuildLent, BuildLeft, startValues, build, Model, Tried, TrialLeft, askedList, routeOf, trialVerdict, trialLeaves, trial, Kept, KeepLeft, keepVerdict, keepLeaves, keep}
+use Rattle.paper.specs.Calls.{Session, newValues, evaluates, BuildLent, BuildLeft, startValues, build, Model, Tried, TrialLeft, askedList, routeOf, trialVerdict, trialLeaves, trial, Kept, KeepLeft, keepVerdict, keepLeaves, keep}
 use Rattle.paper.specs.Demands.{evaluatedBy, Row, own, another, Lends, Call, tries, keeps, State, rowLent, rowAfter, modelOf, verdictOf, lendsOf, step, keptBy, applied, ownModel, fresh, after, history, Proper, old, renewed, tried, triedSet, TrialRight, kept, KeepRight, Told, Demand3}
 use Rattle.paper.proofs.Buffers.{length-below, getD-below, over-front, over-over, ones-below}
 use Rattle.paper.proofs.Lawful.{lawful}
@@ -197,7 +197,7 @@ module _ (b : BuildLent) (ok : build b .answer .number ≡ 0) where
       told =
           told-by (evaluatedBy b cs input-to-output (c .move) []) (c .flags) (set-is input-to-output (movePairs (c .move)) [])
           (ap (λ (x : KeepLeft). x .answer .evaluations) left) (ap (λ (x : KeepLeft). x .flags) left);
-      session = ap (λ (x : KeepLeft). x .session) left ∙ sym (ap (λ (x : KeepLeft). record { kept = onceMore (now .session .kept); evaluations = x .answer .evaluations }) left);
+      session = ap (λ (x : KeepLeft). x .session) left ∙ sym (ap (λ (x : KeepLeft). record { kept = min (suc (now .session .kept)) 4294967295; evaluations = x .answer .evaluations }) left);
     }
       where
         good : keepVerdict w c ≡ accepted

@@ -27,10 +27,6 @@ abbrev pub answered : Verdict → ℕ → Answer
 answered accepted count = record { number = 0; place = 0; evaluations = count }
 answered (refused number place) count = record { number = number; place = place; evaluations = 0 }
 
--- one more move kept: it stops at 4,294,967,295
-abbrev pub onceMore : ℕ → ℕ
-onceMore kept = min (suc kept) 4294967295
-
 -- ── what a move does by a route, over stored values `old` ──
 module _ (t : Tables) (old : Values) (r : Route) (mv : List (ℕ × ℤ)) (asked : List ℕ) where
   -- the new values, and the variables that the route evaluates
@@ -183,7 +179,7 @@ module _ (w : Model) (c : Kept) where
       let count = size (evaluates t old input-to-output mv []) (t .n) in
       record {
         answer = answered v count;
-        session = leaves v (record { kept = onceMore (s .kept); evaluations = count }) s;
+        session = leaves v (record { kept = min (suc (s .kept)) 4294967295; evaluations = count }) s;
         stored = leaves v (over (t .n) (newValues t old input-to-output mv []) (w .stored)) (w .stored);
         flags = leaves v (flagRow t old input-to-output mv [] (c .flags)) (c .flags);
       }

@@ -1,5 +1,5 @@
 -- Runs of calls, and the three demands as statements over the definitions. `proofs/Demands.antt` proves them. Assumes nothing.
-use Prim.Native.Nat.{ℕ, min, _≤_, _<_}
+use Prim.Native.Nat.{ℕ, suc, min, _≤_, _<_}
 use mathlib.Core.Bool.{Bool, true, cond, not, _&&_, _||_}
 use mathlib.Core.List.{List, [], _∷_, _++_}
 use mathlib.Core.Path.{_≡_}
@@ -12,7 +12,7 @@ use Rattle.paper.specs.Lists.{nat, size, tally, over}
 use Rattle.paper.specs.Net.{Net, Values, Route, Depends, numbering, number, valuation, afresh, moved, names, evaluated, input-to-output}
 use Rattle.paper.specs.Tables.{Tables, lent, net, inputsOf, order}
 use Rattle.paper.specs.Checks.{Verdict, accepted, refused, require, leaves, tableChecks, Move, movePairs}
-use Rattle.paper.specs.Calls.{Session, Answer, onceMore, BuildLent, BuildLeft, startValues, buildFits, build, Model, Tried, TrialLeft, askedList, routeOf, trial, trialVerdict, Kept, KeepLeft, keep, keepVerdict}
+use Rattle.paper.specs.Calls.{Session, Answer, BuildLent, BuildLeft, startValues, buildFits, build, Model, Tried, TrialLeft, askedList, routeOf, trial, trialVerdict, Kept, KeepLeft, keep, keepVerdict}
 use Rattle.paper.specs.File.{endsAt, held, write, counted, read}
 
 -- ── demand 1: a call works, or refuses with a number of its own and changes nothing ──
@@ -201,9 +201,6 @@ module _ (b : BuildLent) where
   Proper (c ∷ earlier) = (verdictOf (after earlier) c ≡ accepted → lendsOf c ≡ ownModel) × Proper earlier
 
 module _ (b : BuildLent) (cs : List Call) where
-  abbrev n : ℕ
-  n = b .tables .n
-
   -- the fresh values of the moves kept in the run, and those of one more move
   abbrev pub old : Values
   old = fresh b (history b cs)
@@ -213,13 +210,13 @@ module _ (b : BuildLent) (cs : List Call) where
 
   -- the variables that a route evaluates over them
   abbrev pub evaluatedBy : Route → Move → List ℕ → ℕ → Bool
-  evaluatedBy r mv asked = evaluated (net (b .tables)) r old (moved (movePairs mv) old) asked n
+  evaluatedBy r mv asked = evaluated (net (b .tables)) r old (moved (movePairs mv) old) asked (b .tables .n)
 
   -- flags are 1 at a set of variables and 0 elsewhere, and the count is its size and so the number of ones
   pub record Told (set : ℕ → Bool) (count : ℕ) (flags before : List ℕ) : Type 0 where
-    pub flags-are : flags ≡ over n (λ v. cond (set v) 1 0) before
-    pub set-size : count ≡ size set n
-    pub ones : count ≡ tally (eqb 1) (take n flags)
+    pub flags-are : flags ≡ over (b .tables .n) (λ v. cond (set v) 1 0) before
+    pub set-size : count ≡ size set (b .tables .n)
+    pub ones : count ≡ tally (eqb 1) (take (b .tables .n) flags)
 
   -- an accepted trial after the run
   module _ (l : Lends) (c : Tried) where
@@ -233,7 +230,7 @@ module _ (b : BuildLent) (cs : List Call) where
       -- at each place asked, whatever the route, the fresh value of the moves kept and this one
       pub results : tried .results ≡ over (c .asked) (λ i. renewed (c .move) (nat (c .askedVars) i)) (c .results)
       -- the trial buffer: new where moved or evaluated, old elsewhere
-      pub row : tried .trial ≡ over n (λ v. cond (names (movePairs (c .move)) v || triedSet v) (renewed (c .move) v) (old v)) (c .trial)
+      pub row : tried .trial ≡ over (b .tables .n) (λ v. cond (names (movePairs (c .move)) v || triedSet v) (renewed (c .move) v) (old v)) (c .trial)
       pub told : Told triedSet (tried .answer .evaluations) (tried .flags) (c .flags)
       pub session : tried .session ≡ record { kept = after b cs .session .kept; evaluations = tried .answer .evaluations }
 
@@ -245,13 +242,13 @@ module _ (b : BuildLent) (cs : List Call) where
     pub record KeepRight : Type 0 where
       -- its move heads the history, and the stored values are the fresh ones of that
       pub move : history b (keeps l c ∷ cs) ≡ movePairs (c .move) ∷ history b cs
-      pub stored : kept .stored ≡ over n (renewed (c .move)) (b .stored)
+      pub stored : kept .stored ≡ over (b .tables .n) (renewed (c .move)) (b .stored)
       pub told : Told (evaluatedBy input-to-output (c .move) []) (kept .answer .evaluations) (kept .flags) (c .flags)
-      pub session : kept .session ≡ record { kept = onceMore (after b cs .session .kept); evaluations = kept .answer .evaluations }
+      pub session : kept .session ≡ record { kept = min (suc (after b cs .session .kept)) 4294967295; evaluations = kept .answer .evaluations }
 
   pub record Demand3 : Type 0 where
     -- after every run the stored values are the fresh ones of the moves kept, and what lies beyond is as it was before the build
-    pub stored : after b cs .stored ≡ over n old (b .stored)
+    pub stored : after b cs .stored ≡ over (b .tables .n) old (b .stored)
     -- the record has the number of moves kept, up to its ceiling
     pub moves : after b cs .session .kept ≡ min (length (history b cs)) 4294967295
     -- the next call, if it is accepted and was lent the model's own

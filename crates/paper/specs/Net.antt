@@ -1,6 +1,5 @@
--- A model as mathematics: variables are numbers, and each made variable has inputs and a formula. Topological numbers, values worked out
--- afresh and the three routes are defined here, once, over any such model; `Tables.antt` says which one the lent rows describe.
--- What goes from variable to variable is `runs rule base k`: the rule used k times over, k at least the longest chain of inputs.
+-- A model as mathematics: variables are numbers, and each made variable has inputs and a formula. `Tables.antt` says which model the lent rows
+-- describe. What goes from variable to variable is `runs rule base k`: the rule used k times over, k at least the longest chain of inputs.
 -- Assumes nothing.
 use Prim.Native.Nat.{ℕ, zero, suc}
 use mathlib.Core.Bool.{Bool, true, false, cond, not, _&&_, _||_}
@@ -41,12 +40,11 @@ pub data Depends (dep : ℕ → List ℕ) : ℕ → ℕ → Type 0 where
 abbrev pub able : (ℕ → List ℕ) → ℕ → ℕ → Bool
 able dep = runs (λ f v. all f (dep v)) (λ v. false)
 
--- the values with the pairs of a move put in; the first pair that names a variable decides
+-- the values with the pairs of a move put in (the first pair that names a variable decides), and whether it names one
 abbrev pub moved : List (ℕ × ℤ) → Values → Values
 moved [] old v = old v
 moved (p ∷ ps) old v = cond (eqb (p .0) v) (p .1) (moved ps old v)
 
--- the move names v
 abbrev pub names : List (ℕ × ℤ) → ℕ → Bool
 names mv v = any (λ (p : ℕ × ℤ). eqb (p .0) v) mv
 

@@ -1,0 +1,83 @@
+-- Every formula over inputs that are numbers of the range or blank gives a number of the range or blank: it judges its exact result, or gives
+-- one of the inputs, or counts places. Assumes nothing.
+use Prim.Native.Nat.{ℕ, zero, suc, _≤_}
+use native.Mathlib.Omega.{arith}
+use mathlib.Core.Bool.{Bool, true, false, cond, _||_}
+use mathlib.Core.List.{List, [], _∷_}
+use mathlib.Core.Path.{_≡_, refl, ap}
+use lib.Dec.{eqb, leb}
+use lib.IntN.{ℤ, pos, negsuc, _+ℤ_, _-ℤ_, _*ℤ_}
+use lib.Signed.{ltZ, leZ}
+use lib.ListN.{length}
+use borrow.Author.Tests.{le-leb}
+use Rattle.integers.specs.Integers.{eqZ}
+use Rattle.paper.specs.Lists.{all, tally}
+use Rattle.paper.specs.Formula.{blank, inRange, fit, someBlank, sum, lesser, greater, extreme, element, places, trips, lastOf, inputAt, formula}
+use Rattle.paper.proofs.Lists.{and-left, and-right, all-in}
+use Rattle.paper.proofs.Extreme.{Extreme, least, most}
+use Rattle.paper.proofs.Formulas.{tally-le}
+
+-- a number of the range, or blank
+abbrev pub good : ℤ → Bool
+good z = inRange z || eqZ z blank
+
+either : (b : Bool) (x y : ℤ) → good x ≡ true → good y ≡ true → good (cond b x y) ≡ true
+either true x y p q = p
+either false x y p q = q
+
+-- ── an exact result that is judged ──
+fit-good : (z : ℤ) → good (fit z) ≡ true
+fit-good z = go (inRange z) refl
+  where
+    go : (b : Bool) → inRange z ≡ b → good (cond b z blank) ≡ true
+    go true e = ap (_|| eqZ z blank) e
+    go false e = refl
+
+last-good : (s h : ℤ) (n : ℕ) → good (lastOf s h n) ≡ true
+last-good s h zero = refl
+last-good s h (suc k) = fit-good (s +ℤ pos k *ℤ h)
+
+-- ── one of the inputs, or blank ──
+at-good : (xs : List ℤ) → all good xs ≡ true → (i : ℕ) → good (inputAt xs i) ≡ true
+at-good [] v i = refl
+at-good (x ∷ xs) v zero = and-left (good x) (all good xs) v
+at-good (x ∷ xs) v (suc i) = at-good xs (and-right (good x) (all good xs) v) i
+
+element-good : (xs : List ℤ) → all good xs ≡ true → good (element xs) ≡ true
+element-good [] v = refl
+element-good (pos i ∷ xs) v = at-good xs (and-right (good (pos i)) (all good xs) v) i
+element-good (negsuc i ∷ xs) v = refl
+
+extreme-good : (test : ℤ → ℤ → Bool) (f : ℤ → ℤ → ℤ) → ((x : ℤ) (xs : List ℤ) → Extreme test (extreme f (x ∷ xs)) (x ∷ xs))
+    → (xs : List ℤ) → all good xs ≡ true → good (extreme f xs) ≡ true
+extreme-good test f law [] v = refl
+extreme-good test f law (x ∷ xs) v = all-in good (x ∷ xs) v (law x xs .one)
+
+-- ── a number of places ──
+tally-good : (p : ℤ → Bool) (xs : List ℤ) → length xs ≤ 2147483647 → good (pos (tally p xs)) ≡ true
+tally-good p xs few = ap (_|| false) (le-leb (tally p xs) 2147483647 (omega (arith, tally-le p xs)))
+
+-- ── every formula ──
+pub formula-good : (kind : ℕ) (param : ℤ) (coefs xs : List ℤ) → all good xs ≡ true → length xs ≤ 2147483647 → good (formula kind param coefs xs) ≡ true
+unfolding formula
+formula-good kind param coefs xs v few =
+    either (eqb kind 4) _ _ (element-good xs v)
+    (either (someBlank xs) _ _ refl
+    (either (eqb kind 1) _ _ (fit-good (param +ℤ sum coefs xs))
+    (either (eqb kind 2) _ _ (extreme-good leZ lesser least xs v)
+    (either (eqb kind 3) _ _ (extreme-good (λ z x. leZ x z) greater most xs v)
+    (either (eqb kind 5) _ _ (tally-good (λ x. leb 2 (places x xs)) xs few)
+    (either (eqb kind 6) _ _ (tally-good (λ x. eqZ x param) xs few)
+    (either (eqb kind 7) _ _ (either (ltZ b a) _ _ (fit-good (a -ℤ b)) refl)
+    (either (eqb kind 8) _ _ (either (leZ c (pos 0)) _ _ refl (fit-good (pos (trips a b c))))
+    (either (eqb kind 9) _ _ (either (leZ c (pos 0)) _ _ refl (last-good a c (trips a b c)))
+    refl)))))))))
+  where
+    a : ℤ
+    a = inputAt xs 0
+
+    b : ℤ
+    b = inputAt xs 1
+
+    c : ℤ
+    c = inputAt xs 2
