@@ -1,4 +1,4 @@
--- Each formula does what document 01's sentence says of it. The sentences speak of places and the definitions run along the list of inputs;
+-- Each formula does what the paper's sentence says of it. The sentences speak of places and the definitions run along the list of inputs;
 -- the laws say that this comes to the same. What DEPARTURES and LAST give is in `Windows`. Assumes nothing.
 use Prim.Native.Nat.{ℕ, zero, suc, _+_, _≤_, _<_, zero-le}
 use native.Mathlib.Omega.{arith}

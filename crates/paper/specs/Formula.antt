@@ -1,4 +1,4 @@
--- Numbers and blank, and the nine formulas over the values of a row's inputs, as document 01 has them. Assumes nothing.
+-- Numbers and blank, and the nine formulas over the values of a row's inputs, as the paper has them. Assumes nothing.
 use Prim.Native.Nat.{ℕ, zero, suc, _+_, _-_, _/_}
 use mathlib.Core.Bool.{Bool, cond}
 use mathlib.Core.List.{List, [], _∷_}

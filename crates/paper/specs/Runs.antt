@@ -1,4 +1,4 @@
--- The runs that document 01 marks (p), as one table with one test: each is a build of the tables, or a trial over what build left, by the
+-- The runs that the paper marks (p), as one table with one test: each is a build of the tables, or a trial over what build left, by the
 -- calls themselves. Assumes nothing.
 use Prim.Native.Nat.{ℕ, suc}
 use mathlib.Core.Bool.{Bool, true, false, _&&_}

@@ -1,0 +1,4 @@
+pub mod Reading
+pub mod Steps
+pub mod Times
+pub mod Rows

@@ -1,0 +1,51 @@
+-- A signed number read back from its bits, and a row's inputs place by place. Assumes nothing.
+use Prim.Native.Nat.{ℕ, zero, suc, _+_, _^_, _≤_, _<_}
+use native.Mathlib.Omega.{arith}
+use native.Mathlib.Numerals.{add-one}
+use mathlib.Core.List.{List, [], _∷_}
+use mathlib.Core.Path.{_≡_, refl, sym, ap, _∙_}
+use borrow.Author.Needs.{sfits-of}
+use lib.Dec.{T, leb}
+use lib.IntN.{ℤ, pos}
+use lib.ListN.{length, getD, drop, length-map, drop-of-length-le}
+use lib.Seq.{drop-cons}
+use lib.Signed.{mag}
+use mir.Syntax.{Width, w64}
+use mir.Val.{SFits, hbits, toZ, ofZ}
+use mir.Facts.{toZ-ofZ}
+use Rattle.integers.proofs.Ranges.{as64}
+use Rattle.paper.specs.Lists.{nat}
+use Rattle.paper.specs.Formula.{blank, inputAt}
+use Rattle.formulas.specs.Row.{inputs}
+
+-- what a callee gave, read back from its bits
+pub told : (w : Width) {r e : ℤ} → mag r < 2 ^ hbits w → r ≡ e → toZ w (ofZ w r) ≡ e
+told w k e = toZ-ofZ (sfits-of k) ∙ e
+
+-- a number of a lesser width, cast to 64 bits
+module _ (w : Width) {z : ℤ} (less : T (leb (hbits w) 63)) (fits : SFits w z) where
+  pub cast-fits : SFits w64 (toZ w (ofZ w z))
+  cast-fits = rw (toZ-ofZ fits) (as64 {w = w} less fits)
+
+  pub cast-is : toZ w64 (ofZ w64 (toZ w (ofZ w z))) ≡ z
+  cast-is = toZ-ofZ cast-fits ∙ toZ-ofZ fits
+
+-- what is left at i is the element at i and what is left at i + 1
+pub next : {A : Type 0} (l : List A) (i : ℕ) (d : A) → i < length l → drop i l ≡ getD l i d ∷ drop (i + 1) l
+next l i d h = drop-cons l i d h ∙ ap (λ (n : ℕ). getD l i d ∷ drop n l) (sym (add-one i))
+
+-- ── the inputs ──
+module _ (vars : List ℕ) (values : List ℤ) where
+  pub inputs-length : length (inputs vars values) ≡ length vars
+  inputs-length = length-map vars (λ (v : ℕ). getD values v (pos 0))
+
+  pub next-input : (i : ℕ) → i < length vars → drop i (inputs vars values) ≡ inputAt (inputs vars values) i ∷ drop (i + 1) (inputs vars values)
+  next-input i h = next (inputs vars values) i blank (rw inputs-length h)
+
+  pub no-input : (i : ℕ) → length vars ≤ i → drop i (inputs vars values) ≡ []
+  no-input i h = let k : length (inputs vars values) ≤ i = rw inputs-length h in drop-of-length-le (inputs vars values) k
+
+pub inputs-at : (vars : List ℕ) (values : List ℤ) (i : ℕ) → i < length vars → inputAt (inputs vars values) i ≡ getD values (nat vars i) (pos 0)
+inputs-at [] values i h = absurd (omega arith)
+inputs-at (v ∷ vars) values zero h = refl
+inputs-at (v ∷ vars) values (suc i) h = inputs-at vars values i (omega arith)

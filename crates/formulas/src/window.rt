@@ -1,0 +1,93 @@
+// DEPARTURES and LAST: the times start + k * headway, k = 0, 1, 2 and on, strictly before end.
+ghost use Prim.Native.Nat.{_<_, _≤_, _-_, _*_};
+ghost use mathlib.Core.Path.{_≡_};
+ghost use mathlib.Core.Bool.{true, cond};
+ghost use lib.IntN.{pos, natAbs};
+ghost use lib.ListN.{length};
+ghost use lib.Signed.{ltZ};
+ghost use Rattle.paper.specs.Formula.{trips, lastOf};
+ghost use Rattle.paper.specs.Formula as Formula;
+ghost use Rattle.formulas.specs.Row.{inputs, unlessBlank, ofThree, Within};
+use crate::blanks::BLANK;
+use crate::blanks::fitted;
+use crate::blanks::unless_blank;
+use crate::exact::difference;
+use crate::exact::plus_product;
+use crate::inputs::input;
+
+// A number above 0, without its sign.
+fn whole(number: i64) -> u64
+    requires { ⌜ ltZ (pos 0) number ≡ true ⌝ }
+    ensures { λ r. ⌜ r ≡ natAbs number ⌝ }
+{
+    number as u64
+}
+
+// How many of the times are strictly before end, of a headway above 0.
+fn times_before(start: i32, end: i32, headway: i32) -> u64
+    requires { ⌜ ltZ (pos 0) headway ≡ true ⌝ }
+    ensures { λ r. ⌜ r ≡ trips start end headway ⌝ }
+{
+    if start < end {
+        let gap = whole(difference(end, start));
+        let step = whole(headway as i64);
+        (gap + step - 1) / step
+    } else {
+        0
+    }
+}
+
+// The latest of the first n times, blank if there are none.
+fn latest(start: i32, headway: i32, n: u64) -> i32
+    requires { ⌜ (n - 1 ≤ 4294967296) × ((n - 1) * natAbs headway ≤ 4294967296) ⌝ }
+    ensures { λ r. ⌜ r ≡ lastOf start headway n ⌝ }
+{
+    if n == 0 {
+        return BLANK;
+    }
+    fitted(plus_product(start as i64, (n - 1) as i64, headway as i64))
+}
+
+// The latest of the times strictly before end if last, else how many they are; blank if headway is 0 or less.
+fn window_value(last: bool, start: i32, end: i32, headway: i32) -> i32
+    ensures { λ r. ⌜ r ≡ cond last Formula.last Formula.departures start end headway ⌝ }
+{
+    if headway <= 0 {
+        return BLANK;
+    }
+    let n = times_before(start, end, headway);
+    if last {
+        return latest(start, headway, n);
+    }
+    fitted(n as i64)
+}
+
+// The same of the inputs start, end and headway.
+fn window(last: bool, vars: &[u16], values: &[i32]) -> i32
+    requires { ⌜ 2 < length (now vars) ⌝ }
+    requires { ⌜ Within (now vars) (now values) ⌝ }
+    ensures { λ r. ⌜ r ≡ unlessBlank (ofThree (cond last Formula.last Formula.departures)) (inputs (now (vars .entry)) (now (values .entry))) ⌝ }
+{
+    let start = input(vars, values, 0);
+    let end = input(vars, values, 1);
+    let headway = input(vars, values, 2);
+    unless_blank(window_value(last, start, end, headway), vars, values)
+}
+
+// DEPARTURES: how many times there are.
+pub fn departures(vars: &[u16], values: &[i32]) -> i32
+    requires { ⌜ 2 < length (now vars) ⌝ }
+    requires { ⌜ Within (now vars) (now values) ⌝ }
+    ensures { λ r. ⌜ r ≡ unlessBlank (ofThree Formula.departures) (inputs (now (vars .entry)) (now (values .entry))) ⌝ }
+{
+    window(false, vars, values)
+}
+
+// LAST: the latest of them.
+pub fn last(vars: &[u16], values: &[i32]) -> i32
+    requires { ⌜ 2 < length (now vars) ⌝ }
+    requires { ⌜ Within (now vars) (now values) ⌝ }
+    ensures { λ r. ⌜ r ≡ unlessBlank (ofThree Formula.last) (inputs (now (vars .entry)) (now (values .entry))) ⌝ }
+{
+    window(true, vars, values)
+}
