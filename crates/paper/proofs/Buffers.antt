@@ -8,7 +8,7 @@ use mathlib.Core.List.{List, [], _∷_, _++_}
 use mathlib.Core.Path.{_≡_, refl, ap, ap₂, sym, _∙_}
 use lib.Dec.{eqb, ltb}
 use lib.ListN.{length, getD, take, drop, set, length-append, length-drop, length-set, take-append-drop, List·getD-append}
-use lib.Seq.{take-at, drop-at, take-suc, take-suc-set, drop-set-lt, getD-append-seam, set-append-left, getD-set-same, getD-set-other, ext-getD}
+use lib.Seq.{take-at, drop-at, take-suc, take-suc-set, drop-set-lt, getD-append-seam, set-append-left, getD-set-same, getD-set-other, ext-getD, getD-take, length-take-le}
 use borrow.Author.Tests.{ltb-true, ltb-false, eqb-true, eqb-false}
 use Rattle.paper.specs.Lists.{tally, size, below, over}
 
@@ -78,6 +78,17 @@ module _ {A : Type 0} (f : ℕ → A) (n : ℕ) (before : List A) where
               let same = eqb-true v i q in let b = length-below f n in
               ap (λ k. getD (set (below f n) v x) k x) (sym same) ∙ getD-set-same (below f n) v x x (omega arith)
           go false q low = getD-set-other (below f n) v i x x (λ z. eqb-false v i q (sym z)) ∙ getD-below f n i x low
+
+-- a row that is f at its first n places, and what stood before beyond them
+pub over-of : {A : Type 0} (f : ℕ → A) (n : ℕ) (before l : List A) (d : A) → length l ≡ length before → n ≤ length before
+    → ((v : ℕ) → v < n → getD l v d ≡ f v) → drop n l ≡ drop n before → l ≡ over n f before
+over-of f n before l d long room front back = sym (take-append-drop n l) ∙ ap₂ _++_ (ext-getD d (take n l) (below f n) (len ∙ sym (length-below f n)) each) back
+  where
+    len : length (take n l) ≡ n
+    len = length-take-le n l (omega arith)
+
+    each : (v : ℕ) → v < length (take n l) → getD (take n l) v d ≡ getD (below f n) v d
+    each v k = let h : v < n = let e = len in omega arith in getD-take n l v d h ∙ front v h ∙ sym (getD-below f n v d h)
 
 -- ── a loop that fills a row from the front ──
 -- f stands at the places below i of l, and elsewhere what stood before

@@ -30,8 +30,11 @@ module _ (p : ℕ → Bool) (m : ℕ) where
   pub scan-found : (i : ℕ) → Scan p m i → i < m → p i ≡ false → i ≡ firstFail p m
   scan-found i s l e = firstFail-is p m i l e (s .good)
 
+  pub scan-all : (i : ℕ) → Scan p m i → m ≤ i → m ≡ firstFail p m
+  scan-all i s l = firstFail-none p m (λ j h. s .good j (omega arith))
+
   pub scan-end : (i : ℕ) → Scan p m i → m ≤ i → i ≡ firstFail p m
-  scan-end i s l = let low = s .low in let same : i ≡ m = omega arith in same ∙ firstFail-none p m (λ j h. s .good j (omega arith))
+  scan-end i s l = let low = s .low in let same : i ≡ m = omega arith in same ∙ scan-all i s l
 
 pub firstFail-same : (p q : ℕ → Bool) (n : ℕ) → ((v : ℕ) → v < n → p v ≡ q v) → firstFail p n ≡ firstFail q n
 firstFail-same p q zero h = refl

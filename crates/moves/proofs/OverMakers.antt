@@ -1,0 +1,37 @@
+-- The tests over the row of makers are the paper's over the tables. Assumes nothing.
+use Prim.Native.Nat.{ℕ, _≤_, _<_}
+use mathlib.Core.Bool.{Bool, true, false, cond, not, _&&_}
+use mathlib.Core.List.{List}
+use mathlib.Core.Path.{_≡_, refl, ap, ap₂, sym, _∙_}
+use lib.IntN.{ℤ, pos}
+use lib.Dec.{eqb, ltb}
+use lib.ListN.{getD}
+use lib.Seq.{getD-take}
+use borrow.Author.Tests.{lt-ltb, le-ltb}
+use Rattle.paper.specs.Lists.{nat}
+use Rattle.paper.specs.Tables.{Tables, isMade, valuesIn}
+use Rattle.paper.specs.Checks.{startGood, storedGood, Move, movable}
+use Rattle.tables.specs.Makers.{Makers}
+use Rattle.tables.proofs.Made.{maker-zero}
+use Rattle.moves.specs.Moves.{valueGood}
+
+module _ (t : Tables) (by : List ℕ) (k : Makers t by) where
+  -- 7
+  pub value-same : (building : Bool) (values : List ℤ) (v : ℕ) → v < t .n
+      → valueGood building (not (eqb (nat by v) 0)) (getD values v (pos 0)) ≡ cond building (startGood t) (storedGood t) (valuesIn t values) v
+  value-same building values v l =
+      ap₂ (λ b z. valueGood building (not b) z) (maker-zero t by k v l) (sym (getD-take (t .n) values v (pos 0) l)) ∙ go building (isMade t v) refl
+    where
+      go : (b made : Bool) → isMade t v ≡ made → valueGood b (not (not (isMade t v))) (valuesIn t values v) ≡ cond b (startGood t) (storedGood t) (valuesIn t values) v
+      go true true e = rw e refl
+      go true false e = rw e refl
+      go false true e = rw e refl
+      go false false e = rw e refl
+
+  -- 10, of a pair that names v
+  module _ (mv : Move) (i v : ℕ) (e : v ≡ nat (mv .vars) i) where
+    pub movable-beyond : t .n ≤ v → movable mv t i ≡ false
+    movable-beyond h = ap (λ w. ltb w (t .n) && not (isMade t w)) (sym e) ∙ ap (_&& not (isMade t v)) (le-ltb v (t .n) h)
+
+    pub movable-below : v < t .n → movable mv t i ≡ eqb (nat by v) 0
+    movable-below l = ap (λ w. ltb w (t .n) && not (isMade t w)) (sym e) ∙ ap (_&& not (isMade t v)) (lt-ltb v (t .n) l) ∙ sym (maker-zero t by k v l)

@@ -1,0 +1,92 @@
+-- The loop has passed every variable before this one (`Scan`), whichever tables the makers are of. Assumes nothing.
+use Prim.Native.Nat.{_-_}
+use native.Mathlib.Omega.{arith}
+use mathlib.Core.Bool.{cond, not}
+use mathlib.Core.Path.{_≡_, sym, ap, _∙_}
+use lib.IntN.{pos}
+use lib.Dec.{eqb}
+use lib.ListN.{getD}
+use borrow.Author.Needs.{needs, sfits-of}
+use borrow.Author.Tests.{not-true, not-false}
+use mir.Syntax.{w32}
+use mir.Val.{SFits}
+use mir.Facts.{toZ-ofZ}
+use Rattle.paper.specs.Lists.{nat}
+use Rattle.paper.specs.Tables.{valuesIn}
+use Rattle.paper.specs.Checks.{startGood, storedGood}
+use Rattle.paper.proofs.Scan.{Scan, scan-start, scan-next, scan-found, scan-all}
+use Rattle.moves.specs.Moves.{OfMakers, valueGood}
+use Rattle.moves.proofs.OverMakers.{value-same}
+use Rattle.moves.proofs.value.first_bad_value.Statement.{statement}
+use Rattle.moves.proofs.value.first_bad_value.Tie as tie
+
+abbrev Inv-loop : tie.InvT-loop
+Inv-loop building n by values v₀ v = OfMakers n by (λ t. Scan (cond building (startGood t) (storedGood t) (valuesIn t values)) n v)
+
+abbrev μ-loop : tie.MeasureT-loop
+μ-loop building n by values v₀ v = n - v
+
+loop-holds : tie.Need-loop-holds Inv-loop μ-loop
+loop-holds c = record { of = λ t e k. scan-start _ _ }
+
+mul-value-good : tie.Need-mul-value-good Inv-loop μ-loop
+mul-value-good c = search needs
+
+shared-slice-read-value-good : tie.Need-shared-slice-read-value-good Inv-loop μ-loop
+shared-slice-read-value-good c = search needs
+
+mul-value-good-2 : tie.Need-mul-value-good-2 Inv-loop μ-loop
+mul-value-good-2 c = search needs
+
+shared-slice-copy-out-value-good : tie.Need-shared-slice-copy-out-value-good Inv-loop μ-loop
+shared-slice-copy-out-value-good c = search needs
+
+value-good-requires : tie.Need-value-good-requires Inv-loop μ-loop
+value-good-requires c κs = search needs
+
+-- the test of this turn, over any such tables
+here : (c : tie.After-value-good Inv-loop μ-loop)
+    → let a = c .before .before .before .before .before .before .args in let v = c .before .before .before .before .loop .v in
+    OfMakers (a .n) (a .by .now) (λ t. cond (a .building) (startGood t) (storedGood t) (valuesIn t (a .values .now)) v ≡ c .value-good .result)
+here c =
+    let a = c .before .before .before .before .before .before .args in let v = c .before .before .before .before .loop .v in
+    let fits : SFits w32 (getD (a .values .now) v (pos 0)) = sfits-of (c .before .value-good-arg .given) in
+    let said = c .value-good .ensures ∙ ap (valueGood (a .building) (not (eqb (nat (a .by .now) v) 0))) (toZ-ofZ fits) in
+    record { of = λ t e k. sym (said ∙ value-same t (a .by .now) k (a .building) (a .values .now) v (omega arith)) }
+
+returns : tie.Need-returns Inv-loop μ-loop
+returns c =
+    let l = c .before .before .before .before .before .loop in
+    record { of = λ t e k. scan-found _ _ _ (l .inv .of t e k) (omega arith) (here (c .before) .of t e k ∙ not-true _ (c .if1 .taken)) }
+
+add-v : tie.Need-add-v Inv-loop μ-loop
+add-v c = search needs
+
+loop-less : tie.Need-loop-less Inv-loop μ-loop
+loop-less c = search needs
+
+loop-again : tie.Need-loop-again Inv-loop μ-loop
+loop-again c =
+    let l = c .before .before .before .before .before .loop in
+    record { of = λ t e k. scan-next _ _ _ (l .inv .of t e k) (omega arith) (here (c .before) .of t e k ∙ not-false _ (c .if1 .left)) }
+
+returns-2 : tie.Need-returns-2 Inv-loop μ-loop
+returns-2 c = record { of = λ t e k. scan-all _ _ _ (c .before .loop .inv .of t e k) (omega arith) }
+
+pub first-bad-value-spec : {M : Type 1} → statement M
+first-bad-value-spec =
+    tie.close
+    (tie.spec
+    Inv-loop
+    μ-loop
+    loop-holds
+    mul-value-good
+    shared-slice-read-value-good
+    mul-value-good-2
+    shared-slice-copy-out-value-good
+    value-good-requires
+    returns
+    add-v
+    loop-less
+    loop-again
+    returns-2)

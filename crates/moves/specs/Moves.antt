@@ -1,0 +1,23 @@
+-- What the checks of values and moves are stated over. Assumes nothing.
+use Prim.Native.Nat.{ℕ}
+use mathlib.Core.Bool.{Bool, cond, not, _||_}
+use mathlib.Core.List.{List}
+use mathlib.Core.Path.{_≡_}
+use lib.IntN.{ℤ, pos}
+use Rattle.integers.specs.Integers.{eqZ}
+use Rattle.paper.specs.Formula.{blank}
+use Rattle.paper.specs.Tables.{Tables}
+use Rattle.paper.specs.Checks.{Move}
+use Rattle.tables.specs.Makers.{Makers}
+
+-- it holds for any tables of n variables whose makers stand in `by`: of the tables a check is lent that row alone
+pub record OfMakers (n : ℕ) (by : List ℕ) (holds : Tables → Type 0) : Type 0 where
+  pub of : (t : Tables) → t .n ≡ n → Makers t by → holds t
+
+-- 7, of one variable: a search variable is not blank, and a made one is 0 where a model is built
+abbrev pub valueGood : Bool → Bool → ℤ → Bool
+valueGood building made value = cond made (not building || eqZ value (pos 0)) (not (eqZ value blank))
+
+-- the lent rows of a move
+abbrev pub moveOf : ℕ → List ℕ → List ℤ → Move
+moveOf pairs vars values = record { pairs = pairs; vars = vars; values = values }

@@ -1,0 +1,42 @@
+// Check 7: start values and stored values.
+ghost use mathlib.Core.Bool.{cond};
+ghost use mathlib.Core.Path.{_≡_};
+ghost use Prim.Native.Nat.{_≤_};
+ghost use lib.ListN.{length};
+ghost use Rattle.integers.specs.Integers.{eqZ};
+ghost use Rattle.paper.specs.Lists.{firstFail};
+ghost use Rattle.paper.specs.Formula.{blank};
+ghost use Rattle.paper.specs.Tables.{valuesIn};
+ghost use Rattle.paper.specs.Checks.{startGood, storedGood};
+ghost use Rattle.moves.specs.Moves.{OfMakers, valueGood};
+use crate::BLANK;
+
+// The value is blank.
+pub fn is_blank(value: i32) -> bool
+    ensures { λ r. ⌜ r ≡ eqZ value blank ⌝ }
+{
+    value == BLANK
+}
+
+// A variable may have the value: a search variable any but blank; a made one any, and 0 where a model is built.
+fn value_good(building: bool, made: bool, value: i32) -> bool
+    ensures { λ r. ⌜ r ≡ valueGood building made value ⌝ }
+{
+    if made {
+        return !building | (value == 0);
+    }
+    !is_blank(value)
+}
+
+// The first variable that may not have its start value, where a model is built, or else its stored one.
+pub fn first_bad_value(building: bool, n: usize, by: &[u16], values: &[i32]) -> usize
+    requires { ⌜ (n ≤ length (now by)) × (n ≤ length (now values)) ⌝ }
+    ensures { λ r. ⌜ OfMakers n (now (by .entry)) (λ t. r ≡ firstFail (cond building (startGood t) (storedGood t) (valuesIn t (now (values .entry)))) n) ⌝ }
+{
+    for v in 0..n {
+        if !value_good(building, by[v] != 0, values[v]) {
+            return v;
+        }
+    }
+    n
+}

@@ -1,0 +1,38 @@
+-- The two tests before a row's part is handed out: there is such a row, and its part ends within e. Together they are those of the paper.
+-- Assumes nothing.
+use Prim.Native.Nat.{ℕ, _+_, _-_, _≤_, _<_}
+use mathlib.Core.Bool.{Bool, true, cond, _&&_}
+use mathlib.Core.List.{List, [], _∷_}
+use mathlib.Core.Path.{_≡_, sym, ap, ap₂, _∙_}
+use lib.Dec.{leb, ltb}
+use lib.ListN.{length, take, drop}
+use borrow.Author.Tests.{ltb-true, leb-true}
+use Rattle.paper.specs.Lists.{nat}
+use Rattle.paper.specs.Tables.{inputsAsked}
+use Rattle.paper.proofs.Lists.{and-left, and-right}
+use Rattle.paper.proofs.Scan.{part-same}
+use Rattle.tables.proofs.Tests.{in-two}
+
+module _ (m e : ℕ) (firsts counts vars : List ℕ) (row : ℕ) where
+  abbrev there : Bool
+  there = ltb row m && ltb row (length firsts) && ltb row (length counts)
+
+  abbrev inside : ℕ → Bool
+  inside end = leb end e && leb end (length vars)
+
+  pub row-there : there ≡ true → (row < length firsts) × (row < length counts)
+  row-there h =
+      let a = ltb row m in let b = ltb row (length firsts) in let c = ltb row (length counts) in
+      (ltb-true _ _ (and-right a b (and-left (a && b) c h)), ltb-true _ _ (and-right (a && b) c h))
+
+  pub part-inside : (end : ℕ) → inside end ≡ true → end ≤ length vars
+  part-inside end h = leb-true _ _ (and-right (leb end e) (leb end (length vars)) h)
+
+  pub asked : (first count : ℕ) → first ≡ nat firsts row → count ≡ nat counts row → (a b : Bool) → there ≡ a → inside (first + count) ≡ b
+      → cond (a && b) (take ((first + count) - first) (drop first vars)) [] ≡ inputsAsked m e firsts counts vars row
+  asked first count p q a b t i =
+      let end = nat firsts row + nat counts row in
+      ap₂ (λ x y. cond (x && y) (take ((first + count) - first) (drop first vars)) []) (sym t) (sym i)
+      ∙ ap₂ (λ k l. cond (there && inside k) l []) (ap₂ _+_ p q) (part-same vars first count (nat firsts row) (nat counts row) p q)
+      ∙ ap (λ x. cond x (take (nat counts row) (drop (nat firsts row) vars)) [])
+      (sym (in-two (ltb row m) (ltb row (length firsts) ∷ ltb row (length counts) ∷ []) (leb end e) (leb end (length vars) ∷ [])))
