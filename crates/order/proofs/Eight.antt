@@ -1,0 +1,250 @@
+-- Check 8 is what the two passes decide: numbers that meet the equations are the paper's, and an order that rises is the paper's; and the paper's
+-- do both. Assumes nothing.
+use Prim.Native.Nat.{ℕ, zero, suc, max, _+_, _*_, _≤_, _<_}
+use native.Mathlib.Nat.{not-suc-le-zero, lt-irrefl}
+use native.Mathlib.Numerals.{add-one}
+use native.Mathlib.Omega.{arith}
+use mathlib.Core.Bool.{Bool, true, false, cond, _&&_}
+use mathlib.Core.List.{List, [], _∷_, map, List·Memᴰ, List·Memᴰ·head, List·Memᴰ·tail, List·Memᴰ·not-nil}
+use mathlib.Core.Logic.{inl, inr}
+use mathlib.Core.Path.{_≡_, refl, ap, ap₂, sym, _∙_, subst, fun-ext}
+use lib.Dec.{leb, ltb}
+use lib.ListN.{length, take, List·getD-eq-default}
+use lib.Seq.{getD-take, length-take-le}
+use borrow.Author.Tests.{ltb-true, ltb-false, leb-true, eqb-true, eq-eqb, ne-eqb, lt-ltb, le-ltb, le-leb, lt-leb}
+use Rattle.paper.specs.Lists.{greatest, nat, firstFail, allBelow}
+use Rattle.paper.specs.Net.{able, numbering, number}
+use Rattle.paper.specs.Tables.{Tables, isMade, inputsOf, net, order}
+use Rattle.paper.specs.Checks.{numbered}
+use Rattle.paper.proofs.Lists.{clash, and-left, and-right, all-of, all-at}
+use Rattle.paper.proofs.Least.{allBelow-at, below-all}
+use Rattle.paper.proofs.Scan.{Scan, scan-start, scan-next, scan-found}
+use Rattle.paper.proofs.Lawful.{lawful}
+use Rattle.paper.proofs.Numbers.{Numbers, numbering-local, number-right, numbers-unique}
+use Rattle.paper.proofs.Circle.{numbers-end, ends-everywhere}
+use Rattle.paper.proofs.Order.{Prec, Sorted, Rising, rank, order-sorted, order-in, order-length, order-unique, order-checked}
+use Rattle.paper.proofs.Eight.{numbered-ends, numbered-numbers, numbered-order, numbered-of}
+use Rattle.order.specs.Formed.{Formed}
+use Rattle.order.specs.Numbering.{above, partAt, Parts}
+use Rattle.order.specs.Ascent.{rightAt, standing, floor, risesAt}
+use Rattle.order.proofs.Sweeps.{numbering-above}
+
+-- ── the number that the inputs' numbers ask: those in `left` are still to be looked at ──
+pub record Asking (n : ℕ) (f : ℕ → ℕ) (inputs left : List ℕ) (best : ℕ) : Type 0 where
+  pub below : (w : ℕ) → List·Memᴰ w left → w < n
+  pub small : best ≤ 65536
+  pub all : max best (above f left) ≡ above f inputs
+
+module _ (n : ℕ) (f : ℕ → ℕ) (inputs : List ℕ) where
+  pub asking-start : (left : List ℕ) → left ≡ inputs → ((w : ℕ) → List·Memᴰ w inputs → w < n) → Asking n f inputs left 0
+  asking-start left e h = rw e (record { below = h; small = omega arith; all = omega arith })
+
+  pub asking-end : (left : List ℕ) (best : ℕ) → Asking n f inputs left best → left ≡ [] → best ≡ above f inputs
+  asking-end left best A e = let h = rw e at (A .all) in omega arith
+
+  module _ (left more : List ℕ) (best w : ℕ) (A : Asking n f inputs left best) (e : left ≡ w ∷ more) where
+    pub asked-below : w < n
+    asked-below = A .below w (subst (List·Memᴰ w) (sym e) (List·Memᴰ·head refl))
+
+    pub asking-next : (x b : ℕ) → x ≡ f w → x < 65536 → b ≡ max best (x + 1) → Asking n f inputs more b
+    asking-next x b p l q = record {
+      below = λ u m. A .below u (subst (List·Memᴰ u) (sym e) (List·Memᴰ·tail m));
+      small = let s = A .small in omega arith;
+      all = let h = rw e at (A .all) in omega arith;
+    }
+
+-- ── a loop that tests each number below m ──
+module _ (p : ℕ → Bool) (m i : ℕ) (S : Scan p m i) where
+  pub fails-here : i < m → p i ≡ false → false ≡ allBelow p m
+  fails-here l e = let f = scan-found p m i S l e in sym (ne-eqb (firstFail p m) m (λ q. lt-irrefl i (omega arith)))
+
+  pub holds-all : m ≤ i → true ≡ allBelow p m
+  holds-all l = sym (below-all p m (λ j h. S .good j (omega arith)))
+
+-- ── the pass over the order: all places passed rise, and the next must reach `low` ──
+pub record Climbing (makes nums ord : List ℕ) (m i low : ℕ) : Type 0 where
+  pub passed : Scan (risesAt (standing makes nums) m ord) m i
+  pub next : low ≡ floor (standing makes nums) ord i
+  pub small : low ≤ 65536 * 65536
+
+module _ (makes nums ord : List ℕ) (m : ℕ) where
+  pub climbing-start : Climbing makes nums ord m 0 0
+  climbing-start = record { passed = scan-start _ m; next = refl; small = omega arith }
+
+  module _ (i low : ℕ) (C : Climbing makes nums ord m i low) where
+    pub climbed : m ≤ i → true ≡ allBelow (risesAt (standing makes nums) m ord) m
+    climbed l = holds-all _ m i (C .passed) l
+
+    module _ (l : i < m) (r : ℕ) (e : r ≡ nat ord i) where
+      pub no-row : m ≤ r → false ≡ allBelow (risesAt (standing makes nums) m ord) m
+      no-row h = fails-here _ m i (C .passed) l (ap (_&& leb (floor (standing makes nums) ord i) (standing makes nums (nat ord i))) (le-ltb (nat ord i) m (omega arith)))
+
+      module _ (v x : ℕ) (ev : v ≡ nat makes r) (ex : x ≡ nat nums v) where
+        stands : x * 65536 + r ≡ standing makes nums (nat ord i)
+        stands = rw (ex, ev, e)
+
+        pub too-low : x * 65536 + r < low → false ≡ allBelow (risesAt (standing makes nums) m ord) m
+        too-low h =
+            let s = stands in let f = C .next in
+            fails-here _ m i (C .passed) l
+            (ap (ltb (nat ord i) m &&_) (lt-leb (floor (standing makes nums) ord i) (standing makes nums (nat ord i)) (omega arith)) ∙ go (ltb (nat ord i) m))
+          where
+            go : (b : Bool) → (b && false) ≡ false
+            go true = refl
+            go false = refl
+
+        pub climbing-next : r < m → low ≤ x * 65536 + r → x < 65536 → r < 65536 → Climbing makes nums ord m (i + 1) (x * 65536 + r + 1)
+        climbing-next lr h lx k = let s = stands in let f = C .next in record {
+          passed = scan-next _ m i (C .passed) l (ap₂ _&&_ (lt-ltb (nat ord i) m (omega arith)) (le-leb (floor (standing makes nums) ord i) (standing makes nums (nat ord i)) (omega arith)));
+          next = rw (add-one i) (ap (_+ 1) stands);
+          small = omega arith;
+        }
+
+-- ── neighbours ──
+index-of : {w : ℕ} (l : List ℕ) → List·Memᴰ w l → (j : ℕ) × (j < length l) × (w ≡ nat l j)
+index-of (x ∷ xs) (List·Memᴰ·head q) = (0, omega arith, q)
+index-of (x ∷ xs) (List·Memᴰ·tail m) = let (j, l, e) = index-of xs m in (suc j, omega arith, e)
+
+module _ (d : ℕ → ℕ) where
+  rising-of : (x : ℕ) (xs : List ℕ) → ((i : ℕ) → i < length xs → Prec d (nat (x ∷ xs) i) (nat xs i)) → Rising d x xs
+  rising-of x [] h = tt
+  rising-of x (y ∷ ys) h = (h 0 (omega arith), rising-of y ys (λ i l. h (suc i) (omega arith)))
+
+  sorted-at : (l : List ℕ) → Sorted d l → (i : ℕ) → suc i < length l → Prec d (nat l i) (nat l (suc i))
+  sorted-at [] s i h = absurd (not-suc-le-zero h)
+  sorted-at (x ∷ []) s i h = absurd (lt-irrefl 1 (omega arith))
+  sorted-at (x ∷ y ∷ ys) s zero h = s .0 .0
+  sorted-at (x ∷ y ∷ ys) s (suc i) h = sorted-at (y ∷ ys) (s .1) i (omega arith)
+
+  -- with rows below 65536 the two parts of a standing are read apart
+  module _ (a b : ℕ) (la : a < 65536) (lb : b < 65536) where
+    stands-up : Prec d a b → d a * 65536 + a + 1 ≤ d b * 65536 + b
+    stands-up (inl p) = omega arith
+    stands-up (inr p) = omega arith
+
+    stands-down : d a * 65536 + a + 1 ≤ d b * 65536 + b → Prec d a b
+    stands-down h = go (ltb (d a) (d b)) refl
+      where
+        go : (c : Bool) → ltb (d a) (d b) ≡ c → Prec d a b
+        go true e = inl (ltb-true (d a) (d b) e)
+        go false e = let q = ltb-false (d a) (d b) e in inr (omega arith, omega arith)
+
+-- two tests that imply each other are one
+iff : (a b : Bool) → (a ≡ true → b ≡ true) → (b ≡ true → a ≡ true) → a ≡ b
+iff true b p q = sym (p refl)
+iff false true p q = q refl
+iff false false p q = refl
+
+module _ (t : Tables) (F : Formed t) (nums ord : List ℕ) (long : t .n ≤ length nums) (room : t .m ≤ length ord) where
+  -- ── the numbers ──
+  abbrev Numbered : Type 0
+  Numbered = (v : ℕ) → v < t .n → nat nums v ≡ number (net t) (t .n) v
+
+  -- the equations below n, over the numbers below n, are all of them
+  meets-all : ((v : ℕ) → v < t .n → rightAt (inputsOf t) nums v ≡ true) → Numbers (net t) (nat (take (t .n) nums))
+  meets-all h v = go (ltb v (t .n)) refl
+    where
+      off : (b : Bool) → isMade t v ≡ b → t .n ≤ v → 0 ≡ cond b (suc (greatest (map (nat (take (t .n) nums)) (inputsOf t v)))) 0
+      off true q k = let l = F .made-below v q in absurd (lt-irrefl v (omega arith))
+      off false q k = refl
+
+      go : (b : Bool) → ltb v (t .n) ≡ b → nat (take (t .n) nums) v ≡ numbering (net t) (nat (take (t .n) nums)) v
+      go true e =
+          let l = ltb-true v (t .n) e in
+          getD-take (t .n) nums v 0 l ∙ eqb-true (nat nums v) (above (nat nums) (inputsOf t v)) (h v l) ∙ sym (numbering-above t F (nat nums) v)
+          ∙ numbering-local (net t) (nat nums) (nat (take (t .n) nums)) v (λ i m. sym (getD-take (t .n) nums i 0 (F .inputs-below v i m)))
+      go false e =
+          let k = ltb-false v (t .n) e in let s = length-take-le (t .n) nums long in
+          List·getD-eq-default (take (t .n) nums) 0 (omega arith) ∙ off (isMade t v) refl k
+
+  module _ (right : (v : ℕ) → v < t .n → rightAt (inputsOf t) nums v ≡ true) where
+    ends-all : (v : ℕ) → able (inputsOf t) (t .n) v ≡ true
+    ends-all = numbers-end (net t) (lawful t) (t .n) (F .inputs-below) (F .made-below) (F .some) (nat (take (t .n) nums)) (meets-all right)
+
+    numbers-are : Numbered
+    numbers-are v l =
+        sym (getD-take (t .n) nums v 0 l)
+        ∙ numbers-unique (net t) (lawful t) (t .n) ends-all (nat (take (t .n) nums)) (number (net t) (t .n)) (meets-all right) (number-right (net t) (lawful t) (t .n) ends-all) v
+
+  -- ── the order ──
+  module _ (is : Numbered) where
+    stands-is : (r : ℕ) → r < t .m → standing (t .makes) nums r ≡ rank t r * 65536 + r
+    stands-is r l = ap (λ z. z * 65536 + r) (is (nat (t .makes) r) (F .row-makes r l))
+
+    few : t .m ≤ 65536
+    few = let a = F .rows in let b = F .few in omega arith
+
+    abbrev Rises : ℕ → Bool
+    Rises = risesAt (standing (t .makes) nums) (t .m) ord
+
+    module _ (up : (i : ℕ) → i < t .m → Rises i ≡ true) where
+      row-below : (i : ℕ) → i < t .m → nat ord i < t .m
+      row-below i l = ltb-true (nat ord i) (t .m) (and-left (ltb (nat ord i) (t .m)) _ (up i l))
+
+      neighbours : (i : ℕ) → suc i < t .m → Prec (rank t) (nat ord i) (nat ord (suc i))
+      neighbours i l =
+          let a = row-below i (omega arith) in let b = row-below (suc i) l in let f = few in
+          let h = leb-true (standing (t .makes) nums (nat ord i) + 1) (standing (t .makes) nums (nat ord (suc i))) (and-right (ltb (nat ord (suc i)) (t .m)) _ (up (suc i) l)) in
+          let x = stands-is (nat ord i) a in let y = stands-is (nat ord (suc i)) b in
+          stands-down (rank t) (nat ord i) (nat ord (suc i)) (omega arith) (omega arith) (omega arith)
+
+      order-is : take (t .m) ord ≡ order t
+      order-is = go (take (t .m) ord) (length-take-le (t .m) ord room) (λ i l. getD-take (t .m) ord i 0 l)
+        where
+          go : (l : List ℕ) → length l ≡ t .m → ((i : ℕ) → i < t .m → nat l i ≡ nat ord i) → l ≡ order t
+          go [] e same = order-unique t [] tt (λ r m. absurd (List·Memᴰ·not-nil m)) (λ r h. absurd (not-suc-le-zero (subst (λ z. r < z) (sym e) h)))
+          go (x ∷ xs) e same = order-checked t x xs
+              (rising-of (rank t) x xs (λ i l. rw (same i (omega arith), same (suc i) (omega arith)) (neighbours i (omega arith))))
+              (λ r m. let (j, l, q) = index-of (x ∷ xs) m in let a = same j (omega arith) in let b = row-below j (omega arith) in omega arith) e
+
+    order-rises : take (t .m) ord ≡ order t → (i : ℕ) → i < t .m → Rises i ≡ true
+    order-rises e i l = ap₂ _&&_ (lt-ltb (nat ord i) (t .m) (at i l)) (le-leb (floor (standing (t .makes) nums) ord i) (standing (t .makes) nums (nat ord i)) (above-floor i l))
+      where
+        same : (j : ℕ) → j < t .m → nat ord j ≡ nat (order t) j
+        same j h = sym (getD-take (t .m) ord j 0 h) ∙ ap (λ z. nat z j) e
+
+        at : (j : ℕ) → j < t .m → nat ord j < t .m
+        at j h =
+            let k = order-length t in let s = same j h in
+            let q = ltb-true (nat (order t) j) (t .m) (all-at (λ r. ltb r (t .m)) (order t) (all-of (λ r. ltb r (t .m)) (order t) (λ r m. lt-ltb r (t .m) (order-in t r m))) j 0 (omega arith)) in
+            omega arith
+
+        above-floor : (j : ℕ) → j < t .m → floor (standing (t .makes) nums) ord j ≤ standing (t .makes) nums (nat ord j)
+        above-floor zero h = omega arith
+        above-floor (suc j) h =
+            let k = order-length t in let f = few in
+            let a = at j (omega arith) in let b = at (suc j) h in
+            let x = stands-is (nat ord j) a in let y = stands-is (nat ord (suc j)) b in
+            let p = rw (← (same j (omega arith)), ← (same (suc j) h)) at (sorted-at (rank t) (order t) (order-sorted t) j (omega arith)) in
+            let u = stands-up (rank t) (nat ord j) (nat ord (suc j)) (omega arith) (omega arith) p in
+            omega arith
+
+  -- ── both ──
+  passes : allBelow (rightAt (inputsOf t) nums) (t .n) ≡ true → allBelow (risesAt (standing (t .makes) nums) (t .m) ord) (t .m) ≡ numbered t nums ord
+  passes e =
+      let right = allBelow-at (rightAt (inputsOf t) nums) (t .n) e in
+      iff (allBelow (risesAt (standing (t .makes) nums) (t .m) ord) (t .m)) (numbered t nums ord)
+      (λ q. numbered-of t nums ord (λ v l. ends-all right v) (numbers-are right) (order-is (numbers-are right) (allBelow-at (risesAt (standing (t .makes) nums) (t .m) ord) (t .m) q)))
+      (λ q. below-all (risesAt (standing (t .makes) nums) (t .m) ord) (t .m) (order-rises (numbers-are right) (numbered-order t nums ord q room)))
+
+  -- the paper's numbers meet the equations
+  fails : allBelow (rightAt (inputsOf t) nums) (t .n) ≡ false → false ≡ numbered t nums ord
+  fails e = go (numbered t nums ord) refl
+    where
+      go : (b : Bool) → numbered t nums ord ≡ b → false ≡ b
+      go true q =
+          let is = numbered-numbers t nums ord q in
+          let ends = ends-everywhere (net t) (lawful t) (t .n) (F .inputs-below) (F .made-below) (F .some) (numbered-ends t nums ord q) in
+          clash (below-all (rightAt (inputsOf t) nums) (t .n) (λ v l. eq-eqb (nat nums v) (above (nat nums) (inputsOf t v))
+          (is v l ∙ number-right (net t) (lawful t) (t .n) ends v ∙ numbering-local (net t) (number (net t) (t .n)) (nat nums) v (λ i m. sym (is i (F .inputs-below v i m))) ∙ numbering-above t F (nat nums) v))) e
+      go false q = refl
+
+  module _ (begins stops : List ℕ) (P : Parts t begins stops) where
+    same-test : allBelow (rightAt (partAt begins stops (t .vars)) nums) (t .n) ≡ allBelow (rightAt (inputsOf t) nums) (t .n)
+    same-test = ap (λ dep. allBelow (rightAt dep nums) (t .n)) (fun-ext (P .inputs))
+
+    pub eight-right : {a b : Bool} → a ≡ allBelow (rightAt (partAt begins stops (t .vars)) nums) (t .n) → a ≡ true → b ≡ allBelow (risesAt (standing (t .makes) nums) (t .m) ord) (t .m) → b ≡ numbered t nums ord
+    eight-right p e q = q ∙ passes (sym same-test ∙ sym p ∙ e)
+
+    pub eight-wrong : {a : Bool} → a ≡ allBelow (rightAt (partAt begins stops (t .vars)) nums) (t .n) → a ≡ false → false ≡ numbered t nums ord
+    eight-wrong p e = fails (sym same-test ∙ sym p ∙ e)

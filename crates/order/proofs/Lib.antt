@@ -1,0 +1,7 @@
+pub mod Bare
+pub mod Parted
+pub mod Visits
+pub mod Sweeps
+pub mod Links
+pub mod Ordered
+pub mod Eight

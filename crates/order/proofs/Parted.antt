@@ -1,0 +1,101 @@
+-- The rows of parts: what stands at a variable is what its maker's row says, so its part is its inputs. Assumes nothing.
+use Prim.Native.Nat.{ℕ, zero, suc, _+_, _-_, _≤_, _<_}
+use native.Mathlib.Nat.{lt-irrefl}
+use native.Mathlib.Omega.{arith}
+use mathlib.Core.Bool.{Bool, true, false, cond}
+use mathlib.Core.List.{List, [], _∷_, List·Memᴰ}
+use mathlib.Core.Path.{_≡_, refl, ap, ap₂, sym, _∙_, subst}
+use lib.Dec.{eqb, ltb}
+use lib.ListN.{length, take, drop}
+use lib.Seq.{slice, take-nil, getD-append-add, getD-drop}
+use borrow.Author.Tests.{ltb-true, ltb-false, ne-eqb}
+use Rattle.paper.specs.Lists.{nat, below, over}
+use Rattle.paper.specs.Tables.{Tables, part, rowOf, isMade}
+use Rattle.paper.proofs.Buffers.{length-below, over-at}
+use Rattle.tables.specs.Makers.{makerOf, Makers}
+use Rattle.order.specs.Formed.{Formed}
+use Rattle.order.specs.Numbering.{Clean, ofMaker, Parts, Parted}
+
+part-slice : (l : List ℕ) (a k : ℕ) → slice a (a + k) l ≡ take k (drop a l)
+part-slice l zero k = let z : 0 + k ≡ k = omega arith in rw z
+part-slice [] (suc a) k = ap (drop (suc a)) (take-nil (suc a + k)) ∙ sym (take-nil k)
+part-slice (x ∷ xs) (suc a) k = let z : suc a + k ≡ suc (a + k) = omega arith in rw z (part-slice xs a k)
+
+of-row : (r : ℕ) (column : List ℕ) → ofMaker (suc r) column ≡ nat column r
+of-row r column = let z : suc r - 1 ≡ r = omega arith in rw (ne-eqb (suc r) 0 (λ e. omega arith), z)
+
+-- where the part of the maker's row stops
+abbrev pub stopOf : List ℕ → List ℕ → ℕ → ℕ
+stopOf firsts counts maker = ofMaker maker firsts + ofMaker maker counts
+
+module _ (t : Tables) (F : Formed t) where
+  -- ── the maker of a variable ──
+  maker-is : (v : ℕ) → makerOf (t .m) (t .makes) v ≡ cond (isMade t v) (suc (rowOf t v)) 0
+  unfolding rowOf
+  maker-is v = refl
+
+  maker-le : (v : ℕ) → makerOf (t .m) (t .makes) v ≤ t .m
+  maker-le v = rw (maker-is v) (go (isMade t v) refl)
+    where
+      go : (b : Bool) → isMade t v ≡ b → cond b (suc (rowOf t v)) 0 ≤ t .m
+      go true e = ltb-true (rowOf t v) (t .m) e
+      go false e = omega arith
+
+  -- none beyond the variables
+  maker-out : (v : ℕ) → t .n ≤ v → makerOf (t .m) (t .makes) v ≡ 0
+  maker-out v h = maker-is v ∙ go (isMade t v) refl
+    where
+      go : (b : Bool) → isMade t v ≡ b → cond b (suc (rowOf t v)) 0 ≡ 0
+      go true e = let l = F .made-below v e in absurd (lt-irrefl v (omega arith))
+      go false e = refl
+
+  module _ (by : List ℕ) (M : Makers t by) where
+    pub by-le : (v : ℕ) → v < t .n → nat by v ≤ t .m
+    by-le v l = rw (M .at v l) (maker-le v)
+
+    -- where a part stops is small
+    pub stop-small : (v maker : ℕ) → v < t .n → maker ≡ nat by v → stopOf (t .firsts) (t .counts) maker ≤ 16384
+    stop-small v maker l p = rw (p ∙ M .at v l ∙ maker-is v) (go (isMade t v) refl)
+      where
+        go : (b : Bool) → isMade t v ≡ b → stopOf (t .firsts) (t .counts) (cond b (suc (rowOf t v)) 0) ≤ 16384
+        go true e = rw (of-row (rowOf t v) (t .firsts), of-row (rowOf t v) (t .counts)) (F .row-small (rowOf t v) (ltb-true (rowOf t v) (t .m) e))
+        go false e = omega arith
+
+    -- a row filled with what the makers say, over zeros
+    filled-at : (f : ℕ → ℕ) → f 0 ≡ 0 → (zeros : List ℕ) → Clean (t .n) zeros → (v : ℕ) → nat (over (t .n) (λ u. f (nat by u)) zeros) v ≡ f (makerOf (t .m) (t .makes) v)
+    filled-at f z zeros C v = go (ltb v (t .n)) refl
+      where
+        go : (b : Bool) → ltb v (t .n) ≡ b → nat (over (t .n) (λ u. f (nat by u)) zeros) v ≡ f (makerOf (t .m) (t .makes) v)
+        go true e = let l = ltb-true v (t .n) e in over-at (λ u. f (nat by u)) (t .n) zeros v 0 l ∙ ap f (M .at v l)
+        go false e =
+            let h = ltb-false v (t .n) e in
+            let long = length-below (λ u. f (nat by u)) (t .n) in
+            let s : v ≡ length (below (λ u. f (nat by u)) (t .n)) + (v - t .n) = omega arith in
+            ap (nat (over (t .n) (λ u. f (nat by u)) zeros)) s
+            ∙ getD-append-add (below (λ u. f (nat by u)) (t .n)) (drop (t .n) zeros) (v - t .n) 0
+            ∙ getD-drop (t .n) zeros (v - t .n) 0 ∙ C .at (t .n + (v - t .n)) ∙ sym (ap f (maker-out v h) ∙ z)
+
+    pub parts-of : (b₀ s₀ : List ℕ) → Clean (t .n) b₀ → Clean (t .n) s₀ → {b s : List ℕ} → b ≡ over (t .n) (λ u. ofMaker (nat by u) (t .firsts)) b₀
+        → s ≡ over (t .n) (λ u. stopOf (t .firsts) (t .counts) (nat by u)) s₀ → Parts t b s
+    parts-of b₀ s₀ B S {b} {s} eb es = record {
+      inside = λ v. rw (stops v) (inside v (isMade t v) refl);
+      inputs = λ v. ap₂ (λ x y. slice x y (t .vars)) (begins v) (stops v) ∙ inputs v (isMade t v) refl;
+    }
+      where
+        begins : (v : ℕ) → nat b v ≡ ofMaker (cond (isMade t v) (suc (rowOf t v)) 0) (t .firsts)
+        begins v = rw eb (filled-at (λ k. ofMaker k (t .firsts)) refl b₀ B v ∙ ap (λ k. ofMaker k (t .firsts)) (maker-is v))
+
+        stops : (v : ℕ) → nat s v ≡ stopOf (t .firsts) (t .counts) (cond (isMade t v) (suc (rowOf t v)) 0)
+        stops v = rw es (filled-at (stopOf (t .firsts) (t .counts)) refl s₀ S v ∙ ap (stopOf (t .firsts) (t .counts)) (maker-is v))
+
+        inside : (v : ℕ) (made : Bool) → isMade t v ≡ made → stopOf (t .firsts) (t .counts) (cond made (suc (rowOf t v)) 0) ≤ length (t .vars)
+        inside v true e = rw (of-row (rowOf t v) (t .firsts), of-row (rowOf t v) (t .counts)) (F .row-inside (rowOf t v) (ltb-true (rowOf t v) (t .m) e))
+        inside v false e = omega arith
+
+        inputs : (v : ℕ) (made : Bool) → isMade t v ≡ made
+            → slice (ofMaker (cond made (suc (rowOf t v)) 0) (t .firsts)) (stopOf (t .firsts) (t .counts) (cond made (suc (rowOf t v)) 0)) (t .vars) ≡ cond made (part t (rowOf t v) (t .vars)) []
+        inputs v true e = rw (of-row (rowOf t v) (t .firsts), of-row (rowOf t v) (t .counts)) (part-slice (t .vars) (nat (t .firsts) (rowOf t v)) (nat (t .counts) (rowOf t v)))
+        inputs v false e = refl
+
+  pub parted-of : {b s : List ℕ} → Parts t b s → Parted (t .n) b s (t .vars)
+  parted-of P = record { few = F .few; inside = P .inside; below = λ v i m. F .inputs-below v i (subst (List·Memᴰ i) (P .inputs v) m) }

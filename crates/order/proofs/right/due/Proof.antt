@@ -1,0 +1,121 @@
+-- The greater of `best` and of what the inputs that are left ask stays what all inputs ask. Assumes nothing.
+use Prim.Native.Nat.{_≤_, _-_}
+use mathlib.Core.List.{_∷_}
+use mathlib.Core.Path.{_≡_, ap₂}
+use native.Mathlib.Omega.{arith}
+use lib.ListN.{length}
+use lib.Seq.{slice}
+use borrow.Author.Needs.{needs}
+use Rattle.paper.specs.Lists.{nat}
+use Rattle.order.specs.Numbering.{partAt}
+use Rattle.order.proofs.Visits.{left-next, left-none}
+use Rattle.order.proofs.Eight.{Asking, asking-start, asking-end, asked-below, asking-next}
+use Rattle.order.proofs.right.due.Statement.{statement}
+use Rattle.order.proofs.right.due.Tie as tie
+
+abbrev Inv-loop : tie.InvT-loop
+Inv-loop v n begins stops vars nums stop best₀ i₀ best i = Asking n (nat nums) (partAt begins stops vars v) (slice i stop vars) best
+
+abbrev μ-loop : tie.MeasureT-loop
+μ-loop v n begins stops vars nums stop best₀ i₀ best i = stop - i
+
+mul-wide : tie.Need-mul-wide Inv-loop μ-loop
+mul-wide c = search needs
+
+element-copy-out-wide : tie.Need-element-copy-out-wide Inv-loop μ-loop
+element-copy-out-wide c =
+    let s = c .before .before in
+    omega (arith, s .pre .0 .few, s .pre .1 .0)
+
+wide-requires : tie.Need-wide-requires Inv-loop μ-loop
+wide-requires c κs = search needs
+
+mul-wide-2 : tie.Need-mul-wide-2 Inv-loop μ-loop
+mul-wide-2 c = search needs
+
+element-copy-out-wide-2 : tie.Need-element-copy-out-wide-2 Inv-loop μ-loop
+element-copy-out-wide-2 c =
+    let s = c .before .before .before .before in
+    omega (arith, s .pre .0 .few, s .pre .1 .0)
+
+wide-requires-2 : tie.Need-wide-requires-2 Inv-loop μ-loop
+wide-requires-2 c κs = search needs
+
+loop-holds : tie.Need-loop-holds Inv-loop μ-loop
+loop-holds c =
+    let wide = c .before .before .wide in let s = c .before .before .before .before .before .before in
+    asking-start _ _ _ _ (ap₂ (λ a b. slice a b (s .args .vars .now)) (c .wide2 .ensures .0) (wide .ensures .0)) (s .pre .0 .below _)
+
+-- the part stops inside the entries
+inside : (c : tie.At-loop Inv-loop μ-loop) → c .before .before .before .wide .result ≤ length (c .before .before .before .before .before .before .before .args .vars .now)
+inside c = omega (arith, c .before .before .before .wide .ensures .0, c .before .before .before .before .before .before .before .pre .0 .inside (c .before .before .before .before .before .before .before .args .v))
+
+mul-wide-3 : tie.Need-mul-wide-3 Inv-loop μ-loop
+mul-wide-3 c = search needs
+
+shared-slice-read-wide : tie.Need-shared-slice-read-wide Inv-loop μ-loop
+shared-slice-read-wide c =
+    let l = c .before .before in
+    omega (arith, inside (l), c .before .loop-test .taken)
+
+wide-requires-3 : tie.Need-wide-requires-3 Inv-loop μ-loop
+wide-requires-3 c κs = search needs
+
+mul-wide-4 : tie.Need-mul-wide-4 Inv-loop μ-loop
+mul-wide-4 c = search needs
+
+shared-slice-read-wide-2 : tie.Need-shared-slice-read-wide-2 Inv-loop μ-loop
+shared-slice-read-wide-2 c =
+    let loop-test = c .before .before .before .loop-test in let l = c .before .before .before .before in
+    let s = l .before .before .before .before .before .before .before in
+    omega (arith, asked-below _ _ _ _ _ _ _ (l .loop .inv) (left-next _ _ _ _ (loop-test .taken) (inside (l)) (c .before .wide3 .ensures .0)), s .pre .1 .1)
+
+wide-requires-4 : tie.Need-wide-requires-4 Inv-loop μ-loop
+wide-requires-4 c κs = search needs
+
+add-larger : tie.Need-add-larger Inv-loop μ-loop
+add-larger c = search needs
+
+larger-requires : tie.Need-larger-requires Inv-loop μ-loop
+larger-requires c κs = search needs
+
+add-i : tie.Need-add-i Inv-loop μ-loop
+add-i c = search needs
+
+loop-less : tie.Need-loop-less Inv-loop μ-loop
+loop-less c = search needs
+
+loop-again : tie.Need-loop-again Inv-loop μ-loop
+loop-again c =
+    let wide3 = c .before .before .before .wide3 in let loop-test = c .before .before .before .before .before .loop-test in
+    let l = c .before .before .before .before .before .before in
+    asking-next _ _ _ _ _ _ _ (l .loop .inv) (left-next _ _ _ _ (loop-test .taken) (inside (l)) (wide3 .ensures .0)) _ _ (c .before .wide4 .ensures .0) (c .before .wide4 .ensures .1) (c .larger .ensures)
+
+returns : tie.Need-returns Inv-loop μ-loop
+returns c = asking-end _ _ _ _ _ (c .before .loop .inv) (left-none _ _ _ (c .loop-test .left))
+
+pub due-spec : {M : Type 1} → statement M
+due-spec =
+    tie.close
+    (tie.spec
+    Inv-loop
+    μ-loop
+    mul-wide
+    element-copy-out-wide
+    wide-requires
+    mul-wide-2
+    element-copy-out-wide-2
+    wide-requires-2
+    loop-holds
+    mul-wide-3
+    shared-slice-read-wide
+    wide-requires-3
+    mul-wide-4
+    shared-slice-read-wide-2
+    wide-requires-4
+    add-larger
+    larger-requires
+    add-i
+    loop-less
+    loop-again
+    returns)

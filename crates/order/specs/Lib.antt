@@ -1,0 +1,4 @@
+pub mod Formed
+pub mod Numbering
+pub mod Chains
+pub mod Ascent

@@ -1,0 +1,97 @@
+-- Numbering by visits: what the scratch rows hold. Assumes nothing.
+use Prim.Native.Nat.{ℕ, suc, max, _+_, _-_, _≤_, _<_}
+use mathlib.Core.Bool.{Bool, cond}
+use mathlib.Core.List.{List, [], _∷_, List·Memᴰ}
+use mathlib.Core.Logic.{_⊎_}
+use mathlib.Core.Path.{_≡_}
+use lib.Dec.{eqb, leb}
+use lib.ListN.{length}
+use lib.Seq.{slice}
+use Rattle.paper.specs.Lists.{nat, size, firstFail}
+use Rattle.paper.specs.Net.{number}
+use Rattle.paper.specs.Tables.{Tables, net, inputsOf, ends}
+
+-- a row of zeros, at least n long
+pub record Clean (n : ℕ) (row : List ℕ) : Type 0 where
+  pub long : n ≤ length row
+  pub at : (i : ℕ) → nat row i ≡ 0
+
+-- the least number above those of all entries; 0 for none
+abbrev pub above : (ℕ → ℕ) → List ℕ → ℕ
+above f [] = 0
+above f (x ∷ xs) = max (suc (f x)) (above f xs)
+
+-- what the maker's row has in a column; 0 without a maker
+abbrev pub ofMaker : ℕ → List ℕ → ℕ
+ofMaker maker column = cond (eqb maker 0) 0 (nat column (maker - 1))
+
+-- ── each variable's part of the entries, in two rows: where it begins and where it stops ──
+abbrev pub partAt : List ℕ → List ℕ → List ℕ → ℕ → List ℕ
+partAt begins stops vars v = slice (nat begins v) (nat stops v) vars
+
+-- the parts are the variables' inputs
+pub record Parts (t : Tables) (begins stops : List ℕ) : Type 0 where
+  pub inside : (v : ℕ) → nat stops v ≤ length (t .vars)
+  pub inputs : (v : ℕ) → partAt begins stops (t .vars) v ≡ inputsOf t v
+
+-- the parts lie inside the entries, and hold variables
+pub record Parted (n : ℕ) (begins stops vars : List ℕ) : Type 0 where
+  pub few : n ≤ 4096
+  pub inside : (v : ℕ) → nat stops v ≤ length vars
+  pub below : (v i : ℕ) → List·Memᴰ i (partAt begins stops vars v) → i < n
+
+-- ── the state of a variable: 0 before its visit, 1 once that has begun, and its number and 2 once that has ended ──
+abbrev pub fresh : List ℕ → ℕ → Bool
+fresh state v = eqb (nat state v) 0
+
+abbrev pub ended : List ℕ → ℕ → Bool
+ended state v = leb 2 (nat state v)
+
+abbrev pub numberIn : List ℕ → ℕ → ℕ
+numberIn state v = nat state v - 2
+
+-- dep gives the inputs
+module _ (n : ℕ) (dep : ℕ → List ℕ) where
+  -- what has ended has its number, and so have its inputs
+  pub record Right (state : List ℕ) : Type 0 where
+    pub long : n ≤ length state
+    pub number : (u : ℕ) → 2 ≤ nat state u → nat state u ≡ 2 + above (numberIn state) (dep u)
+    pub inputs : (u : ℕ) → 2 ≤ nat state u → (i : ℕ) → List·Memᴰ i (dep u) → 2 ≤ nat state i
+    pub small : (u : ℕ) → 2 ≤ nat state u → nat state u < 2 + size (ended state) n
+
+  -- the visit of some input of u has begun and not ended
+  abbrev pub Held : List ℕ → ℕ → Type 0
+  Held state u = (i : ℕ) × List·Memᴰ i (dep u) × (nat state i ≡ 1)
+
+  -- a visit of v, which found r: what had begun is as it was, and a visit that it leaves open it leaves held
+  pub record Visited (v : ℕ) (before after : List ℕ) (r : ℕ) : Type 0 where
+    pub right : Right after
+    pub kept : (u : ℕ) → 0 < nat before u → nat after u ≡ nat before u
+    pub is : r ≡ nat after v
+    pub begun : 0 < r
+    pub stuck : (u : ℕ) → nat after u ≡ 1 → (nat before u ≡ 1) ⊎ ((r ≡ 1) × Held after u)
+
+  -- on the way, begun over the states `mid`: the inputs in `left` are still to be visited, and best is the greatest state of the others, from 1 up
+  pub record Going (v : ℕ) (left : List ℕ) (best : ℕ) (mid state : List ℕ) : Type 0 where
+    pub right : Right state
+    pub kept : (u : ℕ) → 0 < nat mid u → nat state u ≡ nat mid u
+    pub stuck : (u : ℕ) → nat state u ≡ 1 → nat mid u ≡ 1
+    pub rest : (w : ℕ) → List·Memᴰ w left → List·Memᴰ w (dep v)
+    pub passed : (w : ℕ) → List·Memᴰ w (dep v) → ((2 ≤ nat state w) × (nat state w ≤ best)) ⊎ List·Memᴰ w left
+    pub reached : (best ≡ 1) ⊎ ((w : ℕ) × List·Memᴰ w (dep v) × (2 ≤ nat state w) × (nat state w ≡ best))
+
+  -- the variables below v have been visited
+  pub record Swept (v : ℕ) (state : List ℕ) : Type 0 where
+    pub right : Right state
+    pub begun : (u : ℕ) → u < v → 0 < nat state u
+    pub held : (u : ℕ) → nat state u ≡ 1 → Held state u
+
+-- ── found ──
+-- the row holds two more than each variable's number
+pub record Numbered (t : Tables) (state : List ℕ) : Type 0 where
+  pub at : (v : ℕ) → v < t .n → nat state v ≡ 2 + number (net t) (t .n) v
+
+-- r is the least variable that can have no number, or n; with n the row holds the numbers
+pub record Found (t : Tables) (state : List ℕ) (r : ℕ) : Type 0 where
+  pub least : r ≡ firstFail (ends t) (t .n)
+  pub numbered : t .n ≤ r → Numbered t state

@@ -1,0 +1,121 @@
+// Which variables can have a topological number, and which: each is visited once, after what it is made from.
+use crate::parts::set_parts;
+use integers::wide;
+ghost use mathlib.Core.Path.{_≡_};
+ghost use Prim.Native.Nat.{ℕ, _≤_, _<_, max};
+ghost use lib.ListN.{length};
+ghost use Rattle.paper.specs.Lists.{firstFail};
+ghost use Rattle.tables.specs.Makers.{Makers};
+ghost use Rattle.order.specs.Formed.{bare, Formed};
+ghost use Rattle.order.specs.Numbering.{Clean, partAt, Parted, Right, Visited, Swept, ended, Found};
+
+// The larger of the two.
+pub fn larger(a: usize, b: usize) -> usize
+    ensures { λ r. ⌜ r ≡ max a b ⌝ }
+{
+    if a < b {
+        return b;
+    }
+    a
+}
+
+// The state of v after its visit: two more than its number, or 1 if it waits for itself or for one that does.
+fn visit(
+    v: usize,
+    n: usize,
+    begins: &[u16; 4096],
+    stops: &[u16; 4096],
+    vars: &[u16],
+    state: &mut [u16; 4096],
+) -> usize
+    requires parted { ⌜ Parted n (now begins) (now stops) (now vars) ⌝ }
+    requires there { ⌜ v < n ⌝ }
+    requires right { ⌜ Right n (partAt (now begins) (now stops) (now vars)) (now state) ⌝ }
+    ensures { λ r. ⌜ Visited n (partAt (now (begins .entry)) (now (stops .entry)) (now (vars .entry))) v (now (state .entry)) (now (state .exit)) r ⌝ }
+{
+    let known = wide(state[v]);
+    if known > 0 {
+        return known;
+    }
+    state[v] = 1;
+    let stop = wide(stops[v]);
+    let mut best = 1;
+    let mut i = wide(begins[v]);
+    while i < stop {
+        let found = visit(wide(vars[i]), n, begins, stops, vars, state);
+        if found == 1 {
+            return 1;
+        }
+        best = larger(best, found);
+        i += 1;
+    }
+    state[v] = (best + 1) as u16;
+    best + 1
+}
+
+// Every variable's state after all visits.
+fn visit_all(
+    n: usize,
+    begins: &[u16; 4096],
+    stops: &[u16; 4096],
+    vars: &[u16],
+    state: &mut [u16; 4096],
+)
+    requires parted { ⌜ Parted n (now begins) (now stops) (now vars) ⌝ }
+    requires clean { ⌜ Clean n (now state) ⌝ }
+    ensures { λ _. ⌜ Swept n (partAt (now (begins .entry)) (now (stops .entry)) (now (vars .entry))) n (now (state .exit)) ⌝ }
+{
+    let mut v = 0;
+    while v < n {
+        visit(v, n, begins, stops, vars, state);
+        v += 1;
+    }
+}
+
+// The least variable whose visit has not ended, or n.
+fn first_open(n: usize, state: &[u16; 4096]) -> usize
+    requires { ⌜ n ≤ 4096 ⌝ }
+    ensures { λ r. ⌜ r ≡ firstFail (ended (now (state .entry))) n ⌝ }
+{
+    let mut v = 0;
+    while v < n {
+        if wide(state[v]) < 2 {
+            return v;
+        }
+        v += 1;
+    }
+    v
+}
+
+// The least variable that can have no number, or n; with n, `state` holds two more than each variable's number.
+pub fn find_numbers(
+    n: usize,
+    m: usize,
+    makes: &[u16],
+    firsts: &[u16],
+    counts: &[u16],
+    vars: &[u16],
+    by: &[u16],
+    state: &mut [u16; 4096],
+) -> usize
+    requires formed { ⌜ Formed (bare n m (now makes) (now firsts) (now counts) (now vars)) ⌝ }
+    requires makers { ⌜ Makers (bare n m (now makes) (now firsts) (now counts) (now vars)) (now by) ⌝ }
+    requires clean { ⌜ Clean n (now state) ⌝ }
+    ensures { λ r. ⌜ Found (bare n m (now (makes .entry)) (now (firsts .entry)) (now (counts .entry)) (now (vars .entry))) (now (state .exit)) r ⌝ }
+{
+    let mut begins = [0u16; 4096];
+    let mut stops = [0u16; 4096];
+    set_parts(
+        n,
+        m,
+        makes,
+        firsts,
+        counts,
+        vars,
+        by,
+        &mut begins,
+        &mut stops,
+    );
+    visit_all(n, &begins, &stops, vars, state);
+    first_open(n, state)
+}
