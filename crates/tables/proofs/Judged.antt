@@ -1,5 +1,5 @@
--- The chain of checks 2 to 5, and what its answer says: an accepting one that the tables are sound, either that a caller may go on from it
--- with any check that comes next. Assumes nothing.
+-- The chain of checks 2 to 5: a caller may go on from its answer with any check that comes next, and where it accepts the tables are sound.
+-- Assumes nothing.
 use Prim.Native.Nat.{ℕ, pred}
 use native.Mathlib.Nat.{lt-irrefl}
 use native.Mathlib.Omega.{arith}

@@ -10,10 +10,12 @@ use Rattle.integers.specs.Integers.{eqZ}
 use Rattle.paper.specs.Lists.{all}
 use Rattle.tables.specs.Rows.{coefGood}
 
+-- not below the bound's negative, and not above the bound
 pub within : (z : ℤ) (b : ℕ) → (leZ (negsuc b) z && leZ z (pos (suc b))) ≡ leb (natAbs z) (suc b)
 within (pos n) b = refl
 within (negsuc n) b = and-true (leb n b) ∙ sym (leb·suc-suc n b)
 
+-- the kind picks the test of the part, or of each entry
 pub coefs-one-by-one : (kind : ℕ) (part : List ℤ)
     → all (coefGood kind) part ≡ cond (eqb kind 1) (all (λ c. leb (natAbs c) 1000) part) (all (λ c. eqZ c (pos 1)) part)
 coefs-one-by-one kind part = go (eqb kind 1)

@@ -1,6 +1,7 @@
--- The two tests before a row's part is handed out: there is such a row, and its part ends within e. Together they are those of the paper.
--- Assumes nothing.
+-- The part of a row as the code cuts it out, and the two tests before it is handed to whoever asks: there is such a row, and its part ends
+-- within e. Together they are those of the paper. Assumes nothing.
 use Prim.Native.Nat.{ℕ, _+_, _-_, _≤_, _<_}
+use native.Mathlib.Omega.{arith}
 use mathlib.Core.Bool.{Bool, true, cond, _&&_}
 use mathlib.Core.List.{List, [], _∷_}
 use mathlib.Core.Path.{_≡_, sym, ap, ap₂, _∙_}
@@ -10,8 +11,17 @@ use borrow.Author.Tests.{ltb-true, leb-true}
 use Rattle.paper.specs.Lists.{nat}
 use Rattle.paper.specs.Tables.{inputsAsked}
 use Rattle.paper.proofs.Lists.{and-left, and-right}
-use Rattle.paper.proofs.Scan.{part-same}
+use Rattle.paper.proofs.Scan.{part-length, part-same}
 use Rattle.tables.proofs.Tests.{in-two}
+
+-- by its two ends
+abbrev pub cut : {A : Type 0} → ℕ → ℕ → List A → List A
+cut first count l = take ((first + count) - first) (drop first l)
+
+pub cut-length : {A : Type 0} (first count : ℕ) (l : List A) → first + count ≤ length l → length (cut first count l) ≡ count
+cut-length first count l h =
+    let same : (first + count) - first ≡ count = omega arith in
+    ap (λ k. length (take k (drop first l))) same ∙ part-length l first count h
 
 module _ (m e : ℕ) (firsts counts vars : List ℕ) (row : ℕ) where
   abbrev there : Bool
@@ -29,10 +39,10 @@ module _ (m e : ℕ) (firsts counts vars : List ℕ) (row : ℕ) where
   part-inside end h = leb-true _ _ (and-right (leb end e) (leb end (length vars)) h)
 
   pub asked : (first count : ℕ) → first ≡ nat firsts row → count ≡ nat counts row → (a b : Bool) → there ≡ a → inside (first + count) ≡ b
-      → cond (a && b) (take ((first + count) - first) (drop first vars)) [] ≡ inputsAsked m e firsts counts vars row
+      → cond (a && b) (cut first count vars) [] ≡ inputsAsked m e firsts counts vars row
   asked first count p q a b t i =
       let end = nat firsts row + nat counts row in
-      ap₂ (λ x y. cond (x && y) (take ((first + count) - first) (drop first vars)) []) (sym t) (sym i)
+      ap₂ (λ x y. cond (x && y) (cut first count vars) []) (sym t) (sym i)
       ∙ ap₂ (λ k l. cond (there && inside k) l []) (ap₂ _+_ p q) (part-same vars first count (nat firsts row) (nat counts row) p q)
       ∙ ap (λ x. cond x (take (nat counts row) (drop (nat firsts row) vars)) [])
       (sym (in-two (ltb row m) (ltb row (length firsts) ∷ ltb row (length counts) ∷ []) (leb end e) (leb end (length vars) ∷ [])))

@@ -1,22 +1,23 @@
 -- Check 3: how many inputs each kind takes, kind by kind; a part whose variables are all below n; a row by its five tests. Assumes nothing.
-use Prim.Native.Nat.{ℕ, suc, _+_, _-_, _≤_, _<_}
+use Prim.Native.Nat.{ℕ, suc, _+_, _≤_, _<_}
 use native.Mathlib.Omega.{arith}
 use mathlib.Core.Logic.{_≢_}
 use mathlib.Core.Bool.{Bool, true, false, not, _&&_, and-true, and-false}
 use mathlib.Core.List.{List, [], _∷_}
 use mathlib.Core.Path.{_≡_, refl, sym, ap, ap₂, _∙_}
 use lib.Dec.{eqb, leb, ltb}
-use lib.ListN.{length, take, drop}
+use lib.ListN.{length, take}
 use borrow.Author.Tests.{ltb-true, ltb-false, leb-true, eqb-true, eqb-false, ne-eqb}
 use Rattle.paper.specs.Lists.{all, between, total, nat, firstFail}
 use Rattle.paper.specs.Tables.{Tables}
 use Rattle.paper.specs.Checks.{arity, shapeGood}
 use Rattle.paper.proofs.Lists.{clash, and-left, and-right, each, all-at}
 use Rattle.paper.proofs.Least.{firstFail-fails, firstFail-before}
-use Rattle.paper.proofs.Scan.{part-length, part-same}
+use Rattle.paper.proofs.Scan.{part-same}
 use Rattle.paper.proofs.Verdicts.{Past, past-held}
 use Rattle.tables.specs.Rows.{PartsInside, AllBelow}
 use Rattle.tables.proofs.Tests.{second-last}
+use Rattle.tables.proofs.Parts.{cut, cut-length}
 
 -- ── how many inputs ──
 twice : (b : Bool) → b ≡ (b && true && true)
@@ -68,21 +69,16 @@ all-first p l k e = go (ltb (firstFail good k) k) refl (all p l) refl
     go false q a h = let high = ltb-false (firstFail good k) k q in sym h ∙ all-each p l (λ i low. firstFail-before good k i (omega arith))
 
 -- ── a row, as the code reads it ──
--- its part: the code cuts it out by its two ends
-abbrev pub cut : ℕ → ℕ → List ℕ → List ℕ
-cut first count vars = take ((first + count) - first) (drop first vars)
-
 pub cut-known : (n first count : ℕ) (vars : List ℕ) → first + count ≤ length vars
     → all (λ v. ltb v n) (cut first count vars) ≡ not (ltb (firstFail (λ i. ltb (nat (cut first count vars) i) n) count) count)
-cut-known n first count vars h =
-    let same : (first + count) - first ≡ count = omega arith in
-    all-first (λ v. ltb v n) (cut first count vars) count (ap (λ k. length (take k (drop first vars))) same ∙ part-length vars first count h)
+cut-known n first count vars h = all-first (λ v. ltb v n) (cut first count vars) count (cut-length first count vars h)
 
 -- the test before the part is looked at: `before` entries have gone to the rows before, and `suits` says whether the count suits the kind
 abbrev pub placed : Tables → ℕ → Bool → ℕ → ℕ → ℕ → Bool
 placed t made suits first count before = ltb made (t .n) && suits && eqb first before && leb (first + count) (t .e)
 
-pub placed-facts : (t : Tables) (made : ℕ) (suits : Bool) (first count before : ℕ) → placed t made suits first count before ≡ true → (first ≡ before) × (first + count ≤ t .e)
+pub placed-facts : (t : Tables) (made : ℕ) (suits : Bool) (first count before : ℕ) → placed t made suits first count before ≡ true
+    → (first ≡ before) × (first + count ≤ t .e)
 placed-facts t made suits first count before h =
     let front = ltb made (t .n) && suits in let at = eqb first before in let ends = leb (first + count) (t .e) in
     (eqb-true first before (and-right front at (and-left (front && at) ends h)), leb-true (first + count) (t .e) (and-right (front && at) ends h))

@@ -12,7 +12,8 @@ use Rattle.paper.specs.Tables.{Tables}
 use Rattle.paper.specs.Checks.{shapeGood}
 use Rattle.paper.proofs.Scan.{Scan, scan-start, scan-next, scan-found, scan-all, and-on, and-off, total-next}
 use Rattle.tables.specs.Rows.{shapeRows}
-use Rattle.tables.proofs.Shapes.{cut, cut-known, placed, placed-facts, placed-shape}
+use Rattle.tables.proofs.Parts.{cut}
+use Rattle.tables.proofs.Shapes.{cut-known, placed, placed-facts, placed-shape}
 use Rattle.tables.proofs.shape.first_bad_shape.Statement.{statement}
 use Rattle.tables.proofs.shape.first_bad_shape.Tie as tie
 

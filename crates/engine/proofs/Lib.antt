@@ -1,0 +1,5 @@
+pub mod Lengths
+pub mod Judging
+pub mod Fills
+pub mod Walk
+pub mod Record

@@ -1,0 +1,93 @@
+-- A refusal has written nothing; an acceptance is met field by field by what `fill_model` leaves. Assumes nothing.
+use native.Mathlib.Nat.{le-refl}
+use native.Mathlib.Omega.{arith}
+use mathlib.Core.Path.{_≡_, refl, sym, ap, _∙_}
+use Rattle.paper.specs.Checks.{accepted, refused}
+use Rattle.paper.specs.Calls.{BuildLent, buildVerdict}
+use Rattle.paper.proofs.Outcomes.{build-meets}
+use Rattle.paper.proofs.Sizes.{Sized}
+use Rattle.paper.proofs.Known.{build-known}
+use Rattle.tables.proofs.Judged.{accepted-is, refused-is}
+use Rattle.order.proofs.Sweeps.{clean-new}
+use Rattle.engine.specs.Lent.{toBuild}
+use Rattle.engine.specs.Left.{answerIn}
+use Rattle.engine.proofs.Judging.{any-session, fitting}
+use borrow.Author.Needs.{needs}
+use Rattle.engine.proofs.building.build_core.Statement.{statement}
+use Rattle.engine.proofs.building.build_core.Tie as tie
+
+abbrev lent : tie.Start → BuildLent
+lent s =
+    let a = s .args in
+    toBuild (a .session .kept) (a .session .evaluations) (a .n) (a .m) (a .e) (a .kinds .now) (a .makes .now) (a .params .now) (a .firsts .now) (a .counts .now) (a .vars .now) (a .coefs .now) (a .starts .now) (a .numbers .now) (a .order .now) (a .stored .now)
+
+passed : (c : tie.After-enum-told) → buildVerdict (lent (c .before .before .before .before .before .before .before .before .before .before .before .before .before .before)) ≡ accepted
+passed c = let said = c .enum-told .given in any-session (lent (c .before .before .before .before .before .before .before .before .before .before .before .before .before .before)) (record { kept = 0; evaluations = 0 }) ∙ accepted-is 0 (said .0 .0) _ (sym (c .before .before .judge-build .ensures .verdict) ∙ said .1)
+
+few : (c : tie.After-enum-told) → Sized (lent (c .before .before .before .before .before .before .before .before .before .before .before .before .before .before) .tables)
+few c = let l = lent (c .before .before .before .before .before .before .before .before .before .before .before .before .before .before) in fitting l (build-known l (passed c) .fits) .held
+
+judge-build-requires : tie.Need-judge-build-requires
+judge-build-requires c κs =
+    clean-new 4096 4096 (le-refl 4096)
+
+enum-told : tie.Need-enum-told
+enum-told c = search needs
+
+enum-told-2 : tie.Need-enum-told-2
+enum-told-2 c = search needs
+
+same-length : tie.Need-same-length
+same-length c = search needs
+
+same-length-2 : tie.Need-same-length-2
+same-length-2 c = search needs
+
+same-length-3 : tie.Need-same-length-3
+same-length-3 c = search needs
+
+returns : tie.Need-returns
+returns c =
+    let s = c .before .before .before .before .before .before .before .before .before .before .before .before .before .before in let l = lent s in let said = c .enum-told2 .given in let v = any-session l (record { kept = 0; evaluations = 0 }) ∙ refused-is 0 _ _ _ (sym (c .before .before .judge-build .ensures .verdict) ∙ said .1) in
+    build-meets l _ (refused (said .0 .0) (said .0 .1 .0)) v (ap answerIn (said .1)) refl refl refl refl
+
+fill-model-requires : tie.Need-fill-model-requires
+fill-model-requires c κs =
+    let l = lent (c .before .before .before .before .before .before .before .before .before .before .before .before .before .before .before .before .before .before) in let said = c .before .before .before .before .enum-told .given in let judged = c .before .before .before .before .before .before .judge-build .ensures in
+    let v = accepted-is 0 (said .0 .0) _ (sym (judged .verdict) ∙ said .1) in
+    record { verdict = v; numbered = judged .numbered v }
+
+cast-evaluations : tie.Need-cast-evaluations
+cast-evaluations c = let z = few (c .before .before .before .before .before .before .before .before .before .before) in omega (arith, z .m-most, z .n-most)
+
+same-length-4 : tie.Need-same-length-4
+same-length-4 c = search needs
+
+same-length-5 : tie.Need-same-length-5
+same-length-5 c = search needs
+
+same-length-6 : tie.Need-same-length-6
+same-length-6 c = search needs
+
+returns-2 : tie.Need-returns-2
+returns-2 c =
+    let e = c .before .before .before .before .before .before .before .before .before .before in
+    build-meets (lent (e .before .before .before .before .before .before .before .before .before .before .before .before .before .before)) _ accepted (passed e) refl refl (c .before .before .before .before .before .fill-model .ensures .0) (c .before .before .before .before .before .fill-model .ensures .1 .0) (c .before .before .before .before .before .fill-model .ensures .1 .1)
+
+pub build-core-spec : {M : Type 1} → statement M
+build-core-spec =
+    tie.close
+    (tie.spec
+    judge-build-requires
+    enum-told
+    enum-told-2
+    same-length
+    same-length-2
+    same-length-3
+    returns
+    fill-model-requires
+    cast-evaluations
+    same-length-4
+    same-length-5
+    same-length-6
+    returns-2)

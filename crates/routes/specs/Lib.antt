@@ -1,0 +1,4 @@
+pub mod Rows
+pub mod Routed
+pub mod Reach
+pub mod Work

@@ -1,0 +1,11 @@
+// Values worked out: of one row, of all rows along the order, and by each of the three routes.
+mod afresh;
+mod change;
+mod count;
+mod row;
+mod sweep;
+
+pub use afresh::work_out;
+pub use count::evaluations;
+pub use row::row_value;
+pub use sweep::input_to_output;
