@@ -6,7 +6,7 @@ use native.Mathlib.Numerals.{add-one}
 use native.Mathlib.Omega.{arith}
 use mathlib.Core.Bool.{Bool, true, false, cond, _&&_}
 use mathlib.Core.List.{List, [], _∷_, map, List·Memᴰ, List·Memᴰ·head, List·Memᴰ·tail, List·Memᴰ·not-nil}
-use mathlib.Core.Logic.{inl, inr}
+use mathlib.Core.Logic.{inl, inr, _≢_}
 use mathlib.Core.Path.{_≡_, refl, ap, ap₂, sym, _∙_, subst, fun-ext}
 use lib.Dec.{leb, ltb}
 use lib.ListN.{length, take, List·getD-eq-default}
@@ -25,8 +25,9 @@ use Rattle.paper.proofs.Circle.{numbers-end, ends-everywhere}
 use Rattle.paper.proofs.Order.{Prec, Sorted, Rising, rank, order-sorted, order-in, order-length, order-unique, order-checked}
 use Rattle.paper.proofs.Eight.{numbered-ends, numbered-numbers, numbered-order, numbered-of}
 use Rattle.order.specs.Formed.{Formed}
-use Rattle.order.specs.Numbering.{above, partAt, Parts}
+use Rattle.order.specs.Numbering.{above, partAt}
 use Rattle.order.specs.Ascent.{rightAt, standing, floor, risesAt}
+use Rattle.order.proofs.Parted.{Parts}
 use Rattle.order.proofs.Sweeps.{numbering-above}
 
 -- ── the number that the inputs' numbers ask: those in `left` are still to be looked at ──
@@ -60,6 +61,14 @@ module _ (p : ℕ → Bool) (m i : ℕ) (S : Scan p m i) where
 
   pub holds-all : m ≤ i → true ≡ allBelow p m
   holds-all l = sym (below-all p m (λ j h. S .good j (omega arith)))
+
+-- ── the pass over the numbers ──
+module _ (dep : ℕ → List ℕ) (nums : List ℕ) (n v x y : ℕ) (S : Scan (rightAt dep nums) n v) (l : v < n) (ex : x ≡ nat nums v) (ey : y ≡ above (nat nums) (dep v)) where
+  pub right-next : x ≡ y → Scan (rightAt dep nums) n (v + 1)
+  right-next e = scan-next (rightAt dep nums) n v S l (eq-eqb (nat nums v) (above (nat nums) (dep v)) (sym ex ∙ e ∙ ey))
+
+  pub wrong-here : x ≢ y → false ≡ allBelow (rightAt dep nums) n
+  wrong-here ne = fails-here (rightAt dep nums) n v S l (ne-eqb (nat nums v) (above (nat nums) (dep v)) (λ e. ne (ex ∙ e ∙ sym ey)))
 
 -- ── the pass over the order: all places passed rise, and the next must reach `low` ──
 pub record Climbing (makes nums ord : List ℕ) (m i low : ℕ) : Type 0 where
@@ -95,7 +104,8 @@ module _ (makes nums ord : List ℕ) (m : ℕ) where
 
         pub climbing-next : r < m → low ≤ x * 65536 + r → x < 65536 → r < 65536 → Climbing makes nums ord m (i + 1) (x * 65536 + r + 1)
         climbing-next lr h lx k = let s = stands in let f = C .next in record {
-          passed = scan-next _ m i (C .passed) l (ap₂ _&&_ (lt-ltb (nat ord i) m (omega arith)) (le-leb (floor (standing makes nums) ord i) (standing makes nums (nat ord i)) (omega arith)));
+          passed = scan-next _ m i (C .passed) l
+              (ap₂ _&&_ (lt-ltb (nat ord i) m (omega arith)) (le-leb (floor (standing makes nums) ord i) (standing makes nums (nat ord i)) (omega arith)));
           next = rw (add-one i) (ap (_+ 1) stands);
           small = omega arith;
         }
@@ -206,7 +216,8 @@ module _ (t : Tables) (F : Formed t) (nums ord : List ℕ) (long : t .n ≤ leng
         at : (j : ℕ) → j < t .m → nat ord j < t .m
         at j h =
             let k = order-length t in let s = same j h in
-            let q = ltb-true (nat (order t) j) (t .m) (all-at (λ r. ltb r (t .m)) (order t) (all-of (λ r. ltb r (t .m)) (order t) (λ r m. lt-ltb r (t .m) (order-in t r m))) j 0 (omega arith)) in
+            let rows = all-of (λ r. ltb r (t .m)) (order t) (λ r m. lt-ltb r (t .m) (order-in t r m)) in
+            let q = ltb-true (nat (order t) j) (t .m) (all-at (λ r. ltb r (t .m)) (order t) rows j 0 (omega arith)) in
             omega arith
 
         above-floor : (j : ℕ) → j < t .m → floor (standing (t .makes) nums) ord j ≤ standing (t .makes) nums (nat ord j)
@@ -224,7 +235,8 @@ module _ (t : Tables) (F : Formed t) (nums ord : List ℕ) (long : t .n ≤ leng
   passes e =
       let right = allBelow-at (rightAt (inputsOf t) nums) (t .n) e in
       iff (allBelow (risesAt (standing (t .makes) nums) (t .m) ord) (t .m)) (numbered t nums ord)
-      (λ q. numbered-of t nums ord (λ v l. ends-all right v) (numbers-are right) (order-is (numbers-are right) (allBelow-at (risesAt (standing (t .makes) nums) (t .m) ord) (t .m) q)))
+      (λ q. numbered-of t nums ord (λ v l. ends-all right v) (numbers-are right)
+      (order-is (numbers-are right) (allBelow-at (risesAt (standing (t .makes) nums) (t .m) ord) (t .m) q)))
       (λ q. below-all (risesAt (standing (t .makes) nums) (t .m) ord) (t .m) (order-rises (numbers-are right) (numbered-order t nums ord q room)))
 
   -- the paper's numbers meet the equations
@@ -236,14 +248,16 @@ module _ (t : Tables) (F : Formed t) (nums ord : List ℕ) (long : t .n ≤ leng
           let is = numbered-numbers t nums ord q in
           let ends = ends-everywhere (net t) (lawful t) (t .n) (F .inputs-below) (F .made-below) (F .some) (numbered-ends t nums ord q) in
           clash (below-all (rightAt (inputsOf t) nums) (t .n) (λ v l. eq-eqb (nat nums v) (above (nat nums) (inputsOf t v))
-          (is v l ∙ number-right (net t) (lawful t) (t .n) ends v ∙ numbering-local (net t) (number (net t) (t .n)) (nat nums) v (λ i m. sym (is i (F .inputs-below v i m))) ∙ numbering-above t F (nat nums) v))) e
+          (is v l ∙ number-right (net t) (lawful t) (t .n) ends v
+          ∙ numbering-local (net t) (number (net t) (t .n)) (nat nums) v (λ i m. sym (is i (F .inputs-below v i m))) ∙ numbering-above t F (nat nums) v))) e
       go false q = refl
 
   module _ (begins stops : List ℕ) (P : Parts t begins stops) where
     same-test : allBelow (rightAt (partAt begins stops (t .vars)) nums) (t .n) ≡ allBelow (rightAt (inputsOf t) nums) (t .n)
     same-test = ap (λ dep. allBelow (rightAt dep nums) (t .n)) (fun-ext (P .inputs))
 
-    pub eight-right : {a b : Bool} → a ≡ allBelow (rightAt (partAt begins stops (t .vars)) nums) (t .n) → a ≡ true → b ≡ allBelow (risesAt (standing (t .makes) nums) (t .m) ord) (t .m) → b ≡ numbered t nums ord
+    pub eight-right : {a b : Bool} → a ≡ allBelow (rightAt (partAt begins stops (t .vars)) nums) (t .n) → a ≡ true
+        → b ≡ allBelow (risesAt (standing (t .makes) nums) (t .m) ord) (t .m) → b ≡ numbered t nums ord
     eight-right p e q = q ∙ passes (sym same-test ∙ sym p ∙ e)
 
     pub eight-wrong : {a : Bool} → a ≡ allBelow (rightAt (partAt begins stops (t .vars)) nums) (t .n) → a ≡ false → false ≡ numbered t nums ord

@@ -5,28 +5,31 @@ use native.Mathlib.Omega.{arith}
 use mathlib.Core.Bool.{Bool, true, false, cond}
 use mathlib.Core.List.{List, [], _∷_, List·Memᴰ}
 use mathlib.Core.Path.{_≡_, refl, ap, ap₂, sym, _∙_, subst}
-use lib.Dec.{eqb, ltb}
+use lib.Dec.{ltb}
 use lib.ListN.{length, take, drop}
 use lib.Seq.{slice, take-nil, getD-append-add, getD-drop}
 use borrow.Author.Tests.{ltb-true, ltb-false, ne-eqb}
 use Rattle.paper.specs.Lists.{nat, below, over}
-use Rattle.paper.specs.Tables.{Tables, part, rowOf, isMade}
+use Rattle.paper.specs.Tables.{Tables, part, rowOf, isMade, inputsOf}
 use Rattle.paper.proofs.Buffers.{length-below, over-at}
 use Rattle.tables.specs.Makers.{makerOf, Makers}
 use Rattle.order.specs.Formed.{Formed}
-use Rattle.order.specs.Numbering.{Clean, ofMaker, Parts, Parted}
+use Rattle.order.specs.Numbering.{Clean, ofMaker, stopOf, partAt, Columns, Parted}
 
+-- a part is a slice
 part-slice : (l : List ℕ) (a k : ℕ) → slice a (a + k) l ≡ take k (drop a l)
 part-slice l zero k = let z : 0 + k ≡ k = omega arith in rw z
 part-slice [] (suc a) k = ap (drop (suc a)) (take-nil (suc a + k)) ∙ sym (take-nil k)
 part-slice (x ∷ xs) (suc a) k = let z : suc a + k ≡ suc (a + k) = omega arith in rw z (part-slice xs a k)
 
+-- a maker is one more than its row
 of-row : (r : ℕ) (column : List ℕ) → ofMaker (suc r) column ≡ nat column r
 of-row r column = let z : suc r - 1 ≡ r = omega arith in rw (ne-eqb (suc r) 0 (λ e. omega arith), z)
 
--- where the part of the maker's row stops
-abbrev pub stopOf : List ℕ → List ℕ → ℕ → ℕ
-stopOf firsts counts maker = ofMaker maker firsts + ofMaker maker counts
+-- the parts are the variables' inputs
+pub record Parts (t : Tables) (begins stops : List ℕ) : Type 0 where
+  pub inside : (v : ℕ) → nat stops v ≤ length (t .vars)
+  pub inputs : (v : ℕ) → partAt begins stops (t .vars) v ≡ inputsOf t v
 
 module _ (t : Tables) (F : Formed t) where
   -- ── the maker of a variable ──
@@ -50,16 +53,24 @@ module _ (t : Tables) (F : Formed t) where
       go false e = refl
 
   module _ (by : List ℕ) (M : Makers t by) where
-    pub by-le : (v : ℕ) → v < t .n → nat by v ≤ t .m
+    by-le : (v : ℕ) → v < t .n → nat by v ≤ t .m
     by-le v l = rw (M .at v l) (maker-le v)
 
-    -- where a part stops is small
-    pub stop-small : (v maker : ℕ) → v < t .n → maker ≡ nat by v → stopOf (t .firsts) (t .counts) maker ≤ 16384
-    stop-small v maker l p = rw (p ∙ M .at v l ∙ maker-is v) (go (isMade t v) refl)
+    stop-small : (v : ℕ) → v < t .n → stopOf (t .firsts) (t .counts) (nat by v) ≤ 16384
+    stop-small v l = rw (M .at v l ∙ maker-is v) (go (isMade t v) refl)
       where
         go : (b : Bool) → isMade t v ≡ b → stopOf (t .firsts) (t .counts) (cond b (suc (rowOf t v)) 0) ≤ 16384
         go true e = rw (of-row (rowOf t v) (t .firsts), of-row (rowOf t v) (t .counts)) (F .row-small (rowOf t v) (ltb-true (rowOf t v) (t .m) e))
         go false e = omega arith
+
+    pub columns-of : Columns (t .n) by (t .firsts) (t .counts)
+    columns-of = record {
+      few = F .few;
+      long = M .long;
+      first = λ v l. let k = by-le v l in let h = F .firsts in omega arith;
+      count = λ v l. let k = by-le v l in let h = F .counts in omega arith;
+      small = stop-small;
+    }
 
     -- a row filled with what the makers say, over zeros
     filled-at : (f : ℕ → ℕ) → f 0 ≡ 0 → (zeros : List ℕ) → Clean (t .n) zeros → (v : ℕ) → nat (over (t .n) (λ u. f (nat by u)) zeros) v ≡ f (makerOf (t .m) (t .makes) v)
@@ -75,9 +86,9 @@ module _ (t : Tables) (F : Formed t) where
             ∙ getD-append-add (below (λ u. f (nat by u)) (t .n)) (drop (t .n) zeros) (v - t .n) 0
             ∙ getD-drop (t .n) zeros (v - t .n) 0 ∙ C .at (t .n + (v - t .n)) ∙ sym (ap f (maker-out v h) ∙ z)
 
-    pub parts-of : (b₀ s₀ : List ℕ) → Clean (t .n) b₀ → Clean (t .n) s₀ → {b s : List ℕ} → b ≡ over (t .n) (λ u. ofMaker (nat by u) (t .firsts)) b₀
+    pub parts-of : {b₀ s₀ b s : List ℕ} → Clean (t .n) b₀ → Clean (t .n) s₀ → b ≡ over (t .n) (λ u. ofMaker (nat by u) (t .firsts)) b₀
         → s ≡ over (t .n) (λ u. stopOf (t .firsts) (t .counts) (nat by u)) s₀ → Parts t b s
-    parts-of b₀ s₀ B S {b} {s} eb es = record {
+    parts-of {b₀} {s₀} {b} {s} B S eb es = record {
       inside = λ v. rw (stops v) (inside v (isMade t v) refl);
       inputs = λ v. ap₂ (λ x y. slice x y (t .vars)) (begins v) (stops v) ∙ inputs v (isMade t v) refl;
     }
@@ -93,7 +104,8 @@ module _ (t : Tables) (F : Formed t) where
         inside v false e = omega arith
 
         inputs : (v : ℕ) (made : Bool) → isMade t v ≡ made
-            → slice (ofMaker (cond made (suc (rowOf t v)) 0) (t .firsts)) (stopOf (t .firsts) (t .counts) (cond made (suc (rowOf t v)) 0)) (t .vars) ≡ cond made (part t (rowOf t v) (t .vars)) []
+            → slice (ofMaker (cond made (suc (rowOf t v)) 0) (t .firsts)) (stopOf (t .firsts) (t .counts) (cond made (suc (rowOf t v)) 0)) (t .vars)
+            ≡ cond made (part t (rowOf t v) (t .vars)) []
         inputs v true e = rw (of-row (rowOf t v) (t .firsts), of-row (rowOf t v) (t .counts)) (part-slice (t .vars) (nat (t .firsts) (rowOf t v)) (nat (t .counts) (rowOf t v)))
         inputs v false e = refl
 

@@ -19,7 +19,8 @@ use Rattle.paper.proofs.Lawful.{lawful}
 use Rattle.paper.proofs.Numbers.{Numbers, number-right, numbers-unique}
 use Rattle.paper.proofs.Circle.{numbers-end, has-able}
 use Rattle.order.specs.Formed.{Formed}
-use Rattle.order.specs.Numbering.{Clean, above, partAt, Parts, ended, numberIn, Visited, Swept, Found}
+use Rattle.order.specs.Numbering.{Clean, above, partAt, ended, numberIn, Visited, Swept, Found}
+use Rattle.order.proofs.Parted.{Parts}
 
 -- a new row is clean
 pub clean-new : (n k : ℕ) → n ≤ k → Clean n (replicate k 0)
@@ -50,7 +51,7 @@ module _ (n : ℕ) (dep : ℕ → List ℕ) where
     where
       go : (u : ℕ) → u < v + 1 → (b : Bool) → ltb u v ≡ b → 0 < nat after u
       go u l true e = let b = S .begun u (ltb-true u v e) in let k = W .kept u b in omega arith
-      go u l false e = let x = ltb-false u v e in let s : u ≡ v = omega arith in let b = W .begun in let k = W .is in let y : nat after u ≡ nat after v = ap (nat after) s in omega arith
+      go u l false e = let x = ltb-false u v e in let s : v ≡ u = omega arith in subst (λ z. 0 < nat after z) s (rw (← (W .is)) (W .begun))
 
 -- ── the paper's sentence, where a made variable has inputs ──
 above-greatest : (f : ℕ → ℕ) (xs : List ℕ) → 1 ≤ length xs → suc (greatest (map f xs)) ≡ above f xs
@@ -64,8 +65,8 @@ numbering-above t F f v = go (isMade t v) refl
     go : (b : Bool) → isMade t v ≡ b → cond b (suc (greatest (map f (cond b (part t (rowOf t v) (t .vars)) [])))) 0 ≡ above f (cond b (part t (rowOf t v) (t .vars)) [])
     go true e =
         let l = ltb-true (rowOf t v) (t .m) e in
-        above-greatest f (part t (rowOf t v) (t .vars))
-        (let k = part-length (t .vars) (nat (t .firsts) (rowOf t v)) (nat (t .counts) (rowOf t v)) (F .row-inside (rowOf t v) l) in let s = F .row-reads (rowOf t v) l in omega arith)
+        let long = part-length (t .vars) (nat (t .firsts) (rowOf t v)) (nat (t .counts) (rowOf t v)) (F .row-inside (rowOf t v) l) in
+        above-greatest f (part t (rowOf t v) (t .vars)) (let some = F .row-reads (rowOf t v) l in omega arith)
     go false e = refl
 
 -- ── what the states then say ──
@@ -117,11 +118,12 @@ module _ (t : Tables) (F : Formed t) (state : List ℕ) (S : Swept (t .n) (input
   found : (r : ℕ) → r ≡ firstFail (ended state) (t .n) → Found t state r
   found r e = record {
     least = e ∙ firstFail-same (ended state) (ends t) (t .n) ended-ends;
-    numbered = λ h. record { at = λ v l. let q = numbers-are (past h) v in let k = leb-true 2 (nat state v) (past h v l) in omega arith };
+    numbered = λ h. record { few = F .few; at = λ v l. let q = numbers-are (past h) v in let k = leb-true 2 (nat state v) (past h v l) in omega arith };
   }
     where
       past : t .n ≤ r → (v : ℕ) → v < t .n → ended state v ≡ true
       past h v l = firstFail-before (ended state) (t .n) v (omega arith)
 
-pub swept-found : (t : Tables) → Formed t → (begins stops state : List ℕ) (r : ℕ) → Parts t begins stops → Swept (t .n) (partAt begins stops (t .vars)) (t .n) state → r ≡ firstFail (ended state) (t .n) → Found t state r
+pub swept-found : (t : Tables) → Formed t → (begins stops state : List ℕ) (r : ℕ) → Parts t begins stops
+    → Swept (t .n) (partAt begins stops (t .vars)) (t .n) state → r ≡ firstFail (ended state) (t .n) → Found t state r
 swept-found t F begins stops state r P S e = found t F state (subst (λ dep. Swept (t .n) dep (t .n) state) (fun-ext (P .inputs)) S) r e

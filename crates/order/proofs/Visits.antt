@@ -15,7 +15,7 @@ use borrow.Author.Tests.{leb-true, le-leb, lt-leb, eqb-true, eqb-false, eq-eqb, 
 use Rattle.paper.specs.Lists.{nat, size}
 use Rattle.paper.proofs.Lists.{clash}
 use Rattle.paper.proofs.Count.{size-le, size-add}
-use Rattle.order.specs.Numbering.{above, fresh, ended, numberIn, Right, Held, Visited, Going}
+use Rattle.order.specs.Numbering.{above, fresh, ended, numberIn, Right, Held, Visited}
 
 same-or : (a b : ℕ) → (a ≡ b) ⊎ (a ≢ b)
 same-or a b = go (eqb a b) refl
@@ -36,7 +36,7 @@ size-mono p q (suc n) h = go (p n) refl (q n) refl (size-mono p q n h)
     go false e false f ih = ih
 
 -- ── the least number above all entries ──
-pub above-same : (f g : ℕ → ℕ) (xs : List ℕ) → ((i : ℕ) → List·Memᴰ i xs → f i ≡ g i) → above f xs ≡ above g xs
+above-same : (f g : ℕ → ℕ) (xs : List ℕ) → ((i : ℕ) → List·Memᴰ i xs → f i ≡ g i) → above f xs ≡ above g xs
 above-same f g [] h = refl
 above-same f g (x ∷ xs) h = ap₂ (λ a b. max (suc a) b) (h x (List·Memᴰ·head refl)) (above-same f g xs (λ i m. h i (List·Memᴰ·tail m)))
 
@@ -75,7 +75,7 @@ module _ (n : ℕ) (dep : ℕ → List ℕ) where
     abbrev Ends : Type 0
     Ends = ((i : ℕ) → List·Memᴰ i (dep v) → 2 ≤ nat state i) × (x ≡ 2 + above (numberIn state) (dep v)) × (x ≤ 2 + size (ended state) n)
 
-    pub right-set : (2 ≤ x → Ends) → Right n dep (set state v x)
+    right-set : (2 ≤ x → Ends) → Right n dep (set state v x)
     right-set E = record {
       long = rw length-set (R .long);
       number = λ u h. ⊎-elim
@@ -106,22 +106,66 @@ module _ (n : ℕ) (dep : ℕ → List ℕ) where
   pub visited-known : (v x : ℕ) (state : List ℕ) → Right n dep state → x ≡ nat state v → 0 < x → Visited n dep v state state x
   visited-known v x state R e h = record { right = R; kept = λ u q. refl; is = e; begun = h; stuck = λ u q. inl q }
 
-  module _ (v : ℕ) (before : List ℕ) (R : Right n dep before) (l : v < n) (unseen : nat before v ≡ 0) where
+  -- ── a visit on its way ──
+  -- before it v was fresh
+  pub record Begun (v : ℕ) (before : List ℕ) : Type 0 where
+    pub right : Right n dep before
+    pub below : v < n
+    pub unseen : nat before v ≡ 0
+
+  -- the inputs in `left` are still to be visited, best is the greatest state of the others, from 1 up, and `mid` are the states where the loop began
+  pub record Going (v : ℕ) (left : List ℕ) (best : ℕ) (mid state : List ℕ) : Type 0 where
+    pub right : Right n dep state
+    pub kept : (u : ℕ) → 0 < nat mid u → nat state u ≡ nat mid u
+    pub stuck : (u : ℕ) → nat state u ≡ 1 → nat mid u ≡ 1
+    pub rest : (w : ℕ) → List·Memᴰ w left → List·Memᴰ w (dep v)
+    pub passed : (w : ℕ) → List·Memᴰ w (dep v) → ((2 ≤ nat state w) × (nat state w ≤ best)) ⊎ List·Memᴰ w left
+    pub reached : (best ≡ 1) ⊎ ((w : ℕ) × List·Memᴰ w (dep v) × (2 ≤ nat state w) × (nat state w ≡ best))
+
+  -- the next input is visited, and ends
+  pub going-step : (v best w r b : ℕ) (left more mid state after : List ℕ) → Going v left best mid state → left ≡ w ∷ more → Visited n dep w state after r
+      → r ≢ 1 → b ≡ max best r → Going v more b mid after
+  going-step v best w r b left more mid state after G e W ne eb = record {
+    right = W .right;
+    kept = λ u h. let s = G .kept u h in W .kept u (omega arith) ∙ s;
+    stuck = λ u p. G .stuck u (⊎-elim (λ q. q) (λ q. absurd (ne (q .0))) (W .stuck u p));
+    rest = λ u m. G .rest u (subst (List·Memᴰ u) (sym e) (List·Memᴰ·tail m));
+    passed = λ u m. ⊎-elim (λ q. let s = W .kept u (omega arith) in inl (omega arith, omega arith)) (λ q. new u (List·Memᴰ·cases-cons (subst (List·Memᴰ u) e q))) (G .passed u m);
+    reached = top (same-or b r);
+  }
+    where
+      two : 2 ≤ r
+      two = let c = W .begun in omega arith
+
+      new : (u : ℕ) → (u ≡ w) ⊎ List·Memᴰ u more → ((2 ≤ nat after u) × (nat after u ≤ b)) ⊎ List·Memᴰ u more
+      new u (inl z) = let s : nat after u ≡ nat after w = ap (nat after) z in let a = W .is in let c = two in inl (omega arith, omega arith)
+      new u (inr m) = inr m
+
+      top : (b ≡ r) ⊎ (b ≢ r) → (b ≡ 1) ⊎ ((u : ℕ) × List·Memᴰ u (dep v) × (2 ≤ nat after u) × (nat after u ≡ b))
+      top (inl s) = let a = W .is in let c = two in inr (w, G .rest w (subst (List·Memᴰ w) (sym e) (List·Memᴰ·head refl)), omega arith, omega arith)
+      top (inr s) = ⊎-elim (λ z. inl (omega arith)) (λ (u, m, h, z). let k = W .kept u (omega arith) in inr (u, m, omega arith, omega arith)) (G .reached)
+
+  module _ (v : ℕ) (before : List ℕ) (B : Begun v before) where
     abbrev mid : List ℕ
     mid = set before v 1
 
+    -- mid at v and elsewhere
     low : nat before v ≤ 1
-    low = omega (arith, unseen)
+    low = omega (arith, B .unseen)
 
     mid-here : nat mid v ≡ 1
-    mid-here = here v 1 before R l low
+    mid-here = here v 1 before (B .right) (B .below) low
 
-    mid-there : (u : ℕ) → 0 < nat before u → nat mid u ≡ nat before u
-    mid-there u h = there v 1 before R l low u (λ e. let s : nat before u ≡ nat before v = ap (nat before) e in omega (arith, unseen))
+    mid-there : (u : ℕ) → u ≢ v → nat mid u ≡ nat before u
+    mid-there = there v 1 before (B .right) (B .below) low
 
-    pub going-start : (left : List ℕ) → left ≡ dep v → Going n dep v left 1 mid mid
+    -- what had begun is not v
+    other : (u : ℕ) → 0 < nat before u → u ≢ v
+    other u h e = let s : nat before u ≡ nat before v = ap (nat before) e in omega (arith, B .unseen)
+
+    pub going-start : (left : List ℕ) → left ≡ dep v → Going v left 1 mid mid
     going-start left e = record {
-      right = right-set v 1 before R l low (λ q. absurd (lt-irrefl 1 q));
+      right = right-set v 1 before (B .right) (B .below) low (λ q. absurd (lt-irrefl 1 q));
       kept = λ u h. refl;
       stuck = λ u p. p;
       rest = λ w m. subst (List·Memᴰ w) e m;
@@ -129,21 +173,21 @@ module _ (n : ℕ) (dep : ℕ → List ℕ) where
       reached = inl refl;
     }
 
-    module _ (left : List ℕ) (best : ℕ) (state : List ℕ) (G : Going n dep v left best mid state) where
+    module _ (left : List ℕ) (best : ℕ) (state : List ℕ) (G : Going v left best mid state) where
       kept-all : (u : ℕ) → 0 < nat before u → nat state u ≡ nat before u
-      kept-all u h = let s = mid-there u h in G .kept u (omega arith) ∙ s
+      kept-all u h = let s = mid-there u (other u h) in G .kept u (omega arith) ∙ s
 
       waits : nat state v ≡ 1
       waits = let s = mid-here in G .kept v (omega arith) ∙ s
 
       stuck-all : (u : ℕ) → nat state u ≡ 1 → (u ≡ v) ⊎ (nat before u ≡ 1)
-      stuck-all u p = ⊎-elim (λ e. inl e) (λ ne. inr (sym (there v 1 before R l low u ne) ∙ G .stuck u p)) (same-or u v)
+      stuck-all u p = ⊎-elim (λ e. inl e) (λ ne. inr (sym (mid-there u ne) ∙ G .stuck u p)) (same-or u v)
 
       -- fewer are fresh
       pub going-less : size (fresh state) n < size (fresh before) n
       going-less =
-          let a = size-add (fresh mid) (fresh before) v n l (ne-eqb (nat mid v) 0 (λ z. let s = mid-here in omega arith)) (eq-eqb (nat before v) 0 unseen)
-          (λ u ne. rw (there v 1 before R l low u ne)) in
+          let seen = ne-eqb (nat mid v) 0 (λ z. let s = mid-here in omega arith) in
+          let a = size-add (fresh mid) (fresh before) v n (B .below) seen (eq-eqb (nat before v) 0 (B .unseen)) (λ u ne. rw (mid-there u ne)) in
           let b = size-mono (fresh state) (fresh mid) n (λ u e. go u (eqb-true (nat state u) 0 e) (same-or (nat mid u) 0)) in
           omega arith
         where
@@ -151,33 +195,34 @@ module _ (n : ℕ) (dep : ℕ → List ℕ) where
           go u z (inl e) = eq-eqb (nat mid u) 0 e
           go u z (inr ne) = let s = G .kept u (omega arith) in absurd (ne (omega arith))
 
+      -- the next input waits, and so does v
       pub going-fail : (w r : ℕ) (more after : List ℕ) → left ≡ w ∷ more → Visited n dep w state after r → r ≡ 1 → Visited n dep v before after 1
       going-fail w r more after e W one = record {
         right = W .right;
         kept = λ u h. let s = kept-all u h in W .kept u (omega arith) ∙ s;
         is = let s = waits in sym (W .kept v (omega arith) ∙ s);
         begun = omega arith;
-        stuck = λ u p. ⊎-elim
-            (λ q. ⊎-elim (λ s. inr (refl, subst (Held n dep after) (sym s) (w, G .rest w (subst (List·Memᴰ w) (sym e) (List·Memᴰ·head refl)), sym (W .is) ∙ one))) inl (stuck-all u q))
-            (λ q. inr (refl, q .1)) (W .stuck u p);
+        stuck = λ u p. ⊎-elim (λ q. ⊎-elim (λ s. inr (refl, subst (Held n dep after) (sym s) held)) inl (stuck-all u q)) (λ q. inr (refl, q .1)) (W .stuck u p);
       }
+        where
+          held : Held n dep after v
+          held = (w, G .rest w (subst (List·Memᴰ w) (sym e) (List·Memᴰ·head refl)), sym (W .is) ∙ one)
 
-      -- the greatest state of the inputs is that of one of them
+      -- the greatest state is that of one that has ended
       bounded : best ≤ 1 + size (ended state) n
       bounded = ⊎-elim (λ e. omega arith) (λ (w, m, h, e). let s = G .right .small w h in omega arith) (G .reached)
 
       pub going-small : n ≤ 4096 → best ≤ 4097
       going-small few = let b = bounded in let s = size-le (ended state) n in omega arith
 
+      -- all inputs have ended, and so does v
       pub going-end : left ≡ [] → Visited n dep v before (set state v (best + 1)) (best + 1)
       going-end e = record {
-        right = right-set v (best + 1) state (G .right) l one (λ q. (λ i m. entry i m .0, equation, (let b = bounded in omega arith)));
-        kept = λ u h. let s = kept-all u h in there v (best + 1) state (G .right) l one u (λ z. let q : nat before u ≡ nat before v = ap (nat before) z in omega (arith, unseen)) ∙ s;
-        is = sym (here v (best + 1) state (G .right) l one);
+        right = right-set v (best + 1) state (G .right) (B .below) one (λ q. (λ i m. entry i m .0, equation, (let b = bounded in omega arith)));
+        kept = λ u h. let s = kept-all u h in end-there u (other u h) ∙ s;
+        is = sym end-here;
         begun = omega arith;
-        stuck = λ u p. inl (⊎-elim
-            (λ z. let s : nat (set state v (best + 1)) u ≡ best + 1 = rw z (here v (best + 1) state (G .right) l one) in let b = least in absurd (lt-irrefl 1 (omega arith)))
-            (λ ne. ⊎-elim (λ z. absurd (ne z)) (λ q. q) (stuck-all u (sym (there v (best + 1) state (G .right) l one u ne) ∙ p))) (same-or u v));
+        stuck = λ u p. inl (was u p (same-or u v));
       }
         where
           one : nat state v ≤ 1
@@ -186,32 +231,21 @@ module _ (n : ℕ) (dep : ℕ → List ℕ) where
           least : 1 ≤ best
           least = ⊎-elim (λ z. omega arith) (λ (w, m, h, z). omega arith) (G .reached)
 
+          end-here : nat (set state v (best + 1)) v ≡ best + 1
+          end-here = here v (best + 1) state (G .right) (B .below) one
+
+          end-there : (u : ℕ) → u ≢ v → nat (set state v (best + 1)) u ≡ nat state u
+          end-there = there v (best + 1) state (G .right) (B .below) one
+
+          was : (u : ℕ) → nat (set state v (best + 1)) u ≡ 1 → (u ≡ v) ⊎ (u ≢ v) → nat before u ≡ 1
+          was u p (inl z) = let s : nat (set state v (best + 1)) u ≡ best + 1 = rw z end-here in let b = least in absurd (lt-irrefl 1 (omega arith))
+          was u p (inr ne) = ⊎-elim (λ z. absurd (ne z)) (λ q. q) (stuck-all u (sym (end-there u ne) ∙ p))
+
           entry : (w : ℕ) → List·Memᴰ w (dep v) → (2 ≤ nat state w) × (nat state w ≤ best)
           entry w m = ⊎-elim (λ q. q) (λ q. absurd (List·Memᴰ·not-nil (subst (List·Memᴰ w) e q))) (G .passed w m)
 
+          top : (best - 1 ≡ 0) ⊎ ((w : ℕ) × List·Memᴰ w (dep v) × (suc (numberIn state w) ≡ best - 1))
+          top = ⊎-elim (λ z. inl (omega arith)) (λ (w, m, h, z). inr (w, m, omega arith)) (G .reached)
+
           equation : best + 1 ≡ 2 + above (numberIn state) (dep v)
-          equation =
-              let b = least in
-              let a = above-is (numberIn state) (dep v) (best - 1) (λ w m. let h = entry w m in omega arith)
-              (⊎-elim (λ z. inl (omega arith)) (λ (w, m, h, z). inr (w, m, omega arith)) (G .reached)) in
-              omega arith
-
-  pub going-step : (v best w r b : ℕ) (left more mid state after : List ℕ) → Going n dep v left best mid state → left ≡ w ∷ more → Visited n dep w state after r → r ≢ 1 → b ≡ max best r
-      → Going n dep v more b mid after
-  going-step v best w r b left more mid state after G e W ne eb = record {
-    right = W .right;
-    kept = λ u h. let s = G .kept u h in W .kept u (omega arith) ∙ s;
-    stuck = λ u p. G .stuck u (⊎-elim (λ q. q) (λ q. absurd (ne (q .0))) (W .stuck u p));
-    rest = λ u m. G .rest u (subst (List·Memᴰ u) (sym e) (List·Memᴰ·tail m));
-    passed = λ u m. ⊎-elim
-        (λ q. let s = W .kept u (omega arith) in inl (omega arith, omega arith))
-        (λ q. ⊎-elim (λ z. let s : nat after u ≡ nat after w = ap (nat after) z in let a = W .is in let c = W .begun in inl (omega arith, omega arith)) inr (List·Memᴰ·cases-cons (subst (List·Memᴰ u) e q))) (G .passed u m);
-    reached = go (same-or b r);
-  }
-    where
-      two : 2 ≤ r
-      two = let c = W .begun in omega arith
-
-      go : (b ≡ r) ⊎ (b ≢ r) → (b ≡ 1) ⊎ ((u : ℕ) × List·Memᴰ u (dep v) × (2 ≤ nat after u) × (nat after u ≡ b))
-      go (inl s) = let a = W .is in let c = two in inr (w, G .rest w (subst (List·Memᴰ w) (sym e) (List·Memᴰ·head refl)), omega arith, omega arith)
-      go (inr s) = ⊎-elim (λ z. inl (omega arith)) (λ (u, m, h, z). let k = W .kept u (omega arith) in inr (u, m, omega arith, omega arith)) (G .reached)
+          equation = let b = least in let a = above-is (numberIn state) (dep v) (best - 1) (λ w m. let h = entry w m in omega arith) top in omega arith

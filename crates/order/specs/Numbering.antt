@@ -9,7 +9,7 @@ use lib.ListN.{length}
 use lib.Seq.{slice}
 use Rattle.paper.specs.Lists.{nat, size, firstFail}
 use Rattle.paper.specs.Net.{number}
-use Rattle.paper.specs.Tables.{Tables, net, inputsOf, ends}
+use Rattle.paper.specs.Tables.{Tables, net, ends}
 
 -- a row of zeros, at least n long
 pub record Clean (n : ℕ) (row : List ℕ) : Type 0 where
@@ -21,18 +21,24 @@ abbrev pub above : (ℕ → ℕ) → List ℕ → ℕ
 above f [] = 0
 above f (x ∷ xs) = max (suc (f x)) (above f xs)
 
--- what the maker's row has in a column; 0 without a maker
+-- what the maker's row has in a column, 0 without a maker; and where its part stops
 abbrev pub ofMaker : ℕ → List ℕ → ℕ
 ofMaker maker column = cond (eqb maker 0) 0 (nat column (maker - 1))
+
+abbrev pub stopOf : List ℕ → List ℕ → ℕ → ℕ
+stopOf firsts counts maker = ofMaker maker firsts + ofMaker maker counts
 
 -- ── each variable's part of the entries, in two rows: where it begins and where it stops ──
 abbrev pub partAt : List ℕ → List ℕ → List ℕ → ℕ → List ℕ
 partAt begins stops vars v = slice (nat begins v) (nat stops v) vars
 
--- the parts are the variables' inputs
-pub record Parts (t : Tables) (begins stops : List ℕ) : Type 0 where
-  pub inside : (v : ℕ) → nat stops v ≤ length (t .vars)
-  pub inputs : (v : ℕ) → partAt begins stops (t .vars) v ≡ inputsOf t v
+-- each maker is a row of both columns, and its part stops within the most entries that tables have
+pub record Columns (n : ℕ) (by firsts counts : List ℕ) : Type 0 where
+  pub few : n ≤ 4096
+  pub long : n ≤ length by
+  pub first : (v : ℕ) → v < n → nat by v ≤ length firsts
+  pub count : (v : ℕ) → v < n → nat by v ≤ length counts
+  pub small : (v : ℕ) → v < n → stopOf firsts counts (nat by v) ≤ 16384
 
 -- the parts lie inside the entries, and hold variables
 pub record Parted (n : ℕ) (begins stops vars : List ℕ) : Type 0 where
@@ -63,22 +69,13 @@ module _ (n : ℕ) (dep : ℕ → List ℕ) where
   abbrev pub Held : List ℕ → ℕ → Type 0
   Held state u = (i : ℕ) × List·Memᴰ i (dep u) × (nat state i ≡ 1)
 
-  -- a visit of v, which found r: what had begun is as it was, and a visit that it leaves open it leaves held
+  -- a visit of v, which found r: what had begun is as it was, and what it began and did not end waits on an input
   pub record Visited (v : ℕ) (before after : List ℕ) (r : ℕ) : Type 0 where
     pub right : Right after
     pub kept : (u : ℕ) → 0 < nat before u → nat after u ≡ nat before u
     pub is : r ≡ nat after v
     pub begun : 0 < r
     pub stuck : (u : ℕ) → nat after u ≡ 1 → (nat before u ≡ 1) ⊎ ((r ≡ 1) × Held after u)
-
-  -- on the way, begun over the states `mid`: the inputs in `left` are still to be visited, and best is the greatest state of the others, from 1 up
-  pub record Going (v : ℕ) (left : List ℕ) (best : ℕ) (mid state : List ℕ) : Type 0 where
-    pub right : Right state
-    pub kept : (u : ℕ) → 0 < nat mid u → nat state u ≡ nat mid u
-    pub stuck : (u : ℕ) → nat state u ≡ 1 → nat mid u ≡ 1
-    pub rest : (w : ℕ) → List·Memᴰ w left → List·Memᴰ w (dep v)
-    pub passed : (w : ℕ) → List·Memᴰ w (dep v) → ((2 ≤ nat state w) × (nat state w ≤ best)) ⊎ List·Memᴰ w left
-    pub reached : (best ≡ 1) ⊎ ((w : ℕ) × List·Memᴰ w (dep v) × (2 ≤ nat state w) × (nat state w ≡ best))
 
   -- the variables below v have been visited
   pub record Swept (v : ℕ) (state : List ℕ) : Type 0 where
@@ -87,8 +84,14 @@ module _ (n : ℕ) (dep : ℕ → List ℕ) where
     pub held : (u : ℕ) → nat state u ≡ 1 → Held state u
 
 -- ── found ──
+-- the variables below n have ended
+pub record Ended (n : ℕ) (state : List ℕ) : Type 0 where
+  pub few : n ≤ 4096
+  pub at : (v : ℕ) → v < n → 2 ≤ nat state v
+
 -- the row holds two more than each variable's number
 pub record Numbered (t : Tables) (state : List ℕ) : Type 0 where
+  pub few : t .n ≤ 4096
   pub at : (v : ℕ) → v < t .n → nat state v ≡ 2 + number (net t) (t .n) v
 
 -- r is the least variable that can have no number, or n; with n the row holds the numbers

@@ -2,9 +2,8 @@
 ghost use mathlib.Core.Path.{_≡_};
 ghost use Prim.Native.Nat.{_≤_};
 ghost use lib.ListN.{length};
-ghost use Rattle.tables.specs.Makers.{Makers};
-ghost use Rattle.order.specs.Formed.{bare, Formed};
-ghost use Rattle.order.specs.Numbering.{Clean, ofMaker, Parts};
+ghost use Rattle.paper.specs.Lists.{nat, over};
+ghost use Rattle.order.specs.Numbering.{ofMaker, stopOf, Columns};
 
 // What the row that makes a variable has in a column; 0 if none makes it.
 fn of_maker(maker: usize, column: &[u16]) -> u16
@@ -17,22 +16,19 @@ fn of_maker(maker: usize, column: &[u16]) -> u16
     column[maker - 1]
 }
 
-// Where each variable's part begins, and where it stops.
+// Writes where each variable's part begins, and where it stops.
 pub fn set_parts(
     n: usize,
-    m: usize,
-    makes: &[u16],
     firsts: &[u16],
     counts: &[u16],
-    vars: &[u16],
     by: &[u16],
     begins: &mut [u16; 4096],
     stops: &mut [u16; 4096],
 )
-    requires formed { ⌜ Formed (bare n m (now makes) (now firsts) (now counts) (now vars)) ⌝ }
-    requires makers { ⌜ Makers (bare n m (now makes) (now firsts) (now counts) (now vars)) (now by) ⌝ }
-    requires clean { ⌜ Clean n (now begins) × Clean n (now stops) ⌝ }
-    ensures { λ _. ⌜ Parts (bare n m (now (makes .entry)) (now (firsts .entry)) (now (counts .entry)) (now (vars .entry))) (now (begins .exit)) (now (stops .exit)) ⌝ }
+    requires columns { ⌜ Columns n (now by) (now firsts) (now counts) ⌝ }
+    requires there { ⌜ (n ≤ length (now begins)) × (n ≤ length (now stops)) ⌝ }
+    ensures begin { λ _. ⌜ now (begins .exit) ≡ over n (λ v. ofMaker (nat (now (by .entry)) v) (now (firsts .entry))) (now (begins .entry)) ⌝ }
+    ensures stop { λ _. ⌜ now (stops .exit) ≡ over n (λ v. stopOf (now (firsts .entry)) (now (counts .entry)) (nat (now (by .entry)) v)) (now (stops .entry)) ⌝ }
 {
     let mut v = 0;
     while v < n {

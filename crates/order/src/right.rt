@@ -3,7 +3,7 @@ use crate::parts::set_parts;
 use crate::visit::larger;
 use integers::wide;
 ghost use mathlib.Core.Path.{_≡_};
-ghost use Prim.Native.Nat.{ℕ, _≤_, _<_};
+ghost use Prim.Native.Nat.{_≤_, _<_};
 ghost use lib.ListN.{length};
 ghost use Rattle.paper.specs.Lists.{nat, allBelow};
 ghost use Rattle.paper.specs.Checks.{numbered};
@@ -100,17 +100,7 @@ pub fn numbered_right(
 {
     let mut begins = [0u16; 4096];
     let mut stops = [0u16; 4096];
-    set_parts(
-        n,
-        m,
-        makes,
-        firsts,
-        counts,
-        vars,
-        by,
-        &mut begins,
-        &mut stops,
-    );
+    set_parts(n, firsts, counts, by, &mut begins, &mut stops);
     if numbers_right(n, &begins, &stops, vars, nums) {
         return order_right(n, m, makes, nums, ord);
     }

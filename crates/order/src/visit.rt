@@ -2,8 +2,7 @@
 use crate::parts::set_parts;
 use integers::wide;
 ghost use mathlib.Core.Path.{_≡_};
-ghost use Prim.Native.Nat.{ℕ, _≤_, _<_, max};
-ghost use lib.ListN.{length};
+ghost use Prim.Native.Nat.{_≤_, _<_, max};
 ghost use Rattle.paper.specs.Lists.{firstFail};
 ghost use Rattle.tables.specs.Makers.{Makers};
 ghost use Rattle.order.specs.Formed.{bare, Formed};
@@ -53,7 +52,7 @@ fn visit(
     best + 1
 }
 
-// Every variable's state after all visits.
+// Visits every variable.
 fn visit_all(
     n: usize,
     begins: &[u16; 4096],
@@ -105,17 +104,7 @@ pub fn find_numbers(
 {
     let mut begins = [0u16; 4096];
     let mut stops = [0u16; 4096];
-    set_parts(
-        n,
-        m,
-        makes,
-        firsts,
-        counts,
-        vars,
-        by,
-        &mut begins,
-        &mut stops,
-    );
+    set_parts(n, firsts, counts, by, &mut begins, &mut stops);
     visit_all(n, &begins, &stops, vars, state);
     first_open(n, state)
 }

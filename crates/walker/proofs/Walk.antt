@@ -1,4 +1,4 @@
--- What the walks by hand of this crate share. It says nothing of the crate, and can be copied as it stands.
+-- What walks by hand share. It says nothing of this crate: those of another may cite it.
 --     Con              the contract of a function, from its `ended` and its `clauses`
 --     ends-said        how a walk ends: with the tokens and the result, and with just what the contract says of the last values, beside the `ensures`
 --     meets-said       the contract from a walk that ends so

@@ -48,7 +48,7 @@ pub fn new<'a, 'b>(vars: &'a [u16], coefs: &'b [i16], at: usize) -> Walker<'a, '
 }
 
 // What stands at the place reached, and the place after it.
-pub fn look<'a, 'b>(w: Walker<'a, 'b>) -> Step
+pub fn peek<'a, 'b>(w: Walker<'a, 'b>) -> Step
     ensures { λ r. ⌜ r ≡ stepAt (now (w .entry .vars)) (now (w .entry .coefs)) (w .entry .at) ⌝ }
 {
     entry_at(w.vars, w.coefs, w.at)
@@ -67,5 +67,5 @@ pub fn next<'s, 'a, 'b>(w: &'s mut Walker<'a, 'b>) -> Found
 pub fn entry_from(vars: &[u16], coefs: &[i16], at: usize) -> Step
     ensures { λ r. ⌜ r ≡ stepAt (now (vars .entry)) (now (coefs .entry)) at ⌝ }
 {
-    look(new(vars, coefs, at))
+    peek(new(vars, coefs, at))
 }

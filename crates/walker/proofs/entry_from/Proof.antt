@@ -1,4 +1,4 @@
--- The walker that `new` returns is known whole by its contract; it is held in a local and passed to `look`. A walk of its code, by hand.
+-- The walker that `new` returns is known whole by its contract; it is held in a local and passed to `peek`. A walk of its code, by hand.
 -- Assumes nothing.
 use mathlib.Core.Path.{_≡_, refl}
 use mathlib.Core.List.{[], _∷_}
@@ -38,10 +38,10 @@ use Rattle.walker.proofs.new as new
 use Rattle.walker.proofs.new.Symbol as new-def
 use Rattle.walker.proofs.new.Symbol.{name as #walker·new}
 use Rattle.walker.proofs.new.Met as new-thm
-use Rattle.walker.proofs.look as look
-use Rattle.walker.proofs.look.Symbol as look-def
-use Rattle.walker.proofs.look.Symbol.{name as #walker·look}
-use Rattle.walker.proofs.look.Met as look-thm
+use Rattle.walker.proofs.peek as peek
+use Rattle.walker.proofs.peek.Symbol as peek-def
+use Rattle.walker.proofs.peek.Symbol.{name as #walker·peek}
+use Rattle.walker.proofs.peek.Met as peek-thm
 use Rattle.walker.proofs.entry_from.Key.{name as #walker·entry-from}
 use Rattle.walker.proofs.entry_from as here
 use Rattle.walker.proofs.entry_from.Statement as stated
@@ -71,16 +71,16 @@ module _ {M : Type 1} (𝓤 : URA M) (H : Heap 𝓤) (A : Atoms 𝓤) (W : Given
   abbrev to-new : New .Ghost
   to-new = ((κs, qs, tt, a, vss), tt)
 
-  abbrev Look : Contract 𝓤
-  Look = Con 𝓤 H A look.ended (look.clauses 𝓤 H A mem run)
+  abbrev Peek : Contract 𝓤
+  Peek = Con 𝓤 H A peek.ended (peek.clauses 𝓤 H A mem run)
 
-  abbrev to-look : Val → Look .Ghost
-  to-look u = ((κs, qs, tt, (made, tt), (u ∷ [], tt)), tt)
+  abbrev to-peek : Val → Peek .Ghost
+  to-peek u = ((κs, qs, tt, (made, tt), (u ∷ [], tt)), tt)
 
   abbrev Post : Val → SProp 𝓤
   Post = Con 𝓤 H A here.ended (here.clauses 𝓤 H A mem run) .post ((κs, qs, tt, a, vss), tt)
 
-  module _ (C : Calls 𝓤 H) (Λ : Loops 𝓤 H) (fm : FmC 𝓤 H (W .laws) C) (known-new : Triple 𝓤 (C #walker·new) New) (known-look : Triple 𝓤 (C #walker·look) Look) where
+  module _ (C : Calls 𝓤 H) (Λ : Loops 𝓤 H) (fm : FmC 𝓤 H (W .laws) C) (known-new : Triple 𝓤 (C #walker·new) New) (known-peek : Triple 𝓤 (C #walker·peek) Peek) where
     walk : Are (typesAt (here.signature .params) κs) (Ises (typesAt (here.signature .params) κs)) a vss
         → ent 𝓤 (onEntry 𝓤 H A here.signature κs qs a vss) (WpFn 𝓤 H C Λ code.function (flat (typesAt (here.signature .params) κs) vss) Post)
     walk are =
@@ -97,11 +97,11 @@ module _ {M : Type 1} (𝓤 : URA M) (H : Heap 𝓤) (A : Atoms 𝓤) (W : Given
         returned 𝓤 H A new.ended (new.clauses 𝓤 H A mem run) to-new u ! tt (λ r ws. drop ! $ heard ! (r ≡ made) (λ e. rewrite ! 1 (λ (w : Walker). ‵ (B .own w (u ∷ []))) e refl $
         move ! (1 ∷ []) $ peeks ! B (Is B) (shows 𝓤 H A B) made (u ∷ []) (λ is.
         land ! (from ! (stop !)) (init ! 2 refl (LL.lawful (T.the-type αᵉ βᵉ) (T′.the-laws αᵉ βᵉ) 𝓤 H A W .typed made _ is .0)) $
-        -- `look`
+        -- `peek`
         nothing ! $ move ! (1 ∷ 0 ∷ []) $ fjoin ! $ move ! (1 ∷ 0 ∷ []) $
-        use2 W (raw (Look .pre (to-look u))) (qed W (raw (alive 𝓤 H A here.signature κs qs) ∷ ‵ (owns (B ∷ []) (made, tt) (u ∷ [], tt)) ∷ []) ∵ join ! $ frame ! $ done !) $
-        calls-at ! fm Look known-look (to-look u) (and-then ! (load ! (from ! (stop !)) (look ! 1 refl)) (no-more !)) (λ v.
-        returned 𝓤 H A look.ended (look.clauses 𝓤 H A mem run) (to-look u) v ! tt (λ t ws′. drop ! $ move ! (2 ∷ []) $
+        use2 W (raw (Peek .pre (to-peek u))) (qed W (raw (alive 𝓤 H A here.signature κs qs) ∷ ‵ (owns (B ∷ []) (made, tt) (u ∷ [], tt)) ∷ []) ∵ join ! $ frame ! $ done !) $
+        calls-at ! fm Peek known-peek (to-peek u) (and-then ! (load ! (from ! (stop !)) (look ! 1 refl)) (no-more !)) (λ v.
+        returned 𝓤 H A peek.ended (peek.clauses 𝓤 H A mem run) (to-peek u) v ! tt (λ t ws′. drop ! $ move ! (2 ∷ []) $
         peeks ! S.the-row (Is S.the-row) (shows 𝓤 H A S.the-row) t (v ∷ []) (λ is′.
         -- [the result; the `ensures`; the tokens; _4; …; _0; …]
         land ! (from ! (stop !)) (init ! 11 refl (LL.lawful S.the-type S′.the-laws 𝓤 H A W .typed t _ is′ .0)) $
@@ -120,5 +120,5 @@ entry-from-spec 𝓤 H 𝓜 𝓖 𝓡 =
     (meets-said 𝓤 H (𝓖 .A) here.ended (here.clauses 𝓤 H (𝓖 .A) (𝓜 .mem) (𝓡 .run)) (WpFn 𝓤 H (𝓣 .C) (𝓣 .Λ) code.function) spells tells
     (λ κs qs bounds a g are. via 𝓤 _ (fst∗ 𝓤 _ (emp 𝓤)) (walk 𝓤 H (𝓖 .A) (givenOf 𝓤 H 𝓜 𝓖) (𝓜 .mem) (𝓡 .run) κs qs a (𝓣 .C) (𝓣 .Λ) (fmOf 𝓤 H (givenOf 𝓤 H 𝓜 𝓖 .laws) 𝓣)
     (cited 𝓤 H (tripleOf 𝓤 H (𝓖 .A) new.signature (new.spec 𝓤 H (𝓖 .A) (𝓜 .mem) (𝓡 .run))) 𝓜 𝓡 code.env #walker·new new-def.routine code.calls-walker·new (new-thm.met 𝓤 H 𝓜 𝓖 𝓡))
-    (cited 𝓤 H (tripleOf 𝓤 H (𝓖 .A) look.signature (look.spec 𝓤 H (𝓖 .A) (𝓜 .mem) (𝓡 .run))) 𝓜 𝓡 code.env #walker·look look-def.routine code.calls-walker·look
-    (look-thm.met 𝓤 H 𝓜 𝓖 𝓡)) are)))
+    (cited 𝓤 H (tripleOf 𝓤 H (𝓖 .A) peek.signature (peek.spec 𝓤 H (𝓖 .A) (𝓜 .mem) (𝓡 .run))) 𝓜 𝓡 code.env #walker·peek peek-def.routine code.calls-walker·peek
+    (peek-thm.met 𝓤 H 𝓜 𝓖 𝓡)) are)))

@@ -15,7 +15,7 @@ lent s =
 write-numbers-requires : tie.Need-write-numbers-requires
 write-numbers-requires c κs =
     let s = c .before .before .before .before .before .before .before .before in let l = lent s in let t = l .tables in
-    (formed-of t (known l _ (s .pre) .sound), (s .pre .numbered, room l _ (s .pre) .numbers))
+    (s .pre .numbered, room l _ (s .pre) .numbers)
 
 write-order-requires : tie.Need-write-order-requires
 write-order-requires c κs =

@@ -1,5 +1,5 @@
 -- The greater of `best` and of what the inputs that are left ask stays what all inputs ask. Assumes nothing.
-use Prim.Native.Nat.{_≤_, _-_}
+use Prim.Native.Nat.{_+_, _-_, _≤_}
 use mathlib.Core.List.{_∷_}
 use mathlib.Core.Path.{_≡_, ap₂}
 use native.Mathlib.Omega.{arith}
@@ -23,9 +23,7 @@ mul-wide : tie.Need-mul-wide Inv-loop μ-loop
 mul-wide c = search needs
 
 element-copy-out-wide : tie.Need-element-copy-out-wide Inv-loop μ-loop
-element-copy-out-wide c =
-    let s = c .before .before in
-    omega (arith, s .pre .0 .few, s .pre .1 .0)
+element-copy-out-wide c = search needs
 
 wide-requires : tie.Need-wide-requires Inv-loop μ-loop
 wide-requires c κs = search needs
@@ -34,9 +32,7 @@ mul-wide-2 : tie.Need-mul-wide-2 Inv-loop μ-loop
 mul-wide-2 c = search needs
 
 element-copy-out-wide-2 : tie.Need-element-copy-out-wide-2 Inv-loop μ-loop
-element-copy-out-wide-2 c =
-    let s = c .before .before .before .before in
-    omega (arith, s .pre .0 .few, s .pre .1 .0)
+element-copy-out-wide-2 c = search needs
 
 wide-requires-2 : tie.Need-wide-requires-2 Inv-loop μ-loop
 wide-requires-2 c κs = search needs
@@ -48,15 +44,21 @@ loop-holds c =
 
 -- the part stops inside the entries
 inside : (c : tie.At-loop Inv-loop μ-loop) → c .before .before .before .wide .result ≤ length (c .before .before .before .before .before .before .before .args .vars .now)
-inside c = omega (arith, c .before .before .before .wide .ensures .0, c .before .before .before .before .before .before .before .pre .0 .inside (c .before .before .before .before .before .before .before .args .v))
+inside c = let s = c .before .before .before .before .before .before .before in omega (arith, s .pre .0 .inside (s .args .v))
+
+-- the next input is the first of those that are left
+next : (c : tie.After-wide3 Inv-loop μ-loop)
+    → let l = c .before .before .before in let vars = l .before .before .before .before .before .before .before .args .vars .now in
+    let stop = l .before .before .before .wide .result in
+    slice (l .loop .i) stop vars ≡ c .wide3 .result ∷ slice (l .loop .i + 1) stop vars
+next c = left-next _ _ _ _ (c .before .before .loop-test .taken) (inside (c .before .before .before)) (c .wide3 .ensures .0)
 
 mul-wide-3 : tie.Need-mul-wide-3 Inv-loop μ-loop
 mul-wide-3 c = search needs
 
 shared-slice-read-wide : tie.Need-shared-slice-read-wide Inv-loop μ-loop
 shared-slice-read-wide c =
-    let l = c .before .before in
-    omega (arith, inside (l), c .before .loop-test .taken)
+    omega (arith, inside (c .before .before))
 
 wide-requires-3 : tie.Need-wide-requires-3 Inv-loop μ-loop
 wide-requires-3 c κs = search needs
@@ -66,9 +68,9 @@ mul-wide-4 c = search needs
 
 shared-slice-read-wide-2 : tie.Need-shared-slice-read-wide-2 Inv-loop μ-loop
 shared-slice-read-wide-2 c =
-    let loop-test = c .before .before .before .loop-test in let l = c .before .before .before .before in
-    let s = l .before .before .before .before .before .before .before in
-    omega (arith, asked-below _ _ _ _ _ _ _ (l .loop .inv) (left-next _ _ _ _ (loop-test .taken) (inside (l)) (c .before .wide3 .ensures .0)), s .pre .1 .1)
+    let low = asked-below _ _ _ _ _ _ _ (c .before .before .before .before .loop .inv) (next (c .before)) in
+    let s = c .before .before .before .before .before .before .before .before .before .before .before in
+    omega (arith, low, s .pre .1 .1)
 
 wide-requires-4 : tie.Need-wide-requires-4 Inv-loop μ-loop
 wide-requires-4 c κs = search needs
@@ -87,9 +89,8 @@ loop-less c = search needs
 
 loop-again : tie.Need-loop-again Inv-loop μ-loop
 loop-again c =
-    let wide3 = c .before .before .before .wide3 in let loop-test = c .before .before .before .before .before .loop-test in
-    let l = c .before .before .before .before .before .before in
-    asking-next _ _ _ _ _ _ _ (l .loop .inv) (left-next _ _ _ _ (loop-test .taken) (inside (l)) (wide3 .ensures .0)) _ _ (c .before .wide4 .ensures .0) (c .before .wide4 .ensures .1) (c .larger .ensures)
+    let l = c .before .before .before .before .before .before in let x = c .before .wide4 .ensures in
+    asking-next _ _ _ _ _ _ _ (l .loop .inv) (next (c .before .before .before)) _ _ (x .0) (x .1) (c .larger .ensures)
 
 returns : tie.Need-returns Inv-loop μ-loop
 returns c = asking-end _ _ _ _ _ (c .before .loop .inv) (left-none _ _ _ (c .loop-test .left))

@@ -1,5 +1,6 @@
 -- Where the numbers are right the pass over the order decides, and where they are not the check fails (`Eight`). Assumes nothing.
-use Rattle.order.proofs.Parted.{parted-of}
+use borrow.Author.Needs.{needs}
+use Rattle.order.proofs.Parted.{columns-of, parts-of, parted-of}
 use Rattle.order.proofs.Sweeps.{clean-new}
 use Rattle.order.proofs.Ordered.{makes-keys}
 use Rattle.order.proofs.Eight.{eight-right, eight-wrong}
@@ -9,13 +10,15 @@ use Rattle.order.proofs.right.numbered_right.Tie as tie
 set-parts-requires : tie.Need-set-parts-requires
 set-parts-requires c κs =
     let s = c .before .before .before .before .before .before .before .before .before in
-    (s .pre .0, (s .pre .1 .0, (clean-new _ _ (s .pre .0 .few), clean-new _ _ (s .pre .0 .few))))
+    (columns-of _ (s .pre .0) _ (s .pre .1 .0), search needs)
 
 numbers-right-requires : tie.Need-numbers-right-requires
 numbers-right-requires c κs =
     let set-parts = c .before .before .set-parts in
     let s = c .before .before .before .before .before .before .before .before .before .before .before .before in
-    (parted-of _ (s .pre .0) (set-parts .ensures), s .pre .1 .1 .0)
+    let zeros = clean-new _ 4096 (s .pre .0 .few) in
+    let parts = parts-of _ (s .pre .0) _ (s .pre .1 .0) zeros zeros (set-parts .ensures .0) (set-parts .ensures .1) in
+    (parted-of _ (s .pre .0) parts, s .pre .1 .1 .0)
 
 order-right-requires : tie.Need-order-right-requires
 order-right-requires c κs =
@@ -26,13 +29,18 @@ returns : tie.Need-returns
 returns c =
     let numbers-right = c .before .before .numbers-right in let set-parts = c .before .before .before .before .before .set-parts in
     let s = c .before .before .before .before .before .before .before .before .before .before .before .before .before .before .before in
-    eight-right _ (s .pre .0) (s .args .nums .now) (s .args .ord .now) (s .pre .1 .1 .0) (s .pre .1 .1 .1) _ _ (set-parts .ensures) (numbers-right .ensures) (c .before .if1 .taken) (c .order-right .ensures)
+    let zeros = clean-new _ 4096 (s .pre .0 .few) in
+    let parts = parts-of _ (s .pre .0) _ (s .pre .1 .0) zeros zeros (set-parts .ensures .0) (set-parts .ensures .1) in
+    eight-right _ (s .pre .0) (s .args .nums .now) (s .args .ord .now) (s .pre .1 .1 .0) (s .pre .1 .1 .1) _ _ parts
+    (numbers-right .ensures) (c .before .if1 .taken) (c .order-right .ensures)
 
 returns-2 : tie.Need-returns-2
 returns-2 c =
     let set-parts = c .before .before .before .before .set-parts in
     let s = c .before .before .before .before .before .before .before .before .before .before .before .before .before .before in
-    eight-wrong _ (s .pre .0) (s .args .nums .now) (s .args .ord .now) (s .pre .1 .1 .0) (s .pre .1 .1 .1) _ _ (set-parts .ensures) (c .before .numbers-right .ensures) (c .if1 .left)
+    let zeros = clean-new _ 4096 (s .pre .0 .few) in
+    let parts = parts-of _ (s .pre .0) _ (s .pre .1 .0) zeros zeros (set-parts .ensures .0) (set-parts .ensures .1) in
+    eight-wrong _ (s .pre .0) (s .args .nums .now) (s .args .ord .now) (s .pre .1 .1 .0) (s .pre .1 .1 .1) _ _ parts (c .before .numbers-right .ensures) (c .if1 .left)
 
 pub numbered-right-spec : {M : Type 1} → statement M
 numbered-right-spec =

@@ -1,13 +1,11 @@
 -- All variables passed have the number that their inputs ask; the first that has not decides. Assumes nothing.
 use Prim.Native.Nat.{_-_}
-use mathlib.Core.Path.{sym, _∙_}
 use native.Mathlib.Omega.{arith}
 use borrow.Author.Needs.{needs}
-use borrow.Author.Tests.{eq-eqb, ne-eqb}
-use Rattle.paper.proofs.Scan.{Scan, scan-start, scan-next}
+use Rattle.paper.proofs.Scan.{Scan, scan-start}
 use Rattle.order.specs.Numbering.{partAt}
 use Rattle.order.specs.Ascent.{rightAt}
-use Rattle.order.proofs.Eight.{fails-here, holds-all}
+use Rattle.order.proofs.Eight.{right-next, wrong-here, holds-all}
 use Rattle.order.proofs.right.numbers_right.Statement.{statement}
 use Rattle.order.proofs.right.numbers_right.Tie as tie
 
@@ -36,9 +34,9 @@ due-requires c κs =
 
 returns : tie.Need-returns Inv-loop μ-loop
 returns c =
-    let wide = c .before .before .wide in let loop-test = c .before .before .before .before .loop-test in
-    let l = c .before .before .before .before .before in
-    fails-here _ _ _ (l .loop .inv) (loop-test .taken) (ne-eqb _ _ (λ e. c .if1 .taken (wide .ensures .0 ∙ e ∙ sym (c .before .due .ensures))))
+    let l = c .before .before .before .before .before in let a = l .before .before .before .args in
+    wrong-here (partAt (a .begins .now) (a .stops .now) (a .vars .now)) (a .nums .now) _ _ _ _
+    (l .loop .inv) (omega arith) (c .before .before .wide .ensures .0) (c .before .due .ensures) (c .if1 .taken)
 
 add-v : tie.Need-add-v Inv-loop μ-loop
 add-v c = search needs
@@ -48,12 +46,12 @@ loop-less c = search needs
 
 loop-again : tie.Need-loop-again Inv-loop μ-loop
 loop-again c =
-    let wide = c .before .before .wide in let loop-test = c .before .before .before .before .loop-test in
-    let l = c .before .before .before .before .before in
-    scan-next _ _ _ (l .loop .inv) (loop-test .taken) (eq-eqb _ _ (sym (wide .ensures .0) ∙ c .if1 .left ∙ c .before .due .ensures))
+    let l = c .before .before .before .before .before in let a = l .before .before .before .args in
+    right-next (partAt (a .begins .now) (a .stops .now) (a .vars .now)) (a .nums .now) _ _ _ _
+    (l .loop .inv) (omega arith) (c .before .before .wide .ensures .0) (c .before .due .ensures) (c .if1 .left)
 
 returns-2 : tie.Need-returns-2 Inv-loop μ-loop
-returns-2 c = holds-all _ _ _ (c .before .loop .inv) (c .loop-test .left)
+returns-2 c = holds-all _ _ _ (c .before .loop .inv) (omega arith)
 
 pub numbers-right-spec : {M : Type 1} → statement M
 numbers-right-spec =

@@ -25,17 +25,13 @@ wide-requires : tie.Need-wide-requires Inv-loop μ-loop
 wide-requires c κs = search needs
 
 returns : tie.Need-returns Inv-loop μ-loop
-returns c =
-    let loop-test = c .before .before .before .loop-test in let l = c .before .before .before .before in
-    no-row _ _ _ _ _ _ (l .loop .inv) (loop-test .taken) _ (c .before .wide .ensures .0) (c .if1 .taken)
+returns c = no-row _ _ _ _ _ _ (c .before .before .before .before .loop .inv) (omega arith) _ (c .before .wide .ensures .0) (omega arith)
 
 mul-wide-2 : tie.Need-mul-wide-2 Inv-loop μ-loop
 mul-wide-2 c = search needs
 
 shared-slice-read-wide-2 : tie.Need-shared-slice-read-wide-2 Inv-loop μ-loop
-shared-slice-read-wide-2 c =
-    let s = c .before .before .before .before .before .before .before .before .before in
-    omega (arith, s .pre .0 .long)
+shared-slice-read-wide-2 c = search needs
 
 wide-requires-2 : tie.Need-wide-requires-2 Inv-loop μ-loop
 wide-requires-2 c κs = search needs
@@ -59,10 +55,9 @@ add-stands c = search needs
 
 returns-2 : tie.Need-returns-2 Inv-loop μ-loop
 returns-2 c =
-    let wide2 = c .before .before .before .wide2 in let wide = c .before .before .before .before .before .before .wide in
-    let loop-test = c .before .before .before .before .before .before .before .before .loop-test in
-    let l = c .before .before .before .before .before .before .before .before .before in
-    too-low _ _ _ _ _ _ (l .loop .inv) (loop-test .taken) _ (wide .ensures .0) _ _ (wide2 .ensures .0) (c .before .wide3 .ensures .0) (c .if2 .taken)
+    let wide = c .before .before .before .before .before .before .wide in let l = c .before .before .before .before .before .before .before .before .before in
+    let v = c .before .before .before .wide2 in let x = c .before .wide3 in
+    too-low _ _ _ _ _ _ (l .loop .inv) (omega arith) _ (wide .ensures .0) _ _ (v .ensures .0) (x .ensures .0) (omega arith)
 
 add-least : tie.Need-add-least Inv-loop μ-loop
 add-least c = search needs
@@ -75,15 +70,12 @@ loop-less c = search needs
 
 loop-again : tie.Need-loop-again Inv-loop μ-loop
 loop-again c =
-    let wide2 = c .before .before .before .wide2 in let if1 = c .before .before .before .before .before .if1 in
-    let wide = c .before .before .before .before .before .before .wide in
-    let loop-test = c .before .before .before .before .before .before .before .before .loop-test in
-    let l = c .before .before .before .before .before .before .before .before .before in
-    climbing-next _ _ _ _ _ _ (l .loop .inv) (loop-test .taken) _ (wide .ensures .0) _ _ (wide2 .ensures .0) (c .before .wide3 .ensures .0)
-    (if1 .left) (c .if2 .left) (c .before .wide3 .ensures .1) (wide .ensures .1)
+    let wide = c .before .before .before .before .before .before .wide in let l = c .before .before .before .before .before .before .before .before .before in
+    let v = c .before .before .before .wide2 in let x = c .before .wide3 in
+    climbing-next _ _ _ _ _ _ (l .loop .inv) (omega arith) _ (wide .ensures .0) _ _ (v .ensures .0) (x .ensures .0) (omega arith) (omega arith) (x .ensures .1) (wide .ensures .1)
 
 returns-3 : tie.Need-returns-3 Inv-loop μ-loop
-returns-3 c = climbed _ _ _ _ _ _ (c .before .loop .inv) (c .loop-test .left)
+returns-3 c = climbed _ _ _ _ _ _ (c .before .loop .inv) (omega arith)
 
 pub order-right-spec : {M : Type 1} → statement M
 order-right-spec =

@@ -1,16 +1,15 @@
 -- A visit leaves what had begun as it was, and v ends where all its inputs end (`Visits`); each call leaves fewer fresh variables than this one met.
 -- Assumes nothing.
-use Prim.Native.Nat.{ℕ, _≤_, _<_, _-_, _+_}
-use mathlib.Core.List.{List·Memᴰ, List·Memᴰ·head}
+use Prim.Native.Nat.{ℕ, _+_, _-_, _≤_, _<_}
+use mathlib.Core.List.{_∷_, List·Memᴰ, List·Memᴰ·head}
 use mathlib.Core.Path.{_≡_, refl, ap₂, sym, subst}
 use native.Mathlib.Omega.{arith}
 use lib.ListN.{length}
 use lib.Seq.{slice}
 use borrow.Author.Needs.{needs}
-use Rattle.paper.specs.Lists.{nat, size}
-use Rattle.order.specs.Numbering.{partAt, fresh, Going}
-use Rattle.order.proofs.Visits.{left-next, left-none, visited-known, going-start, going-less, going-fail, going-small, going-end, going-step}
-use Prim.Native.Nat.{ℕ, _<_}
+use Rattle.paper.specs.Lists.{size}
+use Rattle.order.specs.Numbering.{partAt, fresh}
+use Rattle.order.proofs.Visits.{left-next, left-none, visited-known, Begun, Going, going-start, going-less, going-fail, going-small, going-end, going-step}
 use borrow.Fn.Kinds.{In}
 use borrow.Fn.PlainCycle.{Measures, is, falls, and}
 use Rattle.order.proofs.visit.visit.Reads as visit
@@ -44,7 +43,7 @@ visit-mul-wide : (t : ℕ) → visit-lts.Need-mul-wide (told t) (visit-at t) vis
 visit-mul-wide t c = search needs
 
 visit-element-copy-out-wide : (t : ℕ) → visit-lts.Need-element-copy-out-wide (told t) (visit-at t) visit.Post visit-Inv-loop visit-μ-loop
-visit-element-copy-out-wide t c = omega (arith, c .before .pre .1 .0 .few, c .before .pre .1 .1 .0)
+visit-element-copy-out-wide t c = search needs
 
 visit-wide-requires : (t : ℕ) → visit-lts.Need-wide-requires (told t) (visit-at t) visit.Post visit-Inv-loop visit-μ-loop
 visit-wide-requires t c κs = search needs
@@ -58,17 +57,13 @@ visit-mul-state : (t : ℕ) → visit-lts.Need-mul-state (told t) (visit-at t) v
 visit-mul-state t c = search needs
 
 visit-element-write-state : (t : ℕ) → visit-lts.Need-element-write-state (told t) (visit-at t) visit.Post visit-Inv-loop visit-μ-loop
-visit-element-write-state t c =
-    let s = c .before .before .before .before in
-    omega (arith, s .pre .1 .0 .few, s .pre .1 .1 .0)
+visit-element-write-state t c = search needs
 
 visit-mul-wide-2 : (t : ℕ) → visit-lts.Need-mul-wide-2 (told t) (visit-at t) visit.Post visit-Inv-loop visit-μ-loop
 visit-mul-wide-2 t c = search needs
 
 visit-element-copy-out-wide-2 : (t : ℕ) → visit-lts.Need-element-copy-out-wide-2 (told t) (visit-at t) visit.Post visit-Inv-loop visit-μ-loop
-visit-element-copy-out-wide-2 t c =
-    let s = c .before .before .before .before in
-    omega (arith, s .pre .1 .0 .few, s .pre .1 .1 .0)
+visit-element-copy-out-wide-2 t c = search needs
 
 visit-wide-requires-2 : (t : ℕ) → visit-lts.Need-wide-requires-2 (told t) (visit-at t) visit.Post visit-Inv-loop visit-μ-loop
 visit-wide-requires-2 t c κs = search needs
@@ -77,52 +72,59 @@ visit-mul-wide-3 : (t : ℕ) → visit-lts.Need-mul-wide-3 (told t) (visit-at t)
 visit-mul-wide-3 t c = search needs
 
 visit-element-copy-out-wide-3 : (t : ℕ) → visit-lts.Need-element-copy-out-wide-3 (told t) (visit-at t) visit.Post visit-Inv-loop visit-μ-loop
-visit-element-copy-out-wide-3 t c =
-    let s = c .before .before .before .before .before .before in
-    omega (arith, s .pre .1 .0 .few, s .pre .1 .1 .0)
+visit-element-copy-out-wide-3 t c = search needs
 
 visit-wide-requires-3 : (t : ℕ) → visit-lts.Need-wide-requires-3 (told t) (visit-at t) visit.Post visit-Inv-loop visit-μ-loop
 visit-wide-requires-3 t c κs = search needs
 
 visit-loop-holds : (t : ℕ) → visit-lts.Need-loop-holds (told t) (visit-at t) visit.Post visit-Inv-loop visit-μ-loop
 visit-loop-holds t c =
-    let wide2 = c .before .before .wide2 in let if1 = c .before .before .before .before .if1 in
-    let wide = c .before .before .before .before .before .wide in let s = c .before .before .before .before .before .before .before .before in
-    going-start _ _ _ _ (s .pre .1 .1 .1) (s .pre .1 .1 .0) (omega (arith, wide .ensures .0, if1 .left)) _ (ap₂ (λ a b. slice a b (s .args .vars .now)) (c .wide3 .ensures .0) (wide2 .ensures .0))
+    let s = c .before .before .before .before .before .before .before .before in
+    going-start _ _ _ _ (record { right = s .pre .1 .1 .1; below = s .pre .1 .1 .0; unseen = search needs }) _
+    (ap₂ (λ a b. slice a b (s .args .vars .now)) (c .wide3 .ensures .0) (c .before .before .wide2 .ensures .0))
 
--- v was fresh, and its part ends inside the entries
-visit-unseen : (t : ℕ) (c : visit-lts.At-loop (told t) (visit-at t) visit.Post visit-Inv-loop visit-μ-loop)
-    → nat (c .before .before .before .before .before .before .before .before .before .args .state .now) (c .before .before .before .before .before .before .before .before .before .args .v) ≡ 0
-visit-unseen t c = omega (arith, c .before .before .before .before .before .before .wide .ensures .0, c .before .before .before .before .before .if1 .left)
+-- ── what every turn knows ──
+abbrev Turn : ℕ → Type 0
+Turn t = visit-lts.At-loop (told t) (visit-at t) visit.Post visit-Inv-loop visit-μ-loop
 
-visit-inside : (t : ℕ) (c : visit-lts.At-loop (told t) (visit-at t) visit.Post visit-Inv-loop visit-μ-loop)
-    → c .before .before .before .wide2 .result ≤ length (c .before .before .before .before .before .before .before .before .before .args .vars .now)
-visit-inside t c = omega (arith, c .before .before .before .wide2 .ensures .0, c .before .before .before .before .before .before .before .before .before .pre .1 .0 .inside (c .before .before .before .before .before .before .before .before .before .args .v))
+abbrev start : (t : ℕ) → Turn t → visit-lts.Start (told t) (visit-at t) visit.Post visit-Inv-loop visit-μ-loop
+start t c = c .before .before .before .before .before .before .before .before .before
+
+-- v was fresh
+visit-begun : (t : ℕ) (c : Turn t) → let a = start t c .args in Begun (a .n) (partAt (a .begins .now) (a .stops .now) (a .vars .now)) (a .v) (a .state .now)
+visit-begun t c = record { right = start t c .pre .1 .1 .1; below = start t c .pre .1 .1 .0; unseen = search needs }
+
+-- its part stops inside the entries
+visit-inside : (t : ℕ) (c : Turn t) → c .before .before .before .wide2 .result ≤ length (start t c .args .vars .now)
+visit-inside t c = omega (arith, start t c .pre .1 .0 .inside (start t c .args .v))
 
 visit-mul-wide-4 : (t : ℕ) → visit-lts.Need-mul-wide-4 (told t) (visit-at t) visit.Post visit-Inv-loop visit-μ-loop
 visit-mul-wide-4 t c = search needs
 
 visit-shared-slice-read-wide : (t : ℕ) → visit-lts.Need-shared-slice-read-wide (told t) (visit-at t) visit.Post visit-Inv-loop visit-μ-loop
-visit-shared-slice-read-wide t c =
-    let l = c .before .before in
-    omega (arith, visit-inside t (l), c .before .loop-test .taken)
+visit-shared-slice-read-wide t c = omega (arith, visit-inside t (c .before .before))
 
 visit-wide-requires-4 : (t : ℕ) → visit-lts.Need-wide-requires-4 (told t) (visit-at t) visit.Post visit-Inv-loop visit-μ-loop
 visit-wide-requires-4 t c κs = search needs
 
+-- the next input is the first of those that are left
+visit-next : (t : ℕ) (c : visit-lts.After-wide4 (told t) (visit-at t) visit.Post visit-Inv-loop visit-μ-loop)
+    → let l = c .before .before .before in let vars = start t l .args .vars .now in let stop = l .before .before .before .wide2 .result in
+    slice (l .loop .i) stop vars ≡ c .wide4 .result ∷ slice (l .loop .i + 1) stop vars
+visit-next t c = left-next _ _ _ _ (c .before .before .loop-test .taken) (visit-inside t (c .before .before .before)) (c .wide4 .ensures .0)
+
 visit-visit-requires : (t : ℕ) → visit-lts.Need-visit-requires (told t) (visit-at t) visit.Post visit-Inv-loop visit-μ-loop
 visit-visit-requires t c κs =
-    let loop-test = c .before .before .before .loop-test in let l = c .before .before .before .before in
-    let s = l .before .before .before .before .before .before .before .before .before in
-    let less = going-less _ _ _ _ (s .pre .1 .1 .1) (s .pre .1 .1 .0) (visit-unseen t (l)) _ _ _ (l .loop .inv) in
-    (omega (arith, less, s .pre .0), (s .pre .1 .0, (s .pre .1 .0 .below _ _ (l .loop .inv .rest _ (subst (List·Memᴰ _) (sym (left-next _ _ _ _ (loop-test .taken) (visit-inside t (l)) (c .before .wide4 .ensures .0))) (List·Memᴰ·head refl))), l .loop .inv .right)))
+    let l = c .before .before .before .before in
+    let s = start t l in
+    let less = going-less _ _ _ _ (visit-begun t l) _ _ _ (l .loop .inv) in
+    let next = l .loop .inv .rest _ (subst (List·Memᴰ _) (sym (visit-next t (c .before))) (List·Memᴰ·head refl)) in
+    (omega (arith, less, s .pre .0), (s .pre .1 .0, (s .pre .1 .0 .below _ _ next, l .loop .inv .right)))
 
 visit-returns-2 : (t : ℕ) → visit-lts.Need-returns-2 (told t) (visit-at t) visit.Post visit-Inv-loop visit-μ-loop
 visit-returns-2 t c =
-    let wide4 = c .before .before .before .wide4 in let loop-test = c .before .before .before .before .before .loop-test in
-    let l = c .before .before .before .before .before .before in let s = l .before .before .before .before .before .before .before .before .before in
-    going-fail _ _ _ _ (s .pre .1 .1 .1) (s .pre .1 .1 .0) (visit-unseen t (l)) _ _ _ (l .loop .inv) _ _ _ _
-    (left-next _ _ _ _ (loop-test .taken) (visit-inside t (l)) (wide4 .ensures .0)) (c .before .visit .ensures) (c .if2 .taken)
+    let l = c .before .before .before .before .before .before in
+    going-fail _ _ _ _ (visit-begun t l) _ _ _ (l .loop .inv) _ _ _ _ (visit-next t (c .before .before .before)) (c .before .visit .ensures) (c .if2 .taken)
 
 visit-larger-requires : (t : ℕ) → visit-lts.Need-larger-requires (told t) (visit-at t) visit.Post visit-Inv-loop visit-μ-loop
 visit-larger-requires t c κs = search needs
@@ -135,14 +137,12 @@ visit-loop-less t c = search needs
 
 visit-loop-again : (t : ℕ) → visit-lts.Need-loop-again (told t) (visit-at t) visit.Post visit-Inv-loop visit-μ-loop
 visit-loop-again t c =
-    let visit = c .before .before .visit in let wide4 = c .before .before .before .before .wide4 in
-    let loop-test = c .before .before .before .before .before .before .loop-test in let l = c .before .before .before .before .before .before .before in
-    going-step _ _ _ _ _ _ _ _ _ _ _ _ (l .loop .inv) (left-next _ _ _ _ (loop-test .taken) (visit-inside t (l)) (wide4 .ensures .0)) (visit .ensures) (c .before .if2 .left) (c .larger .ensures)
+    let l = c .before .before .before .before .before .before .before in
+    going-step _ _ _ _ _ _ _ _ _ _ _ _ (l .loop .inv) (visit-next t (c .before .before .before .before))
+    (c .before .before .visit .ensures) (c .before .if2 .left) (c .larger .ensures)
 
-visit-best : (t : ℕ) (c : visit-lts.At-loop (told t) (visit-at t) visit.Post visit-Inv-loop visit-μ-loop) → c .loop .best ≤ 4097
-visit-best t c =
-    going-small _ _ _ _ (c .before .before .before .before .before .before .before .before .before .pre .1 .1 .1) (c .before .before .before .before .before .before .before .before .before .pre .1 .1 .0) (visit-unseen t c) _ _ _ (c .loop .inv)
-    (c .before .before .before .before .before .before .before .before .before .pre .1 .0 .few)
+visit-best : (t : ℕ) (c : Turn t) → c .loop .best ≤ 4097
+visit-best t c = going-small _ _ _ _ (visit-begun t c) _ _ _ (c .loop .inv) (start t c .pre .1 .0 .few)
 
 visit-add-state : (t : ℕ) → visit-lts.Need-add-state (told t) (visit-at t) visit.Post visit-Inv-loop visit-μ-loop
 visit-add-state t c = omega (arith, visit-best t (c .before))
@@ -154,17 +154,13 @@ visit-mul-state-2 : (t : ℕ) → visit-lts.Need-mul-state-2 (told t) (visit-at 
 visit-mul-state-2 t c = search needs
 
 visit-element-write-state-2 : (t : ℕ) → visit-lts.Need-element-write-state-2 (told t) (visit-at t) visit.Post visit-Inv-loop visit-μ-loop
-visit-element-write-state-2 t c =
-    let s = c .before .before .before .before .before .before .before .before .before .before in
-    omega (arith, s .pre .1 .0 .few, s .pre .1 .1 .0)
+visit-element-write-state-2 t c = search needs
 
 visit-add-result : (t : ℕ) → visit-lts.Need-add-result (told t) (visit-at t) visit.Post visit-Inv-loop visit-μ-loop
 visit-add-result t c = omega (arith, visit-best t (c .before))
 
 visit-returns-3 : (t : ℕ) → visit-lts.Need-returns-3 (told t) (visit-at t) visit.Post visit-Inv-loop visit-μ-loop
-visit-returns-3 t c =
-    let s = c .before .before .before .before .before .before .before .before .before .before in
-    going-end _ _ _ _ (s .pre .1 .1 .1) (s .pre .1 .1 .0) (visit-unseen t (c .before)) _ _ _ (c .before .loop .inv) (left-none _ _ _ (c .loop-test .left))
+visit-returns-3 t c = going-end _ _ _ _ (visit-begun t (c .before)) _ _ _ (c .before .loop .inv) (left-none _ _ _ (c .loop-test .left))
 
 pub +visit-spec : {M : Type 1} → statement M
 +visit-spec = close μ-visit λ t. visit-lts.spec (told t)

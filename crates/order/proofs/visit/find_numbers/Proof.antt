@@ -1,6 +1,6 @@
 -- After all visits the least variable whose visit has not ended is the least that can have no number (`swept-found`). Assumes nothing.
 use borrow.Author.Needs.{needs}
-use Rattle.order.proofs.Parted.{parted-of}
+use Rattle.order.proofs.Parted.{columns-of, parts-of, parted-of}
 use Rattle.order.proofs.Sweeps.{clean-new, swept-found}
 use borrow.Author.Needs.{needs}
 use Rattle.order.proofs.visit.find_numbers.Statement.{statement}
@@ -9,13 +9,15 @@ use Rattle.order.proofs.visit.find_numbers.Tie as tie
 set-parts-requires : tie.Need-set-parts-requires
 set-parts-requires c κs =
     let s = c .before .before .before .before .before .before .before in
-    (s .pre .0, (s .pre .1 .0, (clean-new _ _ (s .pre .0 .few), clean-new _ _ (s .pre .0 .few))))
+    (columns-of _ (s .pre .0) _ (s .pre .1 .0), search needs)
 
 visit-all-requires : tie.Need-visit-all-requires
 visit-all-requires c κs =
     let set-parts = c .before .before .before .set-parts in
     let s = c .before .before .before .before .before .before .before .before .before .before .before in
-    (parted-of _ (s .pre .0) (set-parts .ensures), s .pre .1 .1)
+    let zeros = clean-new _ 4096 (s .pre .0 .few) in
+    let parts = parts-of _ (s .pre .0) _ (s .pre .1 .0) zeros zeros (set-parts .ensures .0) (set-parts .ensures .1) in
+    (parted-of _ (s .pre .0) parts, s .pre .1 .1)
 
 first-open-requires : tie.Need-first-open-requires
 first-open-requires c κs = search needs
@@ -24,7 +26,9 @@ returns : tie.Need-returns
 returns c =
     let visit-all = c .before .before .visit-all in let set-parts = c .before .before .before .before .before .before .set-parts in
     let s = c .before .before .before .before .before .before .before .before .before .before .before .before .before .before in
-    swept-found _ (s .pre .0) _ _ _ _ (set-parts .ensures) (visit-all .ensures) (c .first-open .ensures)
+    let zeros = clean-new _ 4096 (s .pre .0 .few) in
+    let parts = parts-of _ (s .pre .0) _ (s .pre .1 .0) zeros zeros (set-parts .ensures .0) (set-parts .ensures .1) in
+    swept-found _ (s .pre .0) _ _ _ _ parts (visit-all .ensures) (c .first-open .ensures)
 
 pub find-numbers-spec : {M : Type 1} → statement M
 find-numbers-spec =

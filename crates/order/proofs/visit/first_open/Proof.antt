@@ -29,8 +29,8 @@ wide-requires c κs = search needs
 
 returns : tie.Need-returns Inv-loop μ-loop
 returns c =
-    let loop-test = c .before .before .before .loop-test in let l = c .before .before .before .before in let s = l .before in
-    scan-found _ _ _ (l .loop .inv) (loop-test .taken) (lt-leb 2 (nat (s .args .state .now) (l .loop .v)) (omega (arith, c .before .wide .ensures .0)))
+    let l = c .before .before .before .before in let state = l .before .args .state .now in
+    scan-found _ _ _ (l .loop .inv) (omega arith) (lt-leb 2 (nat state (l .loop .v)) (omega arith))
 
 add-v : tie.Need-add-v Inv-loop μ-loop
 add-v c = search needs
@@ -40,11 +40,11 @@ loop-less c = search needs
 
 loop-again : tie.Need-loop-again Inv-loop μ-loop
 loop-again c =
-    let loop-test = c .before .before .before .loop-test in let l = c .before .before .before .before in let s = l .before in
-    scan-next _ _ _ (l .loop .inv) (loop-test .taken) (le-leb 2 (nat (s .args .state .now) (l .loop .v)) (omega (arith, c .before .wide .ensures .0)))
+    let l = c .before .before .before .before in let state = l .before .args .state .now in
+    scan-next _ _ _ (l .loop .inv) (omega arith) (le-leb 2 (nat state (l .loop .v)) (omega arith))
 
 returns-2 : tie.Need-returns-2 Inv-loop μ-loop
-returns-2 c = scan-end _ _ _ (c .before .loop .inv) (c .loop-test .left)
+returns-2 c = scan-end _ _ _ (c .before .loop .inv) (omega arith)
 
 pub first-open-spec : {M : Type 1} → statement M
 first-open-spec =

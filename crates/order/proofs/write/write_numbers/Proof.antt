@@ -12,7 +12,8 @@ use Rattle.order.proofs.write.write_numbers.Statement.{statement}
 use Rattle.order.proofs.write.write_numbers.Tie as tie
 
 abbrev Inv-loop : tie.InvT-loop
-Inv-loop n m makes firsts counts vars state numbers₀ v₀ numbers v = (v ≤ n) × (length numbers ≡ length numbers₀) × Filled (number (net (bare n m makes firsts counts vars)) n) numbers₀ numbers v
+Inv-loop n m makes firsts counts vars state numbers₀ v₀ numbers v =
+    (v ≤ n) × (length numbers ≡ length numbers₀) × Filled (number (net (bare n m makes firsts counts vars)) n) numbers₀ numbers v
 
 abbrev μ-loop : tie.MeasureT-loop
 μ-loop n m makes firsts counts vars state numbers₀ v₀ numbers v = n - v
@@ -24,14 +25,12 @@ mul-numbers : tie.Need-mul-numbers Inv-loop μ-loop
 mul-numbers c = search needs
 
 element-copy-out-numbers : tie.Need-element-copy-out-numbers Inv-loop μ-loop
-element-copy-out-numbers c =
-    let s = c .before .before in
-    omega (arith, s .pre .0 .few)
+element-copy-out-numbers c = search needs
 
 sub-numbers : tie.Need-sub-numbers Inv-loop μ-loop
 sub-numbers c =
     let s = c .before .before .before in
-    omega (arith, s .pre .1 .0 .at _ (c .before .loop-test .taken))
+    omega (arith, s .pre .0 .at _ (c .before .loop-test .taken))
 
 mul-numbers-2 : tie.Need-mul-numbers-2 Inv-loop μ-loop
 mul-numbers-2 c = search needs
@@ -48,7 +47,7 @@ loop-less c = search needs
 loop-again : tie.Need-loop-again Inv-loop μ-loop
 loop-again c =
     let l = c .before .before in let s = l .before in
-    (omega arith, search needs, filled-next _ _ _ _ (l .loop .inv .2) (omega (arith, s .pre .1 .1)) (omega (arith, s .pre .1 .0 .at _ (c .before .loop-test .taken))))
+    (omega arith, search needs, filled-next _ _ _ _ (l .loop .inv .2) (omega (arith, s .pre .1)) (omega (arith, s .pre .0 .at _ (c .before .loop-test .taken))))
 
 same-length : tie.Need-same-length Inv-loop μ-loop
 same-length c = c .before .loop .inv .1

@@ -1,4 +1,4 @@
--- The kind picks the test, as in the paper. Assumes nothing.
+-- The kind picks the test; a bound is two tests (`within`). Assumes nothing.
 use lib.IntN.{pos}
 use borrow.Author.Tests.{ne-eqb}
 use mir.Syntax.{w16}

@@ -1,4 +1,4 @@
--- The kind picks the test, as in the paper. Assumes nothing.
+-- The kind picks the test; a bound is two tests (`within`). Assumes nothing.
 use mathlib.Core.Path.{refl, _∙_}
 use mathlib.Core.Logic.{⊎-elim, inl, inr}
 use lib.IntN.{pos}

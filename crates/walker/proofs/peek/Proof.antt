@@ -39,10 +39,10 @@ use Rattle.walker.proofs.entry_at as core
 use Rattle.walker.proofs.entry_at.Symbol as core-def
 use Rattle.walker.proofs.entry_at.Symbol.{name as #walker·entry-at}
 use Rattle.walker.proofs.entry_at.Met as core-thm
-use Rattle.walker.proofs.look.Key.{name as #walker·look}
-use Rattle.walker.proofs.look as here
-use Rattle.walker.proofs.look.Statement as stated
-use Rattle.walker.proofs.look.Code as code
+use Rattle.walker.proofs.peek.Key.{name as #walker·peek}
+use Rattle.walker.proofs.peek as here
+use Rattle.walker.proofs.peek.Statement as stated
+use Rattle.walker.proofs.peek.Code as code
 
 -- the struct's description and its laws, over the signature's lifetimes
 abbrev D : Lfts 2 → Declared
@@ -90,12 +90,12 @@ module _ {M : Type 1} (𝓤 : URA M) (H : Heap 𝓤) (A : Atoms 𝓤) (W : Given
         suffices ! _ (ends-said 𝓤 H A here.ended (here.clauses 𝓤 H A mem run) ((κs, qs, tt, (d, tt), (LL.vals (D κs) (L κs) d, tt)), tt) v W r (tt, tt)) $
         move ! (2 ∷ 0 ∷ []) $ join ! $ move ! (1 ∷ []) $ nothing ! $ nothing ! $ fjoin ! $ join ! $ done !)))))))))
 
-pub look-spec : {M : Type 1} → stated.statement M
+pub peek-spec : {M : Type 1} → stated.statement M
 unfolding code.routine tablesOf
-look-spec 𝓤 H 𝓜 𝓖 𝓡 =
+peek-spec 𝓤 H 𝓜 𝓖 𝓡 =
     let 𝓣 : Tables 𝓤 H = tablesOf 𝓤 H 𝓜 (tables 𝓤 H 𝓜 𝓡 code.env) in
     entered 𝓤 H (tripleOf 𝓤 H (𝓖 .A) here.signature (here.spec 𝓤 H (𝓖 .A) (𝓜 .mem) (𝓡 .run)))
-    (tables 𝓤 H 𝓜 𝓡 code.env .C) (tables 𝓤 H 𝓜 𝓡 code.env .Λ) #walker·look code.function (code.unfolded 𝓤 H 𝓜 𝓡)
+    (tables 𝓤 H 𝓜 𝓡 code.env .C) (tables 𝓤 H 𝓜 𝓡 code.env .Λ) #walker·peek code.function (code.unfolded 𝓤 H 𝓜 𝓡)
     (meets-said 𝓤 H (𝓖 .A) here.ended (here.clauses 𝓤 H (𝓖 .A) (𝓜 .mem) (𝓡 .run)) (WpFn 𝓤 H (𝓣 .C) (𝓣 .Λ) code.function) (λ κs. (LL.vals (D κs) (L κs), tt))
     (λ κs. (LL.tells (D κs) (L κs), tt))
     (λ κs qs bounds a g are. via 𝓤 _ (fst∗ 𝓤 _ (emp 𝓤)) (walk 𝓤 H (𝓖 .A) (givenOf 𝓤 H 𝓜 𝓖) (𝓜 .mem) (𝓡 .run) κs qs (a .0) (𝓣 .C) (𝓣 .Λ) (fmOf 𝓤 H (givenOf 𝓤 H 𝓜 𝓖 .laws) 𝓣)
