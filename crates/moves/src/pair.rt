@@ -5,7 +5,6 @@ ghost use Prim.Native.Nat.{_≤_};
 ghost use lib.ListN.{length};
 ghost use Rattle.paper.specs.Lists.{firstFail};
 ghost use Rattle.paper.specs.Checks.{accepted, moveFits, movable, hasValue, moveChecks};
-ghost use Rattle.tables.specs.Rows.{AllBelow};
 ghost use Rattle.tables.specs.Answers.{answerOf};
 ghost use Rattle.moves.specs.Moves.{OfMakers, moveOf};
 use crate::value::is_blank;
@@ -25,7 +24,6 @@ pub fn move_sizes(pairs: usize, vars: &[u16], values: &[i32]) -> bool
 pub fn first_unmovable(n: usize, by: &[u16], pairs: usize, vars: &[u16]) -> usize
     requires { ⌜ (n ≤ length (now by)) × (pairs ≤ length (now vars)) ⌝ }
     ensures { λ r. ⌜ OfMakers n (now (by .entry)) (λ t. r ≡ firstFail (movable (moveOf pairs (now (vars .entry)) []) t) pairs) ⌝ }
-    ensures { λ r. ⌜ AllBelow r (now (vars .entry)) n ⌝ }
 {
     for pair in 0..pairs {
         let v = wide(vars[pair]);
@@ -54,7 +52,7 @@ pub fn first_blank(pairs: usize, values: &[i32]) -> usize
 
 // Checks 10 to 12, each over all pairs before the next.
 pub fn move_checks(n: usize, by: &[u16], pairs: usize, vars: &[u16], values: &[i32]) -> Answer
-    requires { ⌜ (n ≤ length (now by)) × (n ≤ 4096) × (pairs ≤ 64) × (pairs ≤ length (now vars)) × (pairs ≤ length (now values)) ⌝ }
+    requires { ⌜ (n ≤ length (now by)) × (pairs ≤ 64) × (pairs ≤ length (now vars)) × (pairs ≤ length (now values)) ⌝ }
     ensures { λ r. ⌜ OfMakers n (now (by .entry)) (λ t. r ≡ answerOf 0 (moveChecks (moveOf pairs (now (vars .entry)) (now (values .entry))) t accepted)) ⌝ }
 {
     let fixed = first_unmovable(n, by, pairs, vars);

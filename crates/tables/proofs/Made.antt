@@ -14,8 +14,7 @@ use Rattle.paper.specs.Tables.{Tables, rowOf, isMade}
 use Rattle.paper.specs.Checks.{Sound}
 use Rattle.paper.proofs.Buffers.{over-length, over-at, over-over, over-same, over-set}
 use Rattle.paper.proofs.Accept.{sound-row, row-of, row-is-made}
-use Rattle.tables.specs.Rows.{AllBelow}
-use Rattle.tables.specs.Makers.{makerOf, Makers}
+use Rattle.tables.specs.Makers.{AllBelow, makerOf, Makers}
 
 -- ── as the loop fills it ──
 -- one more than the first place that holds v, counted from i; 0 if none does

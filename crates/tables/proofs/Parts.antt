@@ -1,13 +1,14 @@
 -- The part of a row as the code cuts it out, and the two tests before it is handed to whoever asks: there is such a row, and its part ends
 -- within e. Together they are those of the paper. Assumes nothing.
-use Prim.Native.Nat.{ℕ, _+_, _-_, _≤_, _<_}
+use Prim.Native.Nat.{ℕ, _+_, _-_, min, _≤_, _<_}
 use native.Mathlib.Omega.{arith}
-use mathlib.Core.Bool.{Bool, true, cond, _&&_}
+use mathlib.Core.Bool.{Bool, true, false, cond, _&&_}
 use mathlib.Core.List.{List, [], _∷_}
-use mathlib.Core.Path.{_≡_, sym, ap, ap₂, _∙_}
+use mathlib.Core.Path.{_≡_, refl, sym, ap, ap₂, _∙_}
 use lib.Dec.{leb, ltb}
-use lib.ListN.{length, take, drop}
-use borrow.Author.Tests.{ltb-true, leb-true}
+use lib.ListN.{length, take, drop, length-drop, drop-of-length-le}
+use lib.Seq.{take-all}
+use borrow.Author.Tests.{ltb-true, leb-true, leb-false}
 use Rattle.paper.specs.Lists.{nat}
 use Rattle.paper.specs.Tables.{inputsAsked}
 use Rattle.paper.proofs.Lists.{and-left, and-right}
@@ -22,6 +23,28 @@ pub cut-length : {A : Type 0} (first count : ℕ) (l : List A) → first + count
 cut-length first count l h =
     let same : (first + count) - first ≡ count = omega arith in
     ap (λ k. length (take k (drop first l))) same ∙ part-length l first count h
+
+-- as far as the list goes, where the part may pass its end
+drop-within : {A : Type 0} (l : List A) (first start : ℕ) → start ≡ min first (length l) → drop start l ≡ drop first l
+drop-within l first start s = go (leb first (length l)) refl
+  where
+    go : (b : Bool) → leb first (length l) ≡ b → drop start l ≡ drop first l
+    go true q = let low = leb-true first (length l) q in let same : start ≡ first = omega arith in ap (λ k. drop k l) same
+    go false q = let high = leb-false first (length l) q in drop-of-length-le l {i = start} (omega arith) ∙ sym (drop-of-length-le l {i = first} (omega arith))
+
+pub cut-within : {A : Type 0} (l : List A) (first count start end : ℕ) → end ≡ min (first + count) (length l) → start ≡ min first end
+    → take (end - start) (drop start l) ≡ take count (drop first l)
+cut-within l first count start end e s = go (leb (first + count) (length l)) refl
+  where
+    go : (b : Bool) → leb (first + count) (length l) ≡ b → take (end - start) (drop start l) ≡ take count (drop first l)
+    go true q =
+        let low = leb-true (first + count) (length l) q in
+        let same : start ≡ first = omega arith in let long : end - start ≡ count = omega arith in
+        ap₂ (λ k i. take k (drop i l)) long same
+    go false q =
+        let high = leb-false (first + count) (length l) q in
+        take-all (end - start) (drop start l) (simp length-drop (omega arith)) ∙ drop-within l first start (omega arith)
+        ∙ sym (take-all count (drop first l) (simp length-drop (omega arith)))
 
 module _ (m e : ℕ) (firsts counts vars : List ℕ) (row : ℕ) where
   abbrev there : Bool

@@ -11,11 +11,9 @@ use borrow.Author.Tests.{ltb-true, ltb-false, leb-true, eqb-true, eqb-false, ne-
 use Rattle.paper.specs.Lists.{all, between, total, nat, firstFail}
 use Rattle.paper.specs.Tables.{Tables}
 use Rattle.paper.specs.Checks.{arity, shapeGood}
-use Rattle.paper.proofs.Lists.{clash, and-left, and-right, each, all-at}
+use Rattle.paper.proofs.Lists.{clash, and-left, and-right, all-at}
 use Rattle.paper.proofs.Least.{firstFail-fails, firstFail-before}
 use Rattle.paper.proofs.Scan.{part-same}
-use Rattle.paper.proofs.Verdicts.{Past, past-held}
-use Rattle.tables.specs.Rows.{PartsInside, AllBelow}
 use Rattle.tables.proofs.Tests.{second-last}
 use Rattle.tables.proofs.Parts.{cut, cut-length}
 
@@ -90,13 +88,3 @@ pub placed-shape : (t : Tables) (r made : ℕ) (suits : Bool) (first count befor
 placed-shape t r made suits first count before p s q k b =
     ap (λ l. placed t made suits first count before && all (λ v. ltb v (t .n)) l) (part-same (t .vars) first count _ _ q k)
     ∙ rw (p, s, q, k, b) (sym (second-last _ _ _))
-
--- ── what check 3 leaves to the later ones, where it found no row ──
-module _ (t : Tables) (k : ℕ) (p : Past (shapeGood t) (t .m) k) where
-  pub past-inside : t .e ≤ length (t .coefs) → PartsInside (t .m) (length (t .coefs)) (t .firsts) (t .counts)
-  past-inside h = record {
-    at = λ r l. let ends = leb-true (nat (t .firsts) r + nat (t .counts) r) (t .e) (each _ (past-held (shapeGood t) (t .m) k p r l) .1 .1 .1 .1 .0) in omega arith;
-  }
-
-  pub past-below : t .n ≤ 4096 → AllBelow (t .m) (t .makes) 4096
-  past-below h = record { at = λ r l. let low = ltb-true (nat (t .makes) r) (t .n) (each _ (past-held (shapeGood t) (t .m) k p r l) .0) in omega arith }

@@ -8,6 +8,10 @@ use lib.ListN.{length, take}
 use Rattle.paper.specs.Lists.{nat, seek}
 use Rattle.paper.specs.Tables.{Tables}
 
+-- the first k of the list are below n
+pub record AllBelow (k : ℕ) (l : List ℕ) (n : ℕ) : Type 0 where
+  pub at : (i : ℕ) → i < k → nat l i < n
+
 -- one more than the row, of the m, that makes v; 0 if none does
 abbrev pub makerOf : ℕ → List ℕ → ℕ → ℕ
 makerOf m makes v = let row = seek v (take m makes) in cond (ltb row m) (suc row) 0

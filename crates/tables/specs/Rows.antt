@@ -1,12 +1,13 @@
 -- The lent rows that one check reads, as tables: what it does not read is left empty. So its contract is the paper's own test, which is the
--- same over the whole tables. Then what a check may rely on from those before it. Assumes nothing.
-use Prim.Native.Nat.{ℕ, _+_, _≤_, _<_}
-use mathlib.Core.Bool.{Bool, cond, _||_}
+-- same over the whole tables. Then checks 4 and 5 as the code takes them, one number or one place at a time. Assumes nothing.
+use Prim.Native.Nat.{ℕ}
+use mathlib.Core.Bool.{Bool, false, cond, _||_}
 use mathlib.Core.List.{List, []}
 use lib.IntN.{ℤ, pos, natAbs}
-use lib.Dec.{eqb, leb}
+use lib.Dec.{eqb, leb, ltb}
+use lib.ListN.{length, getD, take}
 use Rattle.integers.specs.Integers.{eqZ}
-use Rattle.paper.specs.Lists.{nat}
+use Rattle.paper.specs.Lists.{any, nat}
 use Rattle.paper.specs.Tables.{Tables, lent}
 
 abbrev pub kindRows : List ℕ → Tables
@@ -28,11 +29,7 @@ coefGood kind coef = cond (eqb kind 1) (leb (natAbs coef) 1000) (eqZ coef (pos 1
 abbrev pub paramGood : ℕ → ℤ → Bool
 paramGood kind param = cond (eqb kind 1 || eqb kind 6) (leb (natAbs param) 1000000000) (eqZ param (pos 0))
 
--- ── what check 3 leaves to the later ones ──
--- the parts of the first m rows end within e
-pub record PartsInside (m e : ℕ) (firsts counts : List ℕ) : Type 0 where
-  pub at : (r : ℕ) → r < m → nat firsts r + nat counts r ≤ e
-
--- the first k of the list are below n
-pub record AllBelow (k : ℕ) (l : List ℕ) (n : ℕ) : Type 0 where
-  pub at : (i : ℕ) → i < k → nat l i < n
+-- ── check 5, place by place ──
+-- an earlier place names what place i names: its mark says so, if it has one
+abbrev pub namedBefore : List Bool → List ℕ → ℕ → Bool
+namedBefore seen vars i = let v = nat vars i in cond (ltb v (length seen)) (getD seen v false) (any (eqb v) (take i vars))

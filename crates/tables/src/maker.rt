@@ -3,8 +3,7 @@ ghost use mathlib.Core.Path.{_≡_};
 ghost use Prim.Native.Nat.{_≤_, _<_};
 ghost use lib.ListN.{length};
 ghost use Rattle.paper.specs.Lists.{over};
-ghost use Rattle.tables.specs.Rows.{AllBelow};
-ghost use Rattle.tables.specs.Makers.{makerOf};
+ghost use Rattle.tables.specs.Makers.{AllBelow, makerOf};
 use integers::wide;
 
 // Puts 0 at the first n places.

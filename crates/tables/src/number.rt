@@ -1,10 +1,10 @@
 // Check 4: coefficients and parameters.
 ghost use mathlib.Core.Path.{_≡_};
-ghost use Prim.Native.Nat.{_≤_};
-ghost use lib.ListN.{length};
+ghost use Prim.Native.Nat.{_≤_, min};
+ghost use lib.ListN.{length, take, drop};
 ghost use Rattle.paper.specs.Lists.{all, firstFail};
 ghost use Rattle.paper.specs.Checks.{numberGood};
-ghost use Rattle.tables.specs.Rows.{PartsInside, numberRows, coefGood, paramGood};
+ghost use Rattle.tables.specs.Rows.{numberRows, coefGood, paramGood};
 use integers::wide;
 
 // A row of this kind may have the coefficient.
@@ -39,6 +39,25 @@ fn coefs_good(kind: u16, part: &[i16]) -> bool
     true
 }
 
+// The lesser of two numbers.
+fn lesser(a: usize, b: usize) -> usize
+    ensures { λ r. ⌜ r ≡ min a b ⌝ }
+{
+    if a <= b {
+        return a;
+    }
+    b
+}
+
+// The coefficients of a part, as many of them as there are.
+fn part_of<'a>(first: u16, count: u16, coefs: &'a [i16]) -> &'a [i16]
+    ensures { λ r. ⌜ now r ≡ take count (drop first (now (coefs .entry))) ⌝ }
+{
+    let end = lesser(wide(first) + wide(count), coefs.len());
+    let start = lesser(wide(first), end);
+    &coefs[start..end]
+}
+
 // The first row whose coefficients or parameter do not suit its kind.
 pub fn first_bad_number(
     m: usize,
@@ -49,13 +68,11 @@ pub fn first_bad_number(
     coefs: &[i16],
 ) -> usize
     requires { ⌜ (m ≤ length (now kinds)) × (m ≤ length (now params)) × (m ≤ length (now firsts)) × (m ≤ length (now counts)) ⌝ }
-    requires { ⌜ PartsInside m (length (now coefs)) (now firsts) (now counts) ⌝ }
     ensures { λ r. ⌜ r ≡ firstFail (numberGood (numberRows (now (kinds .entry)) (now (params .entry)) (now (firsts .entry)) (now (counts .entry)) (now (coefs .entry)))) m ⌝ }
 {
     for row in 0..m {
-        let first = wide(firsts[row]);
-        let end = first + wide(counts[row]);
-        let good = coefs_good(kinds[row], &coefs[first..end]) & param_good(kinds[row], params[row]);
+        let part = part_of(firsts[row], counts[row], coefs);
+        let good = coefs_good(kinds[row], part) & param_good(kinds[row], params[row]);
         if !good {
             return row;
         }

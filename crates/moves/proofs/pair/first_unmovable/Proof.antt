@@ -1,29 +1,27 @@
--- The loop has passed every pair before this one (`Scan`), whichever tables the makers are of; their variables are below n. Assumes nothing.
+-- The loop has passed every pair before this one (`Scan`), whichever tables the makers are of. Assumes nothing.
 use Prim.Native.Nat.{_-_}
 use native.Mathlib.Omega.{arith}
 use mathlib.Core.List.{[]}
 use mathlib.Core.Path.{_≡_, _∙_}
 use lib.Dec.{eqb}
-use borrow.Author.Count.{below-more}
 use borrow.Author.Needs.{needs}
 use borrow.Author.Tests.{eq-eqb, ne-eqb}
 use Rattle.paper.specs.Lists.{nat}
 use Rattle.paper.specs.Checks.{movable}
 use Rattle.paper.proofs.Scan.{Scan, scan-start, scan-next, scan-found, scan-all}
-use Rattle.tables.specs.Rows.{AllBelow}
 use Rattle.moves.specs.Moves.{OfMakers, moveOf}
 use Rattle.moves.proofs.OverMakers.{movable-beyond, movable-below}
 use Rattle.moves.proofs.pair.first_unmovable.Statement.{statement}
 use Rattle.moves.proofs.pair.first_unmovable.Tie as tie
 
 abbrev Inv-loop : tie.InvT-loop
-Inv-loop n by pairs vars pair₀ pair = OfMakers n by (λ t. Scan (movable (moveOf pairs vars []) t) pairs pair) × AllBelow pair vars n
+Inv-loop n by pairs vars pair₀ pair = OfMakers n by (λ t. Scan (movable (moveOf pairs vars []) t) pairs pair)
 
 abbrev μ-loop : tie.MeasureT-loop
 μ-loop n by pairs vars pair₀ pair = pairs - pair
 
 loop-holds : tie.Need-loop-holds Inv-loop μ-loop
-loop-holds c = (record { of = λ t e k. scan-start _ _ }, record { at = λ i l. absurd (omega arith) })
+loop-holds c = record { of = λ t e k. scan-start _ _ }
 
 mul-wide : tie.Need-mul-wide Inv-loop μ-loop
 mul-wide c = search needs
@@ -36,14 +34,12 @@ wide-requires c κs = search needs
 
 returns : tie.Need-returns Inv-loop μ-loop
 returns c =
-    let a = c .before .before .before .before .before .before .before .args in let l = c .before .before .before .before .loop in (
-      record {
-        of = λ t e k.
-            scan-found _ _ _ (l .inv .0 .of t e k) (omega arith)
-            (movable-beyond t _ k (moveOf (a .pairs) (a .vars .now) []) (l .pair) (c .before .wide .result) (c .before .wide .ensures .0) (omega arith));
-      },
-      l .inv .1,
-    )
+    let a = c .before .before .before .before .before .before .before .args in let l = c .before .before .before .before .loop in
+    record {
+      of = λ t e k.
+          scan-found _ _ _ (l .inv .of t e k) (omega arith)
+          (movable-beyond t _ k (moveOf (a .pairs) (a .vars .now) []) (l .pair) (c .before .wide .result) (c .before .wide .ensures .0) (omega arith));
+    }
 
 -- a variable below n may be moved if none makes it
 below : (c : tie.Else1 Inv-loop μ-loop)
@@ -62,7 +58,7 @@ shared-slice-read-if2 c = search needs
 returns-2 : tie.Need-returns-2 Inv-loop μ-loop
 returns-2 c =
     let l = c .before .before .before .before .before .before .loop in
-    (record { of = λ t e k. scan-found _ _ _ (l .inv .0 .of t e k) (omega arith) (below (c .before .before) .of t e k ∙ ne-eqb _ _ (c .if2 .taken)) }, l .inv .1)
+    record { of = λ t e k. scan-found _ _ _ (l .inv .of t e k) (omega arith) (below (c .before .before) .of t e k ∙ ne-eqb _ _ (c .if2 .taken)) }
 
 add-pair : tie.Need-add-pair Inv-loop μ-loop
 add-pair c = search needs
@@ -72,15 +68,11 @@ loop-less c = search needs
 
 loop-again : tie.Need-loop-again Inv-loop μ-loop
 loop-again c =
-    let l = c .before .before .before .before .before .before .loop in let w = c .before .before .before .wide .ensures in (
-      record { of = λ t e k. scan-next _ _ _ (l .inv .0 .of t e k) (omega arith) (below (c .before .before) .of t e k ∙ eq-eqb _ _ (c .if2 .left)) },
-      record { at = below-more _ _ (l .inv .1 .at) (omega arith) },
-    )
+    let l = c .before .before .before .before .before .before .loop in
+    record { of = λ t e k. scan-next _ _ _ (l .inv .of t e k) (omega arith) (below (c .before .before) .of t e k ∙ eq-eqb _ _ (c .if2 .left)) }
 
 returns-3 : tie.Need-returns-3 Inv-loop μ-loop
-returns-3 c =
-    let l = c .before .loop in
-    (record { of = λ t e k. scan-all _ _ _ (l .inv .0 .of t e k) (omega arith) }, record { at = λ i h. l .inv .1 .at i (omega arith) })
+returns-3 c = record { of = λ t e k. scan-all _ _ _ (c .before .loop .inv .of t e k) (omega arith) }
 
 pub first-unmovable-spec : {M : Type 1} → statement M
 first-unmovable-spec =

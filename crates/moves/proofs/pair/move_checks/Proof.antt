@@ -1,6 +1,4 @@
--- Each check stops the chain or is passed, and then the rest of the chain decides; check 10 says that check 11 may mark the variables.
--- Assumes nothing.
-use native.Mathlib.Omega.{arith}
+-- Each check stops the chain or is passed, and then the rest of the chain decides. Assumes nothing.
 use mathlib.Core.Path.{_≡_, refl, sym, ap, _∙_}
 use borrow.Author.Needs.{needs}
 use Rattle.paper.specs.Checks.{Verdict, accepted, Move, movable, namedOnce, hasValue, moveChecks}
@@ -34,19 +32,17 @@ refused-requires c κs = search needs
 
 returns : tie.Need-returns
 returns c =
-    let s = c .before .before .before .before .before in let mv = move s in let found = c .before .before .first-unmovable .ensures .0 in
+    let s = c .before .before .before .before .before in let mv = move s in let found = c .before .before .first-unmovable .ensures in
     told s (c .refused .ensures) (record { of = λ t q k. check-stops 10 (mv .pairs) (movable mv t) (fromEleven mv accepted) _ (found .of t q k) (c .before .if1 .taken) })
 
 -- ── past check 10 ──
 past₁₀ : (c : tie.Else1) → let s = c .before .before .before .before in Comes s (fromEleven (move s) accepted)
 past₁₀ c =
-    let mv = move (c .before .before .before .before) in let found = c .before .first-unmovable .ensures .0 in
+    let mv = move (c .before .before .before .before) in let found = c .before .first-unmovable .ensures in
     record { of = λ t q k. check-passes 10 (mv .pairs) (movable mv t) (fromEleven mv accepted) _ (found .of t q k, c .if1 .left) }
 
 first-again-requires : tie.Need-first-again-requires
-first-again-requires c κs =
-    let s = c .before .before .before .before in
-    (s .pre .3, record { at = λ i l. let low = c .before .first-unmovable .ensures .1 .at i (omega arith) in omega arith })
+first-again-requires c κs = search needs
 
 refused-requires-2 : tie.Need-refused-requires-2
 refused-requires-2 c κs = search needs

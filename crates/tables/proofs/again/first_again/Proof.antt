@@ -1,8 +1,8 @@
 -- The marks are set at the variables named before this place (`Seen`), so a mark found is an earlier place's. Assumes nothing.
-use Prim.Native.Nat.{_-_, _<_}
+use Prim.Native.Nat.{_+_, _-_}
 use native.Mathlib.Omega.{arith}
 use mathlib.Core.Bool.{not}
-use mathlib.Core.Path.{ap, _∙_}
+use mathlib.Core.Path.{_≡_, sym, ap, subst, _∙_}
 use borrow.Author.Needs.{needs}
 use Rattle.paper.specs.Checks.{madeOnce}
 use Rattle.paper.proofs.Scan.{Scan, scan-start, scan-next, scan-found, scan-all}
@@ -20,30 +20,30 @@ abbrev μ-loop : tie.MeasureT-loop
 loop-holds : tie.Need-loop-holds Inv-loop μ-loop
 loop-holds c = (scan-start _ _, seen-start _)
 
-mul-wide : tie.Need-mul-wide Inv-loop μ-loop
-mul-wide c = search needs
+slice-aggregate-named-before : tie.Need-slice-aggregate-named-before Inv-loop μ-loop
+slice-aggregate-named-before c = search needs
 
-shared-slice-read-wide : tie.Need-shared-slice-read-wide Inv-loop μ-loop
-shared-slice-read-wide c = search needs
+named-before-requires : tie.Need-named-before-requires Inv-loop μ-loop
+named-before-requires c κs = search needs
 
-wide-requires : tie.Need-wide-requires Inv-loop μ-loop
-wide-requires c κs = search needs
-
-small : (c : tie.After-wide Inv-loop μ-loop) → c .wide .result < 4096
-small c =
-    let w = c .wide .ensures in
-    omega (arith, c .before .before .before .before .before .pre .1 .at (c .before .before .before .loop .i) (c .before .before .loop-test .taken))
-
-array-read-if1 : tie.Need-array-read-if1 Inv-loop μ-loop
-array-read-if1 c = small c
+here : (c : tie.After-named-before Inv-loop μ-loop)
+    → let a = c .before .before .before .before .before .args in madeOnce (makesRows (a .vars .now)) (c .before .before .before .loop .i) ≡ not (c .named-before .result)
+here c = seen-once _ _ _ (c .before .before .before .loop .inv .1) ∙ ap not (sym (c .named-before .ensures))
 
 returns : tie.Need-returns Inv-loop μ-loop
-returns c =
-    let l = c .before .before .before .before .loop in
-    scan-found _ _ _ (l .inv .0) (omega arith) (seen-once _ _ _ _ (l .inv .1) (c .before .wide .ensures .0) (small (c .before)) ∙ ap not (c .if1 .taken))
+returns c = scan-found _ _ _ (c .before .before .before .before .loop .inv .0) (omega arith) (here (c .before) ∙ ap not (c .if1 .taken))
 
-array-write-seen : tie.Need-array-write-seen Inv-loop μ-loop
-array-write-seen c = small (c .before)
+mul-mark : tie.Need-mul-mark Inv-loop μ-loop
+mul-mark c = search needs
+
+shared-slice-read-mark : tie.Need-shared-slice-read-mark Inv-loop μ-loop
+shared-slice-read-mark c = search needs
+
+slice-aggregate-mark : tie.Need-slice-aggregate-mark Inv-loop μ-loop
+slice-aggregate-mark c = search needs
+
+mark-requires : tie.Need-mark-requires Inv-loop μ-loop
+mark-requires c κs = search needs
 
 add-i : tie.Need-add-i Inv-loop μ-loop
 add-i c = search needs
@@ -53,10 +53,9 @@ loop-less c = search needs
 
 loop-again : tie.Need-loop-again Inv-loop μ-loop
 loop-again c =
-    let l = c .before .before .before .before .loop in
-    let w = c .before .wide .ensures .0 in (
-      scan-next _ _ _ (l .inv .0) (omega arith) (seen-once _ _ _ _ (l .inv .1) w (small (c .before)) ∙ ap not (c .if1 .left)),
-      seen-next _ _ _ _ (l .inv .1) (omega arith) w (small (c .before)),
+    let b = c .before .before .before .before in let l = b .before .before .before .before .loop in let vars = b .before .before .before .before .before .before .args .vars .now in (
+      scan-next _ _ _ (l .inv .0) (omega arith) (here (b .before) ∙ ap not (b .if1 .left)),
+      subst (λ seen. Seen vars seen (l .i + 1)) (sym (c .before .mark .ensures)) (seen-next vars _ (l .i) (l .inv .1) (omega arith)),
     )
 
 returns-2 : tie.Need-returns-2 Inv-loop μ-loop
@@ -69,12 +68,13 @@ first-again-spec =
     Inv-loop
     μ-loop
     loop-holds
-    mul-wide
-    shared-slice-read-wide
-    wide-requires
-    array-read-if1
+    slice-aggregate-named-before
+    named-before-requires
     returns
-    array-write-seen
+    mul-mark
+    shared-slice-read-mark
+    slice-aggregate-mark
+    mark-requires
     add-i
     loop-less
     loop-again

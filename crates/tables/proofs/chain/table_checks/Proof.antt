@@ -1,4 +1,4 @@
--- Each check stops the chain or is passed, and then the rest of the chain decides; check 3 says what checks 4 and 5 rely on. Assumes nothing.
+-- Each check stops the chain or is passed, and then the rest of the chain decides. Assumes nothing.
 use native.Mathlib.Omega.{arith}
 use mathlib.Core.Path.{_≡_, sym, ap, _∙_}
 use lib.ListN.{take}
@@ -7,9 +7,8 @@ use borrow.Author.Tests.{eq-eqb, ne-eqb}
 use Rattle.paper.specs.Lists.{total}
 use Rattle.paper.specs.Tables.{Tables, lent}
 use Rattle.paper.specs.Checks.{accepted, kindGood, shapeGood, numberGood, madeOnce, tableChecks}
-use Rattle.paper.proofs.Verdicts.{Past, check-stops, check-passes, require-stops, require-next}
+use Rattle.paper.proofs.Verdicts.{check-stops, check-passes, require-stops, require-next}
 use Rattle.tables.specs.Answers.{answerOf}
-use Rattle.tables.proofs.Shapes.{past-inside, past-below}
 use Rattle.tables.proofs.Judged.{fromThree, fromTotal, fromFour, fromFive}
 use Rattle.tables.specs.declared.Answer.the-variants.{Refused}
 use Rattle.tables.proofs.chain.table_checks.Statement.{statement}
@@ -55,11 +54,8 @@ returns-2 c =
 abbrev t₃ : tie.Else2 → Tables
 t₃ c = t₂ (c .before .before)
 
-shapes : (c : tie.Else2) → Past (shapeGood (t₃ c)) (t₃ c .m) (c .before .first-bad-shape .result)
-shapes c = (c .before .first-bad-shape .ensures, c .if2 .left)
-
 past₃ : (c : tie.Else2) → tableChecks (t₃ c) accepted ≡ fromTotal (t₃ c) accepted
-past₃ c = let t = t₃ c in past₂ (c .before .before) ∙ check-passes 3 (t .m) (shapeGood t) (fromTotal t accepted) _ (shapes c)
+past₃ c = let t = t₃ c in past₂ (c .before .before) ∙ check-passes 3 (t .m) (shapeGood t) (fromTotal t accepted) _ (c .before .first-bad-shape .ensures, c .if2 .left)
 
 total-of-requires : tie.Need-total-of-requires
 total-of-requires c κs = search needs
@@ -87,9 +83,7 @@ past₃′ c =
     past₃ (c .before .before) ∙ require-next 3 _ _ (fromFour t accepted) (eq-eqb (total (take (t .m) (t .counts))) (t .e) (omega arith))
 
 first-bad-number-requires : tie.Need-first-bad-number-requires
-first-bad-number-requires c κs =
-    let z = c .before .before .before .before .before .before .before .before .before .before .before .pre in
-    ((z .kinds, z .params, z .firsts, z .counts), past-inside (t₃′ c) _ (shapes (c .before .before)) (z .coefs))
+first-bad-number-requires c κs = search needs
 
 refused-requires-4 : tie.Need-refused-requires-4
 refused-requires-4 c κs = search needs
@@ -108,9 +102,7 @@ past₄ : (c : tie.Else4) → tableChecks (t₄ c) accepted ≡ fromFive (t₄ c
 past₄ c = let t = t₄ c in past₃′ (c .before .before) ∙ check-passes 4 (t .m) (numberGood t) (fromFive t accepted) _ (c .before .first-bad-number .ensures, c .if4 .left)
 
 first-again-requires : tie.Need-first-again-requires
-first-again-requires c κs =
-    let z = c .before .before .before .before .before .before .before .before .before .before .before .before .before .pre in
-    (z .makes, past-below (t₄ c) _ (shapes (c .before .before .before .before)) (z .n-most))
+first-again-requires c κs = search needs
 
 refused-requires-5 : tie.Need-refused-requires-5
 refused-requires-5 c κs = search needs
