@@ -1,5 +1,4 @@
 pub mod Lengths
 pub mod Judging
 pub mod Fills
-pub mod Walk
 pub mod Record

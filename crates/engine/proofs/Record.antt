@@ -5,7 +5,7 @@
 --     lends-record     a local that holds a record is lent for κ: [the reference; the lender's part]
 --     back-record      once κ is over the local holds the last value
 --     is-done          a `Done` from its fields
---     ends-record      what is left at exit, in the order in which `Walk.antt`'s `ends-said` asks for it
+--     ends-record      what is left at exit, in the order in which `walker/proofs/Walk`'s `ends-said` asks for it
 -- The steps take `Given`. The rest assumes nothing.
 use mathlib.Core.Path.{_≡_, refl}
 use Prim.Native.Nat.{ℕ}

@@ -42,7 +42,7 @@ use Rattle.tables.proofs.Answer as R
 use Rattle.tables.proofs.Answer.Laws as R′
 use Rattle.engine.proofs.Done as D
 use Rattle.engine.proofs.Done.Laws as D′
-use Rattle.engine.proofs.Walk.{Con, Ensures, ends-said, returned, meets-said}
+use Rattle.walker.proofs.Walk.{Con, Ensures, ends-said, returned, meets-said}
 use Rattle.engine.proofs.Record.{svals, answered, is-answer, is-session, opens-record, closes-record, ends-record}
 use Rattle.engine.proofs.building.build_core as core
 use Rattle.engine.proofs.building.build_core.Symbol as core-def

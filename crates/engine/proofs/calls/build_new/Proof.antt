@@ -43,7 +43,7 @@ use Rattle.tables.proofs.Answer as R
 use Rattle.tables.proofs.Answer.Laws as R′
 use Rattle.engine.proofs.Done as D
 use Rattle.engine.proofs.Done.Laws as D′
-use Rattle.engine.proofs.Walk.{Con, ends-said, returned, meets-said}
+use Rattle.walker.proofs.Walk.{Con, ends-said, returned, meets-said}
 use Rattle.engine.proofs.Record.{svals, shown-answer, is-done, lends-record, back-record}
 use Rattle.engine.proofs.calls.build as core
 use Rattle.engine.proofs.calls.build.Symbol as core-def
