@@ -5,7 +5,6 @@ mod fields;
 mod header;
 mod layout;
 mod lines;
-mod sizes;
 
 ghost use mathlib.Core.Path.{_≡_};
 ghost use Rattle.paper.specs.Tables.{lent};
@@ -20,7 +19,7 @@ use crate::layout::ends_at;
 use crate::lines::put_entries;
 use crate::lines::put_rows;
 use crate::lines::put_starts;
-use crate::sizes::sized;
+use tables::sizes;
 
 // What a call that writes answers: the file stands in front of the bytes, or why not.
 pub enum Written {
@@ -56,8 +55,20 @@ pub fn write(
         (now (starts .entry)) (now (bytes .entry))
         ⌝ }
 {
-    let tables = sized(n, m, e, kinds, makes, params, firsts, counts, vars, coefs);
-    if !(tables & (n <= starts.len())) {
+    let held = sizes(
+        n,
+        m,
+        e,
+        kinds,
+        makes,
+        params,
+        firsts,
+        counts,
+        vars,
+        coefs,
+        starts,
+    );
+    if !held {
         return Written::Refused {
             number: 1,
             place: 0,
@@ -101,8 +112,20 @@ pub fn read(
     let Reading::Accepted { n, m, e } = told else {
         return told;
     };
-    let tables = sized(n, m, e, kinds, makes, params, firsts, counts, vars, coefs);
-    if !(tables & (n <= starts.len())) {
+    let held = sizes(
+        n,
+        m,
+        e,
+        kinds,
+        makes,
+        params,
+        firsts,
+        counts,
+        vars,
+        coefs,
+        starts,
+    );
+    if !held {
         return Reading::Refused {
             number: 1,
             place: 0,

@@ -16,7 +16,7 @@ use Rattle.files.proofs.read.Tie as tie
 
 -- ── what later answers look back to ──
 abbrev stated : tie.Else1 → tie.After-told
-stated c = c .before .before .before .before .before .before .before .before .before .before
+stated c = c .before .before .before .before .before .before .before .before .before .before .before
 
 abbrev begun : tie.Else1 → tie.Start
 begun c = stated c .before .before .before .before .before .before .before .before .before
@@ -29,7 +29,7 @@ abbrev model : tie.Else1 → Tables
 model c = let k = stated c .told .given .0 in counted (k .0) (k .1 .0) (k .1 .1 .0) (tables (begun c))
 
 passed : (c : tie.Else1) → held (model c) (begun c .args .starts .now) ≡ true
-passed c = rw (← (c .before .sized .ensures)) (not-false _ (c .if1 .left))
+passed c = rw (← (c .before .sizes .ensures)) (not-false _ (c .if1 .left))
 
 says : (c : tie.Else1) → let a = begun c .args in
     Sized (model c) × (model c .n ≤ length (a .starts .now)) × (length (a .bytes .now) ≡ endsAt (model c .n) (model c .m) (model c .e))
@@ -52,8 +52,8 @@ returns c =
     let s = c .before .before .before .before .before .before .before .before .before in
     refused-header (s .args .bytes .now) (c .before .before .header .ensures) (c .enum-told .given .1) (tables s) (s .args .starts .now)
 
-sized-requires : tie.Need-sized-requires
-sized-requires c κs = search needs
+sizes-requires : tie.Need-sizes-requires
+sizes-requires c κs = search needs
 
 same-length : tie.Need-same-length
 same-length c = search needs
@@ -76,12 +76,15 @@ same-length-6 c = search needs
 same-length-7 : tie.Need-same-length-7
 same-length-7 c = search needs
 
+same-length-8 : tie.Need-same-length-8
+same-length-8 c = search needs
+
 returns-2 : tie.Need-returns-2
 returns-2 c =
-    let k = c .before .before .before .before .before .before .before .before .before .before in
+    let k = c .before .before .before .before .before .before .before .before .before .before .before in
     let s = k .before .before .before .before .before .before .before .before .before in
     short-tables (s .args .bytes .now) (k .before .before .header .ensures) (k .told .given .1) (tables s) (s .args .starts .now)
-    (rw (← (c .before .sized .ensures)) (not-true _ (c .if1 .taken)))
+    (rw (← (c .before .sizes .ensures)) (not-true _ (c .if1 .taken)))
 
 lay-starts-requires : tie.Need-lay-starts-requires
 lay-starts-requires c κs = let h = says (c .before) in omega arith
@@ -93,9 +96,6 @@ lay-entries-requires : tie.Need-lay-entries-requires
 lay-entries-requires c κs =
     let l = c .before .before .before .before .before .before .before .before .before .before .before in
     let h = says (l .before .before .before .before .before .before .before .before .before) in omega arith
-
-same-length-8 : tie.Need-same-length-8
-same-length-8 c = search needs
 
 same-length-9 : tie.Need-same-length-9
 same-length-9 c = search needs
@@ -118,6 +118,9 @@ same-length-14 c = search needs
 same-length-15 : tie.Need-same-length-15
 same-length-15 c = search needs
 
+same-length-16 : tie.Need-same-length-16
+same-length-16 c = search needs
+
 returns-3 : tie.Need-returns-3
 returns-3 c =
     let l = c .before .before .before .before .before .before .before .before .before .before .before .before .before .before .before in
@@ -137,7 +140,7 @@ read-spec =
     enum-known-told
     enum-told
     returns
-    sized-requires
+    sizes-requires
     same-length
     same-length-2
     same-length-3
@@ -145,11 +148,11 @@ read-spec =
     same-length-5
     same-length-6
     same-length-7
+    same-length-8
     returns-2
     lay-starts-requires
     lay-rows-requires
     lay-entries-requires
-    same-length-8
     same-length-9
     same-length-10
     same-length-11
@@ -157,4 +160,5 @@ read-spec =
     same-length-13
     same-length-14
     same-length-15
+    same-length-16
     returns-3)

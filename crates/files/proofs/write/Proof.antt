@@ -23,19 +23,19 @@ tables c =
     lent (a .n) (a .m) (a .e) (a .kinds .now) (a .makes .now) (a .params .now) (a .firsts .now) (a .counts .now) (a .vars .now) (a .coefs .now)
 
 passed : (c : tie.Else1) → held (tables (begun c)) (begun c .args .starts .now) ≡ true
-passed c = rw (← (c .before .sized .ensures)) (not-false _ (c .if1 .left))
+passed c = rw (← (c .before .sizes .ensures)) (not-false _ (c .if1 .left))
 
 says : (c : tie.Else1) → Sized (tables (begun c)) × (begun c .args .n ≤ length (begun c .args .starts .now))
 says c = held-facts (tables (begun c)) (begun c .args .starts .now) (passed c)
 
 -- ── the call ──
-sized-requires : tie.Need-sized-requires
-sized-requires c κs = search needs
+sizes-requires : tie.Need-sizes-requires
+sizes-requires c κs = search needs
 
 returns : tie.Need-returns
 returns c =
     let s = c .before .before .before .before .before .before .before .before in
-    write-short (tables s) (s .args .starts .now) (s .args .bytes .now) (rw (← (c .before .sized .ensures)) (not-true _ (c .if1 .taken)))
+    write-short (tables s) (s .args .starts .now) (s .args .bytes .now) (rw (← (c .before .sizes .ensures)) (not-true _ (c .if1 .taken)))
 
 ends-at-requires : tie.Need-ends-at-requires
 ends-at-requires c κs = let h = says c in omega arith
@@ -76,7 +76,7 @@ pub write-spec : {M : Type 1} → statement M
 write-spec =
     tie.close
     (tie.spec
-    sized-requires
+    sizes-requires
     returns
     ends-at-requires
     returns-2
