@@ -8,7 +8,3 @@ pub use pair::first_unmovable;
 pub use pair::move_checks;
 pub use pair::move_sizes;
 pub use value::first_bad_value;
-pub use value::is_blank;
-
-// No value: the one number of 32 bits that is not a value.
-pub const BLANK: i32 = -2147483648;

@@ -7,7 +7,7 @@ ghost use Rattle.paper.specs.Lists.{firstFail};
 ghost use Rattle.paper.specs.Checks.{accepted, moveFits, movable, hasValue, moveChecks};
 ghost use Rattle.tables.specs.Answers.{answerOf};
 ghost use Rattle.moves.specs.Moves.{OfMakers, moveOf};
-use crate::value::is_blank;
+use formulas::blanks::is_blank;
 use integers::wide;
 use tables::Answer;
 use tables::first_again;

@@ -3,20 +3,11 @@ ghost use mathlib.Core.Bool.{cond};
 ghost use mathlib.Core.Path.{_≡_};
 ghost use Prim.Native.Nat.{_≤_};
 ghost use lib.ListN.{length};
-ghost use Rattle.integers.specs.Integers.{eqZ};
 ghost use Rattle.paper.specs.Lists.{firstFail};
-ghost use Rattle.paper.specs.Formula.{blank};
 ghost use Rattle.paper.specs.Tables.{valuesIn};
 ghost use Rattle.paper.specs.Checks.{startGood, storedGood};
 ghost use Rattle.moves.specs.Moves.{OfMakers, valueGood};
-use crate::BLANK;
-
-// The value is blank.
-pub fn is_blank(value: i32) -> bool
-    ensures { λ r. ⌜ r ≡ eqZ value blank ⌝ }
-{
-    value == BLANK
-}
+use formulas::blanks::is_blank;
 
 // A variable may have the value: a search variable any but blank; a made one any, and 0 where a model is built.
 fn value_good(building: bool, made: bool, value: i32) -> bool
