@@ -7,8 +7,7 @@ use lib.ListN.{length}
 use lib.Seq.{sets, length-sets}
 use Rattle.paper.specs.File.{bytesOf, joined}
 use Rattle.paper.proofs.Bytes.{go-on, turn}
-use Rattle.paper.proofs.Fields.{Field, packed, Follow}
-use Rattle.files.proofs.Widths.{width-length}
+use Rattle.paper.proofs.Fields.{Field, packed, Follow, width-length}
 
 -- ── a call for each field, in the bytes that the call before it left ──
 pub data Calls : List ℕ → List Field → List ℕ → Type 0 where

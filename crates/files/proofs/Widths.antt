@@ -9,12 +9,9 @@ use lib.ListN.{length, drop, set, length-set, drop-of-length-le}
 use lib.Seq.{sets}
 use Rattle.paper.specs.Lists.{nat}
 use Rattle.paper.specs.File.{bytesOf, field}
+use Rattle.paper.proofs.Fields.{width-length}
 
 -- ── the bytes of a number ──
-pub width-length : (w x : ℕ) → length (bytesOf w x) ≡ w
-width-length zero x = refl
-width-length (suc w) x = ap suc (width-length w (x / 256))
-
 -- what is left at byte k is that byte, which is the same in a wider field, and what is left behind it
 left-next : (w v k x : ℕ) → k < w → w ≤ v → drop k (bytesOf w x) ≡ nat (bytesOf v x) k ∷ drop (suc k) (bytesOf w x)
 left-next zero v k x l h = absurd (not-suc-le-zero l)

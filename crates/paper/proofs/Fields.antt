@@ -79,7 +79,7 @@ abbrev pub Holds : List ℕ → List Field → Type 0
 Holds b [] = Unit {0}
 Holds b ((k, w, x) ∷ fs) = (field w k b ≡ x) × Holds b fs
 
-width-length : (w x : ℕ) → length (bytesOf w x) ≡ w
+pub width-length : (w x : ℕ) → length (bytesOf w x) ≡ w
 width-length zero x = refl
 width-length (suc w) x = ap suc (width-length w (x / 256))
 
