@@ -1,14 +1,12 @@
 -- A signed number read back from its bits, and a row's inputs place by place. Assumes nothing.
 use Prim.Native.Nat.{ℕ, zero, suc, _+_, _^_, _≤_, _<_}
 use native.Mathlib.Omega.{arith}
-use native.Mathlib.Numerals.{add-one}
 use mathlib.Core.List.{List, [], _∷_}
-use mathlib.Core.Path.{_≡_, refl, sym, ap, _∙_}
+use mathlib.Core.Path.{_≡_, refl, _∙_}
 use borrow.Author.Needs.{sfits-of}
 use lib.Dec.{T, leb}
 use lib.IntN.{ℤ, pos}
 use lib.ListN.{length, getD, drop, length-map, drop-of-length-le}
-use lib.Seq.{drop-cons}
 use lib.Signed.{mag}
 use mir.Syntax.{Width, w64}
 use mir.Val.{SFits, hbits, toZ, ofZ}
@@ -16,6 +14,7 @@ use mir.Facts.{toZ-ofZ}
 use Rattle.integers.proofs.Ranges.{as64}
 use Rattle.paper.specs.Lists.{nat}
 use Rattle.paper.specs.Formula.{blank, inputAt}
+use Rattle.paper.proofs.Scan.{next}
 use Rattle.formulas.specs.Row.{inputs}
 
 -- what a callee gave, read back from its bits
@@ -29,10 +28,6 @@ module _ (w : Width) {z : ℤ} (less : T (leb (hbits w) 63)) (fits : SFits w z) 
 
   pub cast-is : toZ w64 (ofZ w64 (toZ w (ofZ w z))) ≡ z
   cast-is = toZ-ofZ cast-fits ∙ toZ-ofZ fits
-
--- what is left at i is the element at i and what is left at i + 1
-pub next : {A : Type 0} (l : List A) (i : ℕ) (d : A) → i < length l → drop i l ≡ getD l i d ∷ drop (i + 1) l
-next l i d h = drop-cons l i d h ∙ ap (λ (n : ℕ). getD l i d ∷ drop n l) (sym (add-one i))
 
 -- ── the inputs ──
 module _ (vars : List ℕ) (values : List ℤ) where

@@ -1,5 +1,5 @@
 -- What checks 2 and 3 say of a row, as its formula needs it. Assumes nothing.
-use Prim.Native.Nat.{ℕ, _+_, _<_, _≤_}
+use Prim.Native.Nat.{ℕ, _<_, _≤_}
 use native.Mathlib.Omega.{arith}
 use mathlib.Core.Bool.{Bool, true, false, cond, not, _&&_, _||_}
 use mathlib.Core.List.{List}
@@ -7,10 +7,11 @@ use mathlib.Core.Path.{_≡_, sym, ap, _∙_}
 use borrow.Author.Tests.{leb-true, ltb-true, eqb-true}
 use lib.Dec.{eqb, ltb, leb}
 use lib.IntN.{ℤ}
-use lib.ListN.{length, length-take, length-drop}
+use lib.ListN.{length}
 use Rattle.paper.specs.Lists.{between}
 use Rattle.paper.specs.Checks.{arity}
 use Rattle.paper.proofs.Lists.{and-left, and-right, all-at}
+use Rattle.paper.proofs.Scan.{part-length}
 use Rattle.formulas.specs.Row.{partOf, Row, PartFits}
 
 -- ── how many inputs ──
@@ -38,9 +39,6 @@ three-inputs kind n k suits =
     eqb-true n 3 (rw k at last)
 
 -- ── a row's part ──
-part-length : {A : Type 0} (l : List A) (first count : ℕ) → first + count ≤ length l → length (partOf first count l) ≡ count
-part-length l first count h = simp (length-take, length-drop) (omega arith)
-
 pub part-row : {kind first count : ℕ} {coefs : List ℤ} {vars : List ℕ} {values : List ℤ} → PartFits kind first count coefs vars values
     → Row kind (partOf first count coefs) (partOf first count vars) values
 part-row {kind} {first} {count} {coefs} {vars} {values} p =

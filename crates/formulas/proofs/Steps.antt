@@ -16,8 +16,9 @@ use Rattle.integers.proofs.Ranges.{fits-away}
 use Rattle.paper.specs.Lists.{any, tally}
 use Rattle.paper.specs.Formula.{blank, someBlank, sum, leave, extreme, inputAt}
 use Rattle.paper.proofs.Formulas.{tally-le}
+use Rattle.paper.proofs.Scan.{next}
 use Rattle.formulas.specs.Row.{inputs}
-use Rattle.formulas.proofs.Reading.{next, inputs-length, next-input, no-input}
+use Rattle.formulas.proofs.Reading.{inputs-length, next-input, no-input}
 
 -- ── how many places pass a test ──
 -- at most all

@@ -1,6 +1,6 @@
 -- The tests of two integers as facts of their parts, and back. Assumes nothing.
 use mathlib.Core.Path.{_≡_, refl, sym, ap, _∙_}
-use mathlib.Core.Bool.{Bool, true, false, false≢true, true≢false}
+use mathlib.Core.Bool.{true, false, false≢true, true≢false}
 use Prim.Native.Nat.{ℕ, suc, _+_, _≤_, _<_}
 use native.Mathlib.Omega.{arith}
 use lib.Dec.{leb}
@@ -63,9 +63,6 @@ no-le (negsuc a) (negsuc b) h = lt-leb b a (omega arith)
 pub le-lt : (a b : ℤ) → leZ a b ≡ false → ltZ b a ≡ true
 le-lt a b e = yes-lt b a (omega (arith, le-no a b e))
 
-pub lt-le : (a b : ℤ) → ltZ a b ≡ false → leZ b a ≡ true
-lt-le a b e = yes-le b a (omega (arith, lt-no a b e))
-
 -- ── equality ──
 pub eqZ-yes : (a b : ℤ) → eqZ a b ≡ true → a ≡ b
 eqZ-yes (pos a) (pos b) e = ap pos (eqb-true a b e)
@@ -79,16 +76,6 @@ eqZ-self (negsuc a) = eq-eqb a a refl
 
 pub eqZ-no : (a b : ℤ) → eqZ a b ≡ false → a ≡ b → ⊥
 eqZ-no a b e q = true≢false (sym (eqZ-self a) ∙ ap (eqZ a) q ∙ e)
-
-pub yes-eqZ : (a b : ℤ) → a ≡ b → eqZ a b ≡ true
-yes-eqZ a b q = sym (ap (eqZ a) q) ∙ eqZ-self a
-
-pub no-eqZ : (a b : ℤ) → (a ≡ b → ⊥) → eqZ a b ≡ false
-no-eqZ a b f = go (eqZ a b) refl
-  where
-    go : (t : Bool) → eqZ a b ≡ t → t ≡ false
-    go true e = absurd (f (eqZ-yes a b e))
-    go false e = refl
 
 -- ── the size, by a test on each side ──
 pub natAbs-away : (z : ℤ) → natAbs z ≡ away z

@@ -22,9 +22,6 @@ from-parts (pos a) (negsuc b) p q = absurd (omega arith)
 from-parts (negsuc a) (pos b) p q = absurd (omega arith)
 from-parts (negsuc a) (negsuc b) p q = ap negsuc (omega arith)
 
-pub from-bal : (a b : ℤ) → up a + dn b ≡ up b + dn a → a ≡ b
-from-bal a b h = from-parts a b (omega (arith, one-part a, one-part b)) (omega (arith, one-part a, one-part b))
-
 -- ── each operation ──
 sub-by : (t : Bool) (a b : ℕ) → (t ≡ true → a < b) → (t ≡ false → b ≤ a)
     → (up (cond t (negsuc (b - suc a)) (pos (a - b))) ≡ a - b) × (dn (cond t (negsuc (b - suc a)) (pos (a - b))) ≡ b - a)

@@ -1,5 +1,5 @@
 -- The range of a width, by the parts of an integer. Assumes nothing.
-use Prim.Native.Nat.{_+_, _^_, _≤_, _<_}
+use Prim.Native.Nat.{_^_, _≤_, _<_}
 use native.Mathlib.Omega.{arith}
 use lib.Dec.{T, leb}
 use lib.IntN.{ℤ, pos, negsuc}
@@ -21,9 +21,6 @@ fits-away w z f = omega (arith, fits-parts w z f, one-part z)
 pub parts-fit : (w : Width) (z : ℤ) → up z < 2 ^ hbits w → dn z ≤ 2 ^ hbits w → SFits w z
 parts-fit w (pos n) h k = record { sfits = h }
 parts-fit w (negsuc n) h k = record { sfits = k }
-
-pub fit-bal : (w : Width) (z : ℤ) → up z < 2 ^ hbits w + dn z → dn z ≤ 2 ^ hbits w + up z → SFits w z
-fit-bal w z h k = parts-fit w z (omega (arith, one-part z)) (omega (arith, one-part z))
 
 pub away-fit : (w : Width) (z : ℤ) → away z < 2 ^ hbits w → SFits w z
 away-fit w z h = parts-fit w z (omega arith) (omega arith)

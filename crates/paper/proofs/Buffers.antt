@@ -50,9 +50,6 @@ module _ {A : Type 0} (f : ℕ → A) (n : ℕ) (before : List A) where
   pub over-front : take n (over n f before) ≡ below f n
   over-front = take-at (below f n) (drop n before) n (length-below f n)
 
-  pub over-back : drop n (over n f before) ≡ drop n before
-  over-back = drop-at (below f n) (drop n before) n (length-below f n)
-
   pub over-over : (g : ℕ → A) → over n f (over n g before) ≡ over n f before
   over-over g = ap (below f n ++_) (drop-at (below g n) (drop n before) n (length-below g n))
 

@@ -51,17 +51,6 @@ unfolding every
 all-yes [] h = refl
 all-yes (b ∷ bs) h = ap₂ _&&_ (h .0) (all-yes bs (h .1))
 
--- the k-th test fails
-pub no-at : (k : ℕ) (bs : List Bool) → getD bs k true ≡ false → every bs ≡ false
-unfolding every
-no-at k [] h = h
-no-at zero (b ∷ bs) h = ap (_&& every bs) h
-no-at (suc k) (b ∷ bs) h = go b (no-at k bs h)
-  where
-    go : (c : Bool) → every bs ≡ false → (c && every bs) ≡ false
-    go true e = e
-    go false e = refl
-
 -- ── some and all ──
 module _ {A : Type 0} (p : A → Bool) where
   pub all-in : (xs : List A) → all p xs ≡ true → {i : A} → List·Memᴰ i xs → p i ≡ true

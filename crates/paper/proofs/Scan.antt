@@ -10,8 +10,7 @@ use mathlib.Core.Path.{_≡_, refl, ap, ap₂, sym, _∙_}
 use lib.Dec.{ltb}
 use lib.ListN.{length, getD, take, drop, drop-of-length-le, length-take, length-drop}
 use lib.Seq.{drop-cons, take-suc}
-use Rattle.paper.specs.Lists.{any, all, every, total, nat, firstFail}
-use Rattle.paper.proofs.Lists.{Each, all-yes}
+use Rattle.paper.specs.Lists.{any, all, total, nat, firstFail}
 use Rattle.paper.proofs.Least.{firstFail-is, firstFail-none, all-more}
 
 -- ── the least place that fails ──
@@ -86,15 +85,6 @@ any-next p l i d h =
     last : (b : Bool) → (b || false) ≡ b
     last true = refl
     last false = refl
-
--- ── a conjunction of tests that one of them decides ──
-pub second-decides : (a b : Bool) (cs : List Bool) → a ≡ true → Each cs → every (a ∷ b ∷ cs) ≡ b
-unfolding every
-second-decides a b cs e h = ap₂ (λ x y. x && (b && y)) e (all-yes cs h) ∙ go b
-  where
-    go : (c : Bool) → (c && true) ≡ c
-    go true = refl
-    go false = refl
 
 -- ── parts ──
 pub part-length : {A : Type 0} (l : List A) (a n : ℕ) → a + n ≤ length l → length (take n (drop a l)) ≡ n

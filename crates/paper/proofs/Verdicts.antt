@@ -96,10 +96,6 @@ module _ (code bound : ℕ) (good : ℕ → Bool) (next : Verdict) where
       go true q h = (ltb-true (firstFail good bound) bound q, same-place h)
       go false q h = absurd (later h)
 
--- good up to the bound, at each place
-pub past-held : (good : ℕ → Bool) (bound k : ℕ) → Past good bound k → (i : ℕ) → i < bound → good i ≡ true
-past-held good bound k p i l = let e = p .0 in let h = p .1 in firstFail-before good bound i (omega arith)
-
 -- ── the same of a check with a fixed place ──
 module _ (code place : ℕ) where
   pub require-next : (good : Bool) (next : Verdict) → good ≡ true → require code place good next ≡ next
