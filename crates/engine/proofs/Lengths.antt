@@ -12,3 +12,14 @@ four true true false c d = refl
 four true true true false d = refl
 four true true true true true = refl
 four true true true true false = refl
+
+-- the test that is made first stands last in the paper's list
+pub three : (s a b c : Bool) → (s && c && a && b) ≡ (s && every (a ∷ b ∷ c ∷ []))
+unfolding every
+three false a b c = refl
+three true false b false = refl
+three true false b true = refl
+three true true false false = refl
+three true true false true = refl
+three true true true false = refl
+three true true true true = refl

@@ -1,4 +1,11 @@
 pub mod Lengths
+pub mod Answers
 pub mod Judging
+pub mod JudgingMoves
 pub mod Fills
+pub mod Moves
+pub mod Settled
+pub mod Ran
+pub mod Accepts
+pub mod Writes
 pub mod Record

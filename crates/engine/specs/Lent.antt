@@ -3,7 +3,7 @@ use Prim.Native.Nat.{ℕ}
 use mathlib.Core.List.{List}
 use lib.IntN.{ℤ}
 use Rattle.paper.specs.Tables.{lent}
-use Rattle.paper.specs.Calls.{BuildLent}
+use Rattle.paper.specs.Calls.{BuildLent, Model, Tried, Kept}
 
 -- to build: the record's two counters, the tables, start values, and the rows to fill
 abbrev pub toBuild : ℕ → ℕ → ℕ → ℕ → ℕ → List ℕ → List ℕ → List ℤ → List ℕ → List ℕ → List ℕ → List ℤ → List ℤ → List ℕ → List ℕ → List ℤ → BuildLent
@@ -15,3 +15,24 @@ toBuild kept evaluations n m e kinds makes params firsts counts vars coefs start
   order = order;
   stored = stored;
 }
+
+-- to trial and keep: the model
+abbrev pub toModel : ℕ → ℕ → ℕ → List ℕ → List ℕ → List ℤ → List ℕ → List ℕ → List ℕ → List ℤ → List ℕ → List ℕ → List ℤ → Model
+toModel n m e kinds makes params firsts counts vars coefs numbers order stored =
+    record { tables = lent n m e kinds makes params firsts counts vars coefs; numbers = numbers; order = order; stored = stored }
+
+-- to trial beside it: the move, what is asked, the route, and the rows to fill
+abbrev pub toTry : ℕ → List ℕ → List ℤ → ℕ → List ℕ → ℕ → List ℤ → List ℤ → List ℕ → Tried
+toTry pairs vars values asked askedVars route results trial flags = record {
+  move = record { pairs = pairs; vars = vars; values = values };
+  asked = asked;
+  askedVars = askedVars;
+  route = route;
+  results = results;
+  trial = trial;
+  flags = flags;
+}
+
+-- to keep beside it: the move, and the row of flags
+abbrev pub toKeep : ℕ → List ℕ → List ℤ → List ℕ → Kept
+toKeep pairs vars values flags = record { move = record { pairs = pairs; vars = vars; values = values }; flags = flags }

@@ -1,3 +1,5 @@
 pub mod Lent
 pub mod Judged
 pub mod Left
+pub mod Moves
+pub mod Accepted

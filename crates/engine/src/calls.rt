@@ -1,11 +1,13 @@
 // The calls over a lent session record, and for callers that hold none.
 ghost use mathlib.Core.Path.{_≡_};
-ghost use Rattle.paper.specs.Calls.{build as built};
-ghost use Rattle.engine.specs.Lent.{toBuild};
-ghost use Rattle.engine.specs.Left.{leftByBuild};
+ghost use Rattle.paper.specs.Calls.{build as built, trial as tried, keep as kept};
+ghost use Rattle.engine.specs.Lent.{toBuild, toModel, toTry, toKeep};
+ghost use Rattle.engine.specs.Left.{recordIn, leftByBuild, leftByTrial, leftByKeep};
 use crate::Done;
 use crate::Session;
 use crate::building::build_core;
+use crate::keeping::keep_core;
+use crate::trying::trial_core;
 use tables::Answer;
 
 // Build: numbers, order and values of a model whose tables and start values are lent.
@@ -93,4 +95,108 @@ pub fn build_new(
         answer: answer,
         session: s,
     }
+}
+
+// Trial: the asked values that a move would give, by one of three routes; the stored values stay.
+pub fn trial(
+    session: &mut Session,
+    n: usize,
+    m: usize,
+    e: usize,
+    kinds: &[u16],
+    makes: &[u16],
+    params: &[i32],
+    firsts: &[u16],
+    counts: &[u16],
+    vars: &[u16],
+    coefs: &[i16],
+    numbers: &[u16],
+    order: &[u16],
+    stored: &[i32],
+    pairs: usize,
+    move_vars: &[u16],
+    move_values: &[i32],
+    asked: usize,
+    asked_vars: &[u16],
+    route: u32,
+    results: &mut [i32],
+    trial: &mut [i32],
+    flags: &mut [u8],
+) -> Answer
+    ensures { λ r. ⌜ leftByTrial (record { answer = r; session = now (session .exit) }) (now (results .exit)) (now (trial .exit)) (now (flags .exit)) ≡ tried (recordIn (now (session .entry))) (toModel n m e (now (kinds .entry)) (now (makes .entry)) (now (params .entry)) (now (firsts .entry)) (now (counts .entry)) (now (vars .entry)) (now (coefs .entry)) (now (numbers .entry)) (now (order .entry)) (now (stored .entry))) (toTry pairs (now («move_vars» .entry)) (now («move_values» .entry)) asked (now («asked_vars» .entry)) route (now (results .entry)) (now (trial .entry)) (now (flags .entry))) ⌝ }
+{
+    let done = trial_core(
+        *session,
+        n,
+        m,
+        e,
+        kinds,
+        makes,
+        params,
+        firsts,
+        counts,
+        vars,
+        coefs,
+        numbers,
+        order,
+        stored,
+        pairs,
+        move_vars,
+        move_values,
+        asked,
+        asked_vars,
+        route,
+        results,
+        trial,
+        flags,
+    );
+    *session = done.session;
+    done.answer
+}
+
+// Keep: the stored values become those that a move gives.
+pub fn keep(
+    session: &mut Session,
+    n: usize,
+    m: usize,
+    e: usize,
+    kinds: &[u16],
+    makes: &[u16],
+    params: &[i32],
+    firsts: &[u16],
+    counts: &[u16],
+    vars: &[u16],
+    coefs: &[i16],
+    numbers: &[u16],
+    order: &[u16],
+    stored: &mut [i32],
+    pairs: usize,
+    move_vars: &[u16],
+    move_values: &[i32],
+    flags: &mut [u8],
+) -> Answer
+    ensures { λ r. ⌜ leftByKeep (record { answer = r; session = now (session .exit) }) (now (stored .exit)) (now (flags .exit)) ≡ kept (recordIn (now (session .entry))) (toModel n m e (now (kinds .entry)) (now (makes .entry)) (now (params .entry)) (now (firsts .entry)) (now (counts .entry)) (now (vars .entry)) (now (coefs .entry)) (now (numbers .entry)) (now (order .entry)) (now (stored .entry))) (toKeep pairs (now («move_vars» .entry)) (now («move_values» .entry)) (now (flags .entry))) ⌝ }
+{
+    let done = keep_core(
+        *session,
+        n,
+        m,
+        e,
+        kinds,
+        makes,
+        params,
+        firsts,
+        counts,
+        vars,
+        coefs,
+        numbers,
+        order,
+        stored,
+        pairs,
+        move_vars,
+        move_values,
+        flags,
+    );
+    *session = done.session;
+    done.answer
 }

@@ -1,14 +1,24 @@
-// The public calls: build.
+// The public calls: build, trial and keep. Each is lent the session record; its core takes the record and gives it back by value.
 use tables::Answer;
 
+mod beginning;
 mod building;
 mod calls;
 mod copy;
 mod fits;
 mod judge;
+mod judge_moves;
+mod keeping;
+mod model;
+mod trying;
 
+pub use building::build_core;
 pub use calls::build;
 pub use calls::build_new;
+pub use calls::keep;
+pub use calls::trial;
+pub use keeping::keep_core;
+pub use trying::trial_core;
 
 // The session record: moves kept, and evaluations of the last accepted call.
 #[repr(C)]

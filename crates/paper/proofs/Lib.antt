@@ -14,6 +14,7 @@ pub mod Order
 pub mod Eight
 pub mod Fresh
 pub mod Routes
+pub mod Needed
 pub mod Known
 pub mod Outcomes
 pub mod Build

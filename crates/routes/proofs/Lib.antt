@@ -4,3 +4,9 @@ pub mod Sweeps
 pub mod Reach
 pub mod Places
 pub mod Asks
+pub mod InTurn
+pub mod Planned
+pub mod Readers
+pub mod Readable
+pub mod Marks
+pub mod Guided

@@ -24,12 +24,12 @@ use Rattle.formulas.specs.Row.{inputs}
 use Rattle.routes.specs.Rows.{Along, RowFits, rowGives}
 
 -- ── rows and places ──
-at-place : (l : List ℕ) (j : ℕ) → j < length l → List·Memᴰ (nat l j) l
+pub at-place : (l : List ℕ) (j : ℕ) → j < length l → List·Memᴰ (nat l j) l
 at-place [] j h = absurd (omega arith)
 at-place (x ∷ xs) zero h = List·Memᴰ·head refl
 at-place (x ∷ xs) (suc j) h = List·Memᴰ·tail (at-place xs j (omega arith))
 
-place-of : (l : List ℕ) {x : ℕ} → List·Memᴰ x l → (j : ℕ) × (j < length l) × (nat l j ≡ x)
+pub place-of : (l : List ℕ) {x : ℕ} → List·Memᴰ x l → (j : ℕ) × (j < length l) × (nat l j ≡ x)
 place-of (y ∷ ys) (List·Memᴰ·head q) = (0, omega arith, sym q)
 place-of (y ∷ ys) (List·Memᴰ·tail m) = let (j, h, e) = place-of ys m in (suc j, omega arith, e)
 

@@ -2,3 +2,5 @@ pub mod Rows
 pub mod Routed
 pub mod Reach
 pub mod Work
+pub mod Plan
+pub mod Readers

@@ -16,7 +16,12 @@ use Rattle.formulas.specs.Row.{partOf, inputs, PartFits}
 abbrev pub valuesOf : List ℤ → Values
 valuesOf l v = getD l v (pos 0)
 
--- the tables are sound, their chains of inputs end, and the lent order is build's
+-- the tables are sound, and their chains of inputs end
+pub record Ended (t : Tables) : Type 0 where
+  pub sound : Sound t
+  pub chains : (v : ℕ) → able (inputsOf t) (t .n) v ≡ true
+
+-- and besides the lent order is build's
 pub record Along (t : Tables) (ord : List ℕ) : Type 0 where
   pub sound : Sound t
   pub chains : (v : ℕ) → able (inputsOf t) (t .n) v ≡ true

@@ -82,6 +82,10 @@ module _ (t : Tables) (work : List ℕ) where
     pub still : (u : ℕ) → nat flags′ u ≡ nat flags u → valuesOf trial′ u ≡ valuesOf trial u
     pub long : length trial′ ≡ length trial
 
+  -- every variable of a list has been asked
+  abbrev pub AllAsked : List ℕ → List ℤ → List ℕ → List ℤ → List ℕ → Type 0
+  AllAsked asked = Asking (λ u. List·Memᴰ u asked) (λ u. ⊥)
+
 -- ── which places a row asks ──
 -- of ELEMENT the chosen candidate after the index, if there is one
 abbrev pub chosenPlace : ℤ → ℕ → ℕ → ℕ

@@ -70,17 +70,10 @@ module _ {M : Type 1} (𝓤 : URA M) (H : Heap 𝓤) (A : Atoms 𝓤) (W : Given
   abbrev to-core : Core .Ghost
   to-core = ((κs .1, qs .1, tt, (now (a .0), a .1), (svals (now (a .0)), vss .1)), tt)
 
-  abbrev Post : Val → SProp 𝓤
-  Post = Con 𝓤 H A here.ended (here.clauses 𝓤 H A mem run) .post ((κs, qs, bounds, a, vss), tt)
-
-  -- the other parameters' tokens
-  abbrev Toks : SProp 𝓤
-  Toks = alive 𝓤 H A core.signature (κs .1) (qs .1)
-
   module _ (C : Calls 𝓤 H) (Λ : Loops 𝓤 H) (fm : FmC 𝓤 H (W .laws) C) (known : Triple 𝓤 (C #engine·build-core) Core) where
-    walk : Are (typesAt (here.signature .params) κs) (Ises (typesAt (here.signature .params) κs)) a vss → ent 𝓤 (onEntry 𝓤 H A here.signature κs qs a vss) (WpFn 𝓤 H C Λ code.function (flat (typesAt (here.signature .params) κs) vss) Post)
+    walk : Are (typesAt (here.signature .params) κs) (Ises (typesAt (here.signature .params) κs)) a vss → ent 𝓤 (onEntry 𝓤 H A here.signature κs qs a vss) (WpFn 𝓤 H C Λ code.function (flat (typesAt (here.signature .params) κs) vss) (Con 𝓤 H A here.ended (here.clauses 𝓤 H A mem run) .post ((κs, qs, bounds, a, vss), tt)))
     walk are =
-        qed W ((‵ (flft (κs .0) (qs .0)) ⊛ raw Toks) ∷ ‵ (owns (typesAt (here.signature .params) κs) a vss) ∷ []) ∵ split ! $ move ! (2 ∷ []) $ fsplit ! $ fsplit3 ! $ drop ! $ move ! (0 ∷ 1 ∷ 3 ∷ []) $
+        qed W ((‵ (flft (κs .0) (qs .0)) ⊛ raw (alive 𝓤 H A core.signature (κs .1) (qs .1))) ∷ ‵ (owns (typesAt (here.signature .params) κs) a vss) ∷ []) ∵ split ! $ move ! (2 ∷ []) $ fsplit ! $ fsplit3 ! $ drop ! $ move ! (0 ∷ 1 ∷ 3 ∷ []) $
         -- [obs; the borrow; its token; what the others own; their tokens]
         enter ! C Λ code.function (flat (typesAt (here.signature .params) κs) vss) _ $
         alloc1 ! (λ l0. alloc1 ! (λ l1. alloc1 ! (λ l2. alloc1 ! (λ l3. alloc1 ! (λ l4. alloc1 ! (λ l5. alloc1 ! (λ l6. alloc1 ! (λ l7. alloc1 ! (λ l8. alloc1 ! (λ l9. alloc1 ! (λ l10. alloc1 ! (λ l11. alloc1 ! (λ l12. alloc1 ! (λ l13. alloc1 ! (λ l14. alloc1 ! (λ l15. alloc1 ! (λ l16. alloc1 ! (λ l17. alloc1 ! (λ l18. alloc1 ! (λ l19. alloc1 ! (λ l20. alloc1 ! (λ l21. alloc1 ! (λ l22. alloc1 ! (λ l23. alloc0 ! $ params1 ! $
@@ -95,7 +88,7 @@ module _ {M : Type 1} (𝓤 : URA M) (H : Heap 𝓤) (A : Atoms 𝓤) (W : Given
         assigns ! (addr ! (from ! (fld ! refl (hop ! (look-in ! 21 (sub ! 0 refl (whole !))) (stop !))))) (from ! (stop !)) (init ! 7 refl (tt, tt)) $
         assigns ! (agg ! (and-then ! (load ! (from ! (stop !)) (look ! 7 refl)) (and-then ! (load ! (from ! (fld ! refl (stop !))) (look-in ! 21 (sub ! 1 refl (whole !)))) (no-more !)))) (from ! (stop !)) (init ! 5 refl (tt, (tt, (record { fits = are .1 .1 .1 .1 .1 .1 .1 .1 .1 .1 .1 .1 .1 .1 .0 .0 .1 .0 }, tt)))) $
         -- the call
-        move ! (1 ∷ 53 ∷ []) $ fjoin ! $ move ! (53 ∷ 0 ∷ []) $ use2 W (raw (Core .pre to-core)) (qed W (raw Toks ∷ ‵ (owns (typesAt (core.signature .params) (κs .1)) (now (a .0), a .1) (svals (now (a .0)), vss .1)) ∷ []) ∵ join ! $ frame ! $ done !) $
+        move ! (1 ∷ 53 ∷ []) $ fjoin ! $ move ! (53 ∷ 0 ∷ []) $ use2 W (raw (Core .pre to-core)) (qed W (raw (alive 𝓤 H A core.signature (κs .1) (qs .1)) ∷ ‵ (owns (typesAt (core.signature .params) (κs .1)) (now (a .0), a .1) (svals (now (a .0)), vss .1)) ∷ []) ∵ join ! $ frame ! $ done !) $
         calls-at ! fm Core known to-core (and-then ! (load ! (from ! (stop !)) (look ! 17 refl)) (and-then ! (load ! (from ! (stop !)) (look ! 47 refl)) (and-then ! (load ! (from ! (stop !)) (look ! 45 refl)) (and-then ! (load ! (from ! (stop !)) (look ! 43 refl)) (and-then ! (load ! (from ! (stop !)) (look ! 41 refl)) (and-then ! (load ! (from ! (stop !)) (look ! 39 refl)) (and-then ! (load ! (from ! (stop !)) (look ! 37 refl)) (and-then ! (load ! (from ! (stop !)) (look ! 35 refl)) (and-then ! (load ! (from ! (stop !)) (look ! 33 refl)) (and-then ! (load ! (from ! (stop !)) (look ! 31 refl)) (and-then ! (load ! (from ! (stop !)) (look ! 29 refl)) (and-then ! (load ! (from ! (stop !)) (look ! 27 refl)) (and-then ! (load ! (from ! (stop !)) (look ! 13 refl)) (and-then ! (load ! (from ! (stop !)) (look ! 9 refl)) (and-then ! (load ! (from ! (stop !)) (look ! 5 refl)) (no-more !)))))))))))))))) (λ v. returned 𝓤 H A core.ended (core.clauses 𝓤 H A mem run) to-core v ! tt (λ r ws. fsplit ! $ drop ! $ move ! (3 ∷ []) $ facts ! D.the-row (Is D.the-row) (shows 𝓤 H A D.the-row) r (v ∷ []) (λ is.
         -- [the others' last values; the `ensures`; their tokens; the record's cell; the open borrow; obs; auth; locals]
         land ! (from ! (stop !)) (init ! 21 refl (LL.lawful D.the-type D′.the-laws 𝓤 H A W .typed r _ is .0)) $ rewrite ! 21 (λ (u : Val). ‵ (fat fullShare D′.mir l16 0 u)) (ap only (LL.tells D.the-type D′.the-laws r _ is)) refl $
@@ -104,7 +97,7 @@ module _ {M : Type 1} (𝓤 : URA M) (H : Heap 𝓤) (A : Atoms 𝓤) (W : Given
         move ! (3 ∷ 4 ∷ 5 ∷ 6 ∷ []) $ closes-record ! tt (r .session) (a .0 .ptr .0) (a .0 .ptr .1) (is-session r v is) $
         returns ! (look ! 52 refl) $ forget ! 6 refl $ forget ! 8 refl $ forget ! 10 refl $ forget ! 12 refl $ forget ! 14 refl $ forget ! 16 refl $ forget ! 18 refl $ forget ! 20 refl $ forget ! 22 refl $ forget ! 24 refl $ forget ! 26 refl $ forget ! 28 refl $ forget ! 30 refl $ forget ! 32 refl $ forget ! 34 refl $ forget ! 36 refl $ forget ! 38 refl $ forget ! 40 refl $ forget ! 42 refl $ forget ! 44 refl $ forget ! 46 refl $ forget ! 48 refl $ forget ! 50 refl $ forget ! 52 refl $
         move ! (52 ∷ 53 ∷ []) $ free1 ! $ move ! (50 ∷ 51 ∷ []) $ free1 ! $ move ! (48 ∷ 49 ∷ []) $ free1 ! $ move ! (46 ∷ 47 ∷ []) $ free1 ! $ move ! (44 ∷ 45 ∷ []) $ free1 ! $ move ! (42 ∷ 43 ∷ []) $ free1 ! $ move ! (40 ∷ 41 ∷ []) $ free1 ! $ move ! (38 ∷ 39 ∷ []) $ free1 ! $ move ! (36 ∷ 37 ∷ []) $ free1 ! $ move ! (34 ∷ 35 ∷ []) $ free1 ! $ move ! (32 ∷ 33 ∷ []) $ free1 ! $ move ! (30 ∷ 31 ∷ []) $ free1 ! $ move ! (28 ∷ 29 ∷ []) $ free1 ! $ move ! (26 ∷ 27 ∷ []) $ free1 ! $ move ! (24 ∷ 25 ∷ []) $ free1 ! $ move ! (22 ∷ 23 ∷ []) $ free1 ! $ move ! (20 ∷ 21 ∷ []) $ free1 ! $ move ! (18 ∷ 19 ∷ []) $ free1 ! $ move ! (16 ∷ 17 ∷ []) $ free1 ! $ move ! (14 ∷ 15 ∷ []) $ free1 ! $ move ! (12 ∷ 13 ∷ []) $ free1 ! $ move ! (10 ∷ 11 ∷ []) $ free1 ! $ move ! (8 ∷ 9 ∷ []) $ free1 ! $ move ! (6 ∷ 7 ∷ []) $ free1 ! $ free0 ! $
-        by ! (via 𝓤 _ (ends-record 𝓤 H A W (κs .0) (qs .0) (a .0 .ptr .0) (a .0 .ptr .1) (a .0 .name) Toks (Ensures 𝓤 H A core.ended (core.clauses 𝓤 H A mem run) to-core v r ws) (lastsOf (κs .1) (tail (core.signature .params)) (core.ended .kept .1) (a .1) (ws .1)) r v is)
+        by ! (via 𝓤 _ (ends-record 𝓤 H A W (κs .0) (qs .0) (a .0 .ptr .0) (a .0 .ptr .1) (a .0 .name) (alive 𝓤 H A core.signature (κs .1) (qs .1)) (Ensures 𝓤 H A core.ended (core.clauses 𝓤 H A mem run) to-core v r ws) (lastsOf (κs .1) (tail (core.signature .params)) (core.ended .kept .1) (a .1) (ws .1)) r v is)
         (ends-said 𝓤 H A here.ended (here.clauses 𝓤 H A mem run) ((κs, qs, bounds, a, vss), tt) (answered (r .answer)) W (r .answer) (r .session, ws .1)))))))))))))))))))))))))))))))
 
 pub build-spec : {M : Type 1} → stated.statement M

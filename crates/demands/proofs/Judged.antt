@@ -1,0 +1,102 @@
+-- The one law of the tables: a chain of checks says what its list of lines says, and nothing else. Assumes nothing.
+use Prim.Native.Nat.{ℕ}
+use native.Mathlib.Omega.{arith}
+use mathlib.Core.Bool.{Bool, true, false, cond}
+use mathlib.Core.List.{List, [], _∷_, _++_}
+use mathlib.Core.Path.{_≡_, refl, ap, sym, _∙_, subst⁻¹}
+use lib.Dec.{ltb}
+use borrow.Author.Tests.{ltb-true, ltb-false}
+use Rattle.paper.specs.Lists.{firstFail, all}
+use Rattle.paper.specs.Checks.{Verdict, accepted, refused, check, require}
+use Rattle.paper.specs.Calls.{Answer, answered}
+use Rattle.paper.proofs.Lists.{and-left, and-right}
+use Rattle.paper.proofs.Least.{firstFail-fails, firstFail-before, firstFail-is}
+use Rattle.paper.proofs.Verdicts.{andThen, then-then, check-then, check-next, check-stops, require-next, require-stops}
+use Rattle.demands.specs.Refusals.{Line, places, whole, Passed, Passes, none, next, Gives, here, later, Says}
+use Rattle.demands.specs.Demands.{Exactly, Works}
+
+-- a list of lines as a chain of checks
+abbrev pub judged : List Line → Verdict
+judged [] = accepted
+judged (places number bound good ∷ rest) = check number bound good (judged rest)
+judged (whole number place good ∷ rest) = require number place good (judged rest)
+
+-- a list after another
+pub judged-then : (a b : List Line) → judged (a ++ b) ≡ andThen (judged a) (judged b)
+judged-then [] b = refl
+judged-then (places number bound good ∷ a) b =
+    let one : Verdict = check number bound good accepted in
+    check-then number bound good _ ∙ ap (andThen one) (judged-then a b) ∙ sym (then-then one (judged a) (judged b))
+    ∙ ap (λ v. andThen v (judged b)) (sym (check-then number bound good (judged a)))
+judged-then (whole number place true ∷ a) b = judged-then a b
+judged-then (whole number place false ∷ a) b = refl
+
+-- the rest says v, and the line is passed
+passed-says : (line : Line) (rest : List Line) → Passed line → (v : Verdict) → Says rest v → Says (line ∷ rest) v
+passed-says line rest p accepted s = next p s
+passed-says line rest p (refused k q) s = later p s
+
+pub judged-says : (table : List Line) → Says table (judged table)
+judged-says [] = none
+judged-says (places number bound good ∷ rest) = go (ltb (firstFail good bound) bound) refl (judged-says rest)
+  where
+    go : (x : Bool) → ltb (firstFail good bound) bound ≡ x → Says rest (judged rest)
+        → Says (places number bound good ∷ rest) (cond x (refused number (firstFail good bound)) (judged rest))
+    go true e s = let low = ltb-true (firstFail good bound) bound e in
+        here {line = places number bound good} (refl, record { low = low; fails = firstFail-fails good bound low; before = firstFail-before good bound })
+    go false e s = let high = ltb-false (firstFail good bound) bound e in
+        passed-says (places number bound good) rest (λ i l. firstFail-before good bound i (omega arith)) (judged rest) s
+judged-says (whole number place true ∷ rest) = passed-says (whole number place true) rest refl (judged rest) (judged-says rest)
+judged-says (whole number place false ∷ rest) = here {line = whole number place false} (refl, refl, refl)
+
+pub says-judged : (table : List Line) (v : Verdict) → Says table v → judged table ≡ v
+says-judged [] accepted s = refl
+says-judged (places number bound good ∷ rest) accepted (next p s) = check-next number bound good _ p ∙ says-judged rest accepted s
+says-judged (whole number place good ∷ rest) accepted (next p s) = require-next number place good _ p ∙ says-judged rest accepted s
+says-judged (places number bound good ∷ rest) (refused k q) (here f) =
+    check-stops number bound good _ q (firstFail-is good bound q (f .1 .low) (f .1 .fails) (f .1 .before)) (f .1 .low) ∙ ap (λ z. refused z q) (f .0)
+says-judged (whole number place good ∷ rest) (refused k q) (here f) = require-stops number place good _ (f .2) ∙ ap (λ z. refused z place) (f .0) ∙ ap (refused k) (f .1)
+says-judged (places number bound good ∷ rest) (refused k q) (later p s) = check-next number bound good _ p ∙ says-judged rest (refused k q) s
+says-judged (whole number place good ∷ rest) (refused k q) (later p s) = require-next number place good _ p ∙ says-judged rest (refused k q) s
+
+-- ── an answer by a table whose numbers are not 0 ──
+abbrev pub numberOf : Line → ℕ
+numberOf (places number bound good) = number
+numberOf (whole number place good) = number
+
+abbrev pub numbersSome : List Line → Bool
+numbersSome = all (λ line. ltb 0 (numberOf line))
+
+gives-some : (table : List Line) (k p : ℕ) → numbersSome table ≡ true → Gives k p table → k ≡ 0 → ⊥
+gives-some (places number bound good ∷ rest) k p e (here f) z = let low = ltb-true 0 number (and-left (ltb 0 number) _ e) in let h = f .0 in omega arith
+gives-some (whole number place good ∷ rest) k p e (here f) z = let low = ltb-true 0 number (and-left (ltb 0 number) _ e) in let h = f .0 in omega arith
+gives-some (line ∷ rest) k p e (later q s) z = gives-some rest k p (and-right (ltb 0 (numberOf line)) _ e) s z
+
+pub exactly : (table : List Line) (v : Verdict) (count : ℕ) → numbersSome table ≡ true → v ≡ judged table → Exactly table (answered v count)
+exactly table v count some e = record {
+  accepted-if = λ s. let q = is accepted s in (ap (λ u. answered u count .number) q, ap (λ u. answered u count .place) q);
+  accepted-only = λ z. only v says z;
+  refused-if = λ k p s. let q = is (refused k p) s in (ap (λ u. answered u count .number) q, ap (λ u. answered u count .place) q);
+  refused-only = λ wrong. given v says wrong;
+}
+  where
+    is : (u : Verdict) → Says table u → v ≡ u
+    is u s = e ∙ says-judged table u s
+
+    says : Says table v
+    says = rw e (judged-says table)
+
+    only : (u : Verdict) → Says table u → answered u count .number ≡ 0 → Passes table
+    only accepted s z = s
+    only (refused k p) s z = absurd (gives-some table k p some s z)
+
+    given : (u : Verdict) → Says table u → (answered u count .number ≡ 0 → ⊥) → Gives (answered u count .number) (answered u count .place) table
+    given accepted s wrong = absurd (wrong refl)
+    given (refused k p) s wrong = s
+
+-- ── a call: by its verdict, what it leaves where it refuses, and its contract ──
+pub works : {Left : Type 0} (table : List Line) (answer : Left → Answer) (asWas : Left → Left) (x y : Left) (v : Verdict) (count : ℕ)
+    → numbersSome table ≡ true → v ≡ judged table → answer x ≡ answered v count → ((answer x .number ≡ 0 → ⊥) → x ≡ asWas x) → y ≡ x
+    → Works table answer asWas y
+works table answer asWas x y v count some e a same stated =
+    subst⁻¹ (Works table answer asWas) stated (record { exactly = subst⁻¹ (Exactly table) a (exactly table v count some e); unchanged = same })

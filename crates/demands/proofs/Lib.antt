@@ -1,0 +1,5 @@
+pub mod Judged
+pub mod One
+pub mod Two
+pub mod Three
+pub mod NotAllowed

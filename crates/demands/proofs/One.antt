@@ -1,0 +1,145 @@
+-- Demand 1, each call by the law of its table: the verdict is the table's chain of checks, the paper says what a refusal leaves, and the
+-- contract carries both to the outcome. Assumes nothing.
+use Prim.Native.Nat.{ℕ, zero, suc}
+use mathlib.Core.List.{List, [], _∷_, map}
+use mathlib.Core.Path.{_≡_, refl, ap, sym, _∙_}
+use lib.IntN.{ℤ}
+use Rattle.paper.specs.Tables.{Tables}
+use Rattle.paper.specs.Checks.{Verdict, accepted, refused}
+use Rattle.paper.specs.Calls.{Session, Answer, answered, BuildLent, BuildLeft, build, buildVerdict, Model, Tried, TrialLeft, trial, trialVerdict, Kept, KeepLeft, keep, keepVerdict}
+use Rattle.paper.specs.File.{write, writeVerdict, read, readVerdict, header, counted}
+use Rattle.paper.specs.Demands.{buildAsWas, trialAsWas, keepAsWas}
+use Rattle.paper.proofs.Outcomes.{build-judged, trial-judged, keep-judged}
+use Rattle.paper.proofs.Demands as paper
+use Rattle.tables.specs.declared.Answer as code
+use Rattle.tables.specs.declared.Answer.the-variants.{Accepted, Refused}
+use Rattle.engine.specs.Left.{answerIn}
+use Rattle.files.specs.Answers.{verdict, hasRead}
+use Rattle.files.specs.declared.Written.{Written}
+use Rattle.files.specs.declared.Written.the-variants as written
+use Rattle.files.specs.declared.Reading.{Reading}
+use Rattle.files.specs.declared.Reading.the-variants as reading
+use Rattle.demands.specs.Stated.{BuildOutcome, leftBuilt, TrialOutcome, leftTried, KeepOutcome, leftKept, WriteOutcome, leftWritten, ReadOutcome, leftRead}
+use Rattle.demands.specs.Refusals.{buildTable, trialTable, keepTable, writeTable, headerLines, roomLines, readTable}
+use Rattle.demands.specs.Demands.{BuildWorks, TrialWorks, KeepWorks, WriteWorks, ReadWorks, Demand1}
+use Rattle.demands.proofs.Judged.{judged, judged-then, numberOf, works}
+
+-- ── which numbers each call gives, in which order ──
+pub build-numbers : (l : BuildLent) → map numberOf (buildTable l) ≡ 1 ∷ 2 ∷ 3 ∷ 3 ∷ 4 ∷ 5 ∷ 6 ∷ 7 ∷ []
+build-numbers l = refl
+
+pub trial-numbers : (w : Model) (c : Tried) → map numberOf (trialTable w c) ≡ 1 ∷ 2 ∷ 3 ∷ 3 ∷ 4 ∷ 5 ∷ 8 ∷ 7 ∷ 9 ∷ 10 ∷ 11 ∷ 12 ∷ 13 ∷ []
+trial-numbers w c = refl
+
+pub keep-numbers : (w : Model) (c : Kept) → map numberOf (keepTable w c) ≡ 1 ∷ 2 ∷ 3 ∷ 3 ∷ 4 ∷ 5 ∷ 8 ∷ 7 ∷ 10 ∷ 11 ∷ 12 ∷ []
+keep-numbers w c = refl
+
+-- ── each verdict is its table's ──
+build-table : (l : BuildLent) → buildVerdict l ≡ judged (buildTable l)
+unfolding buildVerdict
+build-table l = refl
+
+trial-table : (w : Model) (c : Tried) → trialVerdict w c ≡ judged (trialTable w c)
+unfolding trialVerdict
+trial-table w c = refl
+
+keep-table : (w : Model) (c : Kept) → keepVerdict w c ≡ judged (keepTable w c)
+unfolding keepVerdict
+keep-table w c = refl
+
+write-table : (t : Tables) (starts : List ℤ) (lent : List ℕ) → writeVerdict t starts lent ≡ judged (writeTable t starts lent)
+unfolding writeVerdict
+write-table t starts lent = refl
+
+read-table : (bytes : List ℕ) (t : Tables) (starts : List ℤ) → readVerdict bytes t starts ≡ judged (readTable bytes t starts)
+unfolding readVerdict header
+read-table bytes t starts = sym (judged-then (headerLines bytes) (roomLines bytes t starts))
+
+-- ── build, trial and keep ──
+pub build-works : (l : BuildLent) (o : BuildOutcome l) → BuildWorks l (leftBuilt o)
+build-works l o =
+    works (buildTable l) (λ x. x .answer) (λ x. buildAsWas l (x .answer)) (build l) (leftBuilt o) (buildVerdict l) _ refl (build-table l)
+    (ap (λ (x : BuildLeft). x .answer) (build-judged l .is (buildVerdict l) refl)) (paper.demand1 .build-refused l) (o .stated)
+
+module _ (s : Session) (w : Model) where
+  pub trial-works : (c : Tried) (o : TrialOutcome s w c) → TrialWorks s w c (leftTried o)
+  trial-works c o =
+      works (trialTable w c) (λ x. x .answer) (λ x. trialAsWas s c (x .answer)) (trial s w c) (leftTried o) (trialVerdict w c) _ refl (trial-table w c)
+      (ap (λ (x : TrialLeft). x .answer) (trial-judged s w c .is (trialVerdict w c) refl)) (paper.demand1 .trial-refused s w c) (o .stated)
+
+  pub keep-works : (c : Kept) (o : KeepOutcome s w c) → KeepWorks s w c (leftKept o)
+  keep-works c o =
+      works (keepTable w c) (λ x. x .answer) (λ x. keepAsWas s w c (x .answer)) (keep s w c) (leftKept o) (keepVerdict w c) _ refl (keep-table w c)
+      (ap (λ (x : KeepLeft). x .answer) (keep-judged s w c .is (keepVerdict w c) refl)) (paper.demand1 .keep-refused s w c) (o .stated)
+
+-- ── files: a verdict that is not acceptance has a number ──
+some-number : (v : Verdict) → (answered v 0 .number ≡ 0 → ⊥) → v ≡ accepted → ⊥
+some-number v wrong e = wrong (ap (λ u. answered u 0 .number) e)
+
+pub write-works : (t : Tables) (starts : List ℤ) (lent : List ℕ) (o : WriteOutcome t starts lent) → WriteWorks t starts lent (leftWritten o)
+write-works t starts lent o =
+    let x = write t starts lent in
+    works (writeTable t starts lent) (λ z. answered (z .0) 0) (λ z. (z .0, lent)) x (leftWritten o) (x .0) 0 refl (write-table t starts lent) refl
+    (λ wrong. ap (λ (z : Verdict × List ℕ). (x .0, z .1)) (paper.demand1 .write-refused t starts lent (some-number (x .0) wrong))) (o .stated)
+
+pub read-works : (bytes : List ℕ) (lent : Tables) (starts : List ℤ) (o : ReadOutcome bytes lent starts) → ReadWorks bytes lent starts (leftRead o)
+read-works bytes lent starts o =
+    let t = counted 0 0 0 lent in let x = read bytes t starts in
+    works (readTable bytes lent starts) (λ z. answered (z .0) 0) (λ z. (z .0, (t, starts))) x (leftRead o) (x .0) 0 refl (read-table bytes t starts) refl
+    (λ wrong. ap (λ z. (x .0, z)) (paper.demand1 .read-refused bytes t starts (some-number (x .0) wrong))) (o .stated)
+
+-- ── the code's answer from what is left ──
+abbrev answerBy : ℕ → ℕ → ℕ → code.Answer
+answerBy zero zero count = Accepted count
+answerBy zero (suc place) count = Refused zero place
+answerBy (suc number) place count = Refused (suc number) place
+
+answer-is : (r : code.Answer) → let a = answerIn r in answerBy (a .number) (a .place) (a .evaluations) ≡ r
+answer-is (Accepted count) = refl
+answer-is (Refused zero place) = refl
+answer-is (Refused (suc number) place) = refl
+
+one-answer : {r r′ : code.Answer} → answerIn r ≡ answerIn r′ → r ≡ r′
+one-answer {r} {r′} e = sym (answer-is r) ∙ ap (λ (a : Answer). answerBy (a .number) (a .place) (a .evaluations)) e ∙ answer-is r′
+
+abbrev writtenBy : Verdict → Written
+writtenBy accepted = written.Accepted
+writtenBy (refused number place) = written.Refused number place
+
+written-is : (r : Written) → writtenBy (verdict r) ≡ r
+written-is written.Accepted = refl
+written-is (written.Refused number place) = refl
+
+abbrev readBy : Verdict → Tables → Reading
+readBy accepted t = reading.Accepted (t .n) (t .m) (t .e)
+readBy (refused number place) t = reading.Refused number place
+
+read-is : (r : Reading) (t : Tables) (starts : List ℤ) → let x = hasRead r t starts in readBy (x .0) (x .1 .0) ≡ r
+read-is (reading.Accepted n m e) t starts = refl
+read-is (reading.Refused number place) t starts = refl
+
+rows-are : (r : Reading) (t : Tables) (starts : List ℤ) → let x = hasRead r t starts in (counted 0 0 0 (x .1 .0) ≡ counted 0 0 0 t) × (x .1 .1 ≡ starts)
+rows-are (reading.Accepted n m e) t starts = (refl, refl)
+rows-are (reading.Refused number place) t starts = (refl, refl)
+
+-- ── the demand ──
+pub demand1 : Demand1
+demand1 = record {
+  build = build-works;
+  trial = trial-works;
+  keep = keep-works;
+  write = write-works;
+  read = read-works;
+  build-one = λ l o o′. let e = o .stated ∙ sym (o′ .stated) in (one-answer (ap (λ (x : BuildLeft). x .answer) e), e);
+  trial-one = λ s w c o o′. let e = o .stated ∙ sym (o′ .stated) in (one-answer (ap (λ (x : TrialLeft). x .answer) e), e);
+  keep-one = λ s w c o o′. let e = o .stated ∙ sym (o′ .stated) in (one-answer (ap (λ (x : KeepLeft). x .answer) e), e);
+  write-one = λ t starts lent o o′. let e = o .stated ∙ sym (o′ .stated) in
+      (sym (written-is (o .answer)) ∙ ap (λ x. writtenBy (x .0)) e ∙ written-is (o′ .answer), ap (λ x. x .1) e);
+  read-one = λ bytes lent starts o o′. let e = o .stated ∙ sym (o′ .stated) in
+      let z = counted 0 0 0 (o .rows) in let z′ = counted 0 0 0 (o′ .rows) in
+      let a = rows-are (o .answer) z (o .starts) in let a′ = rows-are (o′ .answer) z′ (o′ .starts) in (
+        sym (read-is (o .answer) z (o .starts)) ∙ ap (λ x. readBy (x .0) (x .1 .0)) e ∙ read-is (o′ .answer) z′ (o′ .starts),
+        sym (a .0) ∙ ap (λ x. counted 0 0 0 (x .1 .0)) e ∙ a′ .0,
+        sym (a .1) ∙ ap (λ x. x .1 .1) e ∙ a′ .1,
+      );
+}

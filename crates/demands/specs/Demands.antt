@@ -1,0 +1,123 @@
+-- The three demands, over every outcome that the public calls' contracts allow. The contracts ask nothing of what is handed in, and a proved
+-- call ends; the rest stands here. `proofs/One`, `Two` and `Three` prove it. Assumes nothing.
+use Prim.Native.Nat.{ℕ, min, _<_, _≤_}
+use mathlib.Core.Bool.{true}
+use mathlib.Core.List.{List, [], _∷_, _++_}
+use mathlib.Core.Path.{_≡_}
+use lib.IntN.{ℤ}
+use lib.ListN.{length, take, drop}
+use Rattle.paper.specs.Lists.{nat, over}
+use Rattle.paper.specs.Net.{valuation, numbering, input-to-output}
+use Rattle.paper.specs.Tables.{Tables, net, valuesIn, order}
+use Rattle.paper.specs.Checks.{Verdict, accepted}
+use Rattle.paper.specs.Calls.{Session, Answer, answered, BuildLent, BuildLeft, startValues, Model, Tried, TrialLeft, Kept, KeepLeft}
+use Rattle.paper.specs.File.{endsAt, held, counted}
+use Rattle.paper.specs.Demands.{buildAsWas, trialAsWas, keepAsWas, Circular, FivePassed, LeastUnnumbered, Fitting, cut, Lends, Call, keeps, State, modelOf, ownModel, after, history, old, renewed, evaluatedBy, Told, tried, triedSet, TrialRight, kept, KeepRight}
+use Rattle.demands.specs.Stated.{BuildOutcome, leftBuilt, TrialOutcome, leftTried, KeepOutcome, leftKept, WriteOutcome, leftWritten, ReadOutcome, leftRead}
+use Rattle.demands.specs.Refusals.{Line, Passes, Gives, buildTable, trialTable, keepTable, writeTable, readTable}
+use Rattle.demands.specs.Runs.{ownOf, afterTrial, afterKeep, Run}
+
+-- ── demand 1: a call works, or refuses with the paper's number and place exactly where the table gives them, and then changes nothing ──
+pub record Exactly (table : List Line) (a : Answer) : Type 0 where
+  pub accepted-if : Passes table → (a .number ≡ 0) × (a .place ≡ 0)
+  pub accepted-only : a .number ≡ 0 → Passes table
+  pub refused-if : (k p : ℕ) → Gives k p table → (a .number ≡ k) × (a .place ≡ p)
+  pub refused-only : (a .number ≡ 0 → ⊥) → Gives (a .number) (a .place) table
+
+-- x is what a call leaves; `asWas` puts all but the answer as it was lent
+pub record Works {Left : Type 0} (table : List Line) (answer : Left → Answer) (asWas : Left → Left) (x : Left) : Type 0 where
+  pub exactly : Exactly table (answer x)
+  pub unchanged : (answer x .number ≡ 0 → ⊥) → x ≡ asWas x
+
+abbrev pub BuildWorks : (l : BuildLent) → BuildLeft → Type 0
+BuildWorks l = Works (buildTable l) (λ x. x .answer) (λ x. buildAsWas l (x .answer))
+
+abbrev pub TrialWorks : Session → (w : Model) (c : Tried) → TrialLeft → Type 0
+TrialWorks s w c = Works (trialTable w c) (λ x. x .answer) (λ x. trialAsWas s c (x .answer))
+
+abbrev pub KeepWorks : Session → (w : Model) (c : Kept) → KeepLeft → Type 0
+KeepWorks s w c = Works (keepTable w c) (λ x. x .answer) (λ x. keepAsWas s w c (x .answer))
+
+abbrev pub WriteWorks : (t : Tables) (starts : List ℤ) (lent : List ℕ) → Verdict × List ℕ → Type 0
+WriteWorks t starts lent = Works (writeTable t starts lent) (λ x. answered (x .0) 0) (λ x. (x .0, lent))
+
+abbrev pub ReadWorks : (bytes : List ℕ) (lent : Tables) (lentStarts : List ℤ) → Verdict × (Tables × List ℤ) → Type 0
+ReadWorks bytes lent lentStarts = Works (readTable bytes lent lentStarts) (λ x. answered (x .0) 0) (λ x. (x .0, (counted 0 0 0 lent, lentStarts)))
+
+pub record Demand1 : Type 0 where
+  pub build : (l : BuildLent) (o : BuildOutcome l) → BuildWorks l (leftBuilt o)
+  pub trial : (s : Session) (w : Model) (c : Tried) (o : TrialOutcome s w c) → TrialWorks s w c (leftTried o)
+  pub keep : (s : Session) (w : Model) (c : Kept) (o : KeepOutcome s w c) → KeepWorks s w c (leftKept o)
+  pub write : (t : Tables) (starts : List ℤ) (lent : List ℕ) (o : WriteOutcome t starts lent) → WriteWorks t starts lent (leftWritten o)
+  pub read : (bytes : List ℕ) (lent : Tables) (lentStarts : List ℤ) (o : ReadOutcome bytes lent lentStarts) → ReadWorks bytes lent lentStarts (leftRead o)
+  -- any two outcomes that a statement allows are equal: the answer, the record, every row to its end
+  pub build-one : (l : BuildLent) (o o′ : BuildOutcome l) → (o .done .answer ≡ o′ .done .answer) × (leftBuilt o ≡ leftBuilt o′)
+  pub trial-one : (s : Session) (w : Model) (c : Tried) (o o′ : TrialOutcome s w c) → (o .done .answer ≡ o′ .done .answer) × (leftTried o ≡ leftTried o′)
+  pub keep-one : (s : Session) (w : Model) (c : Kept) (o o′ : KeepOutcome s w c) → (o .done .answer ≡ o′ .done .answer) × (leftKept o ≡ leftKept o′)
+  pub write-one : (t : Tables) (starts : List ℤ) (lent : List ℕ) (o o′ : WriteOutcome t starts lent) → (o .answer ≡ o′ .answer) × (o .bytes ≡ o′ .bytes)
+  pub read-one : (bytes : List ℕ) (lent : Tables) (lentStarts : List ℤ) (o o′ : ReadOutcome bytes lent lentStarts)
+      → (o .answer ≡ o′ .answer) × (counted 0 0 0 (o .rows) ≡ counted 0 0 0 (o′ .rows)) × (o .starts ≡ o′ .starts)
+
+-- ── demand 2: every value is the one its formula gives ──
+-- an accepted build
+pub record BuiltRight {l : BuildLent} (o : BuildOutcome l) : Type 0 where
+  pub not-circular : Circular l → ⊥
+  -- each number is 0 at a search variable, and 1 plus the greatest of the inputs' at a made one
+  pub numbers : (v : ℕ) → v < l .tables .n → nat (o .numbers) v ≡ numbering (net (l .tables)) (nat (o .numbers)) v
+  -- the rows by these numbers
+  pub ordered : o .order ≡ order (l .tables) ++ drop (l .tables .m) (l .order)
+  -- each value is the start value at a search variable, and what the formula gives of the inputs' values at a made one
+  pub stored : (v : ℕ) → v < l .tables .n → valuesIn (l .tables) (o .stored) v ≡ valuation (net (l .tables)) (startValues l) (valuesIn (l .tables) (o .stored)) v
+
+-- circular exactly if some variable depends on itself, at the least variable that can have no topological number
+pub record CircularExactly (l : BuildLent) (a : Answer) : Type 0 where
+  pub given : FivePassed l → Circular l → a .number ≡ 6
+  pub only : a .number ≡ 6 → FivePassed l × Circular l
+  pub place : a .number ≡ 6 → LeastUnnumbered (l .tables) (a .place)
+
+pub record Demand2 : Type 0 where
+  pub build-accepted : (l : BuildLent) (o : BuildOutcome l) → leftBuilt o .answer .number ≡ 0 → BuiltRight o
+  pub build-circular : (l : BuildLent) (o : BuildOutcome l) → CircularExactly l (leftBuilt o .answer)
+  -- what was written is read back to the same tables, by lent rows that hold them
+  pub read-back : (t : Tables) (starts : List ℤ) (lent : List ℕ) (w : WriteOutcome t starts lent) → Fitting t starts → leftWritten w .0 ≡ accepted
+      → (t₀ : Tables) (starts₀ : List ℤ) → held (counted (t .n) (t .m) (t .e) t₀) starts₀ ≡ true
+      → (r : ReadOutcome (take (endsAt (t .n) (t .m) (t .e)) (w .bytes)) t₀ starts₀) → (leftRead r .0 ≡ accepted) × (cut (leftRead r .1) ≡ cut (t, starts))
+  -- what was read is written back to the same bytes, into any buffer that holds them
+  pub written-back : (bytes : List ℕ) → ((i : ℕ) → nat bytes i < 256) → (t₀ : Tables) (starts₀ : List ℤ) (r : ReadOutcome bytes t₀ starts₀) → leftRead r .0 ≡ accepted
+      → (lent : List ℕ) → length bytes ≤ length lent
+      → (w : WriteOutcome (leftRead r .1 .0) (leftRead r .1 .1) lent) → leftWritten w ≡ (accepted, bytes ++ drop (length bytes) lent)
+
+-- ── demand 3: over any run of trials and kept moves after an accepted build ──
+module _ {b : BuildLent} (start : BuildOutcome b) (cs : List Call) (now : State) where
+  -- an accepted trial, by any route: the values worked out afresh, and the evaluations are the size of the route's set
+  pub record TrialFresh (c : Tried) (o : TrialOutcome (now .session) (modelOf now (ownOf start)) c) : Type 0 where
+    pub results : o .results ≡ over (c .asked) (λ i. renewed b cs (c .move) (nat (c .askedVars) i)) (c .results)
+    pub told : Told b cs (triedSet b cs (ownModel b) c) (leftTried o .answer .evaluations) (o .flags) (c .flags)
+    -- it is the paper's trial, and that is right in all else
+    pub is : leftTried o ≡ tried b cs (ownModel b) c
+    pub right : TrialRight b cs (ownModel b) c
+
+  -- an accepted keep: it leaves exactly the fresh values
+  pub record KeepFresh (c : Kept) (o : KeepOutcome (now .session) (modelOf now (ownOf start)) c) : Type 0 where
+    pub stored : o .stored ≡ over (b .tables .n) (renewed b cs (c .move)) (b .stored)
+    pub told : Told b cs (evaluatedBy b cs input-to-output (c .move) []) (leftKept o .answer .evaluations) (o .flags) (c .flags)
+    pub is : leftKept o ≡ kept b cs (ownModel b) c
+    pub right : KeepRight b cs (ownModel b) c
+
+  pub record RunRight : Type 0 where
+    -- after every run the state is the paper's: the fresh values of the moves kept, and their number up to its ceiling
+    pub is : now ≡ after b cs
+    pub stored : now .stored ≡ over (b .tables .n) (old b cs) (b .stored)
+    pub moves : now .session .kept ≡ min (length (history b cs)) 4294967295
+    -- the next call, if it is accepted and was lent the model's own
+    pub trial-accepted : (c : Tried) (o : TrialOutcome (now .session) (modelOf now (ownOf start)) c) → leftTried o .answer .number ≡ 0 → TrialFresh c o
+    pub keep-accepted : (c : Kept) (o : KeepOutcome (now .session) (modelOf now (ownOf start)) c) → leftKept o .answer .number ≡ 0 → KeepFresh c o
+    -- no trial alters a stored value, and a refused call leaves the state, whatever it was lent
+    pub trial-stored : (l : Lends) (c : Tried) (o : TrialOutcome (now .session) (modelOf now l) c) → afterTrial now (o .done) .stored ≡ now .stored
+    pub trial-refused : (l : Lends) (c : Tried) (o : TrialOutcome (now .session) (modelOf now l) c) → (leftTried o .answer .number ≡ 0 → ⊥)
+        → afterTrial now (o .done) ≡ now
+    pub keep-refused : (l : Lends) (c : Kept) (o : KeepOutcome (now .session) (modelOf now l) c) → (leftKept o .answer .number ≡ 0 → ⊥)
+        → (afterKeep now (l .stored) (o .done) (o .stored) ≡ now) × (history b (keeps l c ∷ cs) ≡ history b cs)
+
+abbrev pub Demand3 : Type 0
+Demand3 = (b : BuildLent) (start : BuildOutcome b) → leftBuilt start .answer .number ≡ 0 → (cs : List Call) (now : State) → Run start cs now → RunRight start cs now

@@ -1,0 +1,4 @@
+pub mod Stated
+pub mod Refusals
+pub mod Runs
+pub mod Demands

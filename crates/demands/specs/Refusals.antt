@@ -1,0 +1,103 @@
+-- The paper's table of refusals, one list of lines for each call in the order in which they are checked, and what it is that a list gives a
+-- number and a place, or accepts. Assumes nothing.
+use Prim.Native.Nat.{ℕ, pred, _<_}
+use mathlib.Core.Bool.{Bool, true, false, _&&_}
+use mathlib.Core.List.{List, [], _∷_, _++_}
+use mathlib.Core.Path.{_≡_}
+use lib.IntN.{ℤ}
+use lib.Dec.{eqb, leb, ltb}
+use lib.ListN.{length, take}
+use Rattle.paper.specs.Lists.{between, total, nat}
+use Rattle.paper.specs.Tables.{Tables, ends}
+use Rattle.paper.specs.Checks.{Verdict, accepted, refused, kindGood, shapeGood, numberGood, madeOnce, startGood, storedGood, numbered, Move, movable, namedOnce, hasValue}
+use Rattle.paper.specs.Calls.{BuildLent, buildFits, startValues, Model, storedValues, Tried, trialFits, Kept, keepFits}
+use Rattle.paper.specs.File.{field, rowsAt, entriesAt, endsAt, held, counted, nIn, mIn, eIn}
+
+-- a number with a test of each place below a bound, or with one test and a fixed place
+pub data Line : Type 0 where
+  places : (number bound : ℕ) (good : ℕ → Bool) → Line
+  whole : (number place : ℕ) (good : Bool) → Line
+
+-- ── the lines of each call ──
+-- 2 to 5, of the tables
+abbrev pub tableLines : Tables → List Line
+tableLines t =
+    places 2 (t .m) (kindGood t)
+    ∷ places 3 (t .m) (shapeGood t)
+    ∷ whole 3 (pred (t .m)) (eqb (total (take (t .m) (t .counts))) (t .e))
+    ∷ places 4 (t .m) (numberGood t)
+    ∷ places 5 (t .m) (madeOnce t)
+    ∷ []
+
+-- 8 and then 7, of the model lent to trial and keep
+abbrev pub modelLines : Model → List Line
+modelLines w = whole 8 0 (numbered (w .tables) (w .numbers) (w .order)) ∷ places 7 (w .tables .n) (storedGood (w .tables) (storedValues w)) ∷ []
+
+-- 10 to 12, of the move
+abbrev pub moveLines : Tables → Move → List Line
+moveLines t mv = places 10 (mv .pairs) (movable mv t) ∷ places 11 (mv .pairs) (namedOnce mv) ∷ places 12 (mv .pairs) (hasValue mv) ∷ []
+
+abbrev pub buildTable : BuildLent → List Line
+buildTable l = let t = l .tables in
+    whole 1 0 (buildFits l) ∷ (tableLines t ++ (places 6 (t .n) (ends t) ∷ places 7 (t .n) (startGood t (startValues l)) ∷ []))
+
+abbrev pub trialTable : Model → Tried → List Line
+trialTable w c = let t = w .tables in
+    whole 1 0 (trialFits w c) ∷ (tableLines t ++ modelLines w ++ (whole 9 0 (between 1 (c .route) 3) ∷ [])
+    ++ moveLines t (c .move) ++ (places 13 (c .asked) (λ i. ltb (nat (c .askedVars) i) (t .n)) ∷ []))
+
+abbrev pub keepTable : Model → Kept → List Line
+keepTable w c = whole 1 0 (keepFits w c) ∷ (tableLines (w .tables) ++ modelLines w ++ moveLines (w .tables) (c .move))
+
+abbrev pub writeTable : Tables → List ℤ → List ℕ → List Line
+writeTable t starts bytes = whole 1 0 (held t starts && leb (endsAt (t .n) (t .m) (t .e)) (length bytes)) ∷ []
+
+-- 14, of the file's header: the place is the wrong field's, or the length of a file under 24 bytes
+abbrev pub headerLines : List ℕ → List Line
+headerLines bytes = let n = nIn bytes in let m = mIn bytes in let e = eIn bytes in
+    whole 14 (length bytes) (leb 24 (length bytes))
+    ∷ whole 14 0 (eqb (field 2 0 bytes) 1)
+    ∷ whole 14 2 (between 1 n 4096)
+    ∷ whole 14 4 (leb m n)
+    ∷ whole 14 6 (leb e 16384)
+    ∷ whole 14 8 (eqb (field 4 8 bytes) 24)
+    ∷ whole 14 12 (eqb (field 4 12 bytes) (rowsAt n))
+    ∷ whole 14 16 (eqb (field 4 16 bytes) (entriesAt n m))
+    ∷ whole 14 20 (eqb (field 4 20 bytes) (endsAt n m e) && eqb (length bytes) (endsAt n m e))
+    ∷ []
+
+-- then 1, of the lent rows
+abbrev pub roomLines : List ℕ → Tables → List ℤ → List Line
+roomLines bytes t starts = whole 1 0 (held (counted (nIn bytes) (mIn bytes) (eIn bytes) t) starts) ∷ []
+
+abbrev pub readTable : List ℕ → Tables → List ℤ → List Line
+readTable bytes t starts = headerLines bytes ++ roomLines bytes t starts
+
+-- ── what a list says ──
+abbrev pub Passed : Line → Type 0
+Passed (places number bound good) = (i : ℕ) → i < bound → good i ≡ true
+Passed (whole number place good) = good ≡ true
+
+-- p is the least place that fails
+pub record Least (bound : ℕ) (good : ℕ → Bool) (p : ℕ) : Type 0 where
+  pub low : p < bound
+  pub fails : good p ≡ false
+  pub before : (i : ℕ) → i < p → good i ≡ true
+
+abbrev pub Fails : Line → ℕ → ℕ → Type 0
+Fails (places number bound good) k p = (number ≡ k) × Least bound good p
+Fails (whole number place good) k p = (number ≡ k) × (place ≡ p) × (good ≡ false)
+
+-- it accepts: every line is passed
+pub data Passes : List Line → Type 0 where
+  none : Passes []
+  next : {line : Line} {rest : List Line} → Passed line → Passes rest → Passes (line ∷ rest)
+
+-- it gives k and p: the first line that fails has the number k, and fails at p
+pub data Gives (k p : ℕ) : List Line → Type 0 where
+  here : {line : Line} {rest : List Line} → Fails line k p → Gives k p (line ∷ rest)
+  later : {line : Line} {rest : List Line} → Passed line → Gives k p rest → Gives k p (line ∷ rest)
+
+abbrev pub Says : List Line → Verdict → Type 0
+Says table accepted = Passes table
+Says table (refused k p) = Gives k p table

@@ -1,0 +1,42 @@
+// The golden runs: what `values` prints for each file that the arguments name, under the file's name.
+use libc::STDOUT_FILENO;
+
+// Prints what `values` prints for the file behind a descriptor.
+fn show(fd: i32) {
+    let mut file = [0u8; 65537];
+    let got = io::read_full(fd, &mut file);
+    let mut out = [0u8; 98304];
+    let k = report::show(&file[..got], &mut out);
+    io::write_all(STDOUT_FILENO, &out[..k]);
+}
+
+// Prints a file's name, and what `values` prints for it.
+fn show_named(name: &[u8]) {
+    io::write_all(STDOUT_FILENO, b"# ");
+    io::write_all(STDOUT_FILENO, name);
+    io::write_all(STDOUT_FILENO, b"\n");
+    let fd = os::open_read(name);
+    if fd < 0 {
+        os::fail(name);
+        return;
+    }
+    show(fd);
+    libc::close(fd);
+}
+
+// The same for the file that argument i names.
+fn show_argument(i: usize) {
+    let mut name = [0u8; 256];
+    let k = os::arg(i, &mut name);
+    if os::errno() != 0 {
+        os::fail(b"argument");
+        return;
+    }
+    show_named(&name[..k]);
+}
+
+fn main() {
+    for i in 1..os::arg_count() {
+        show_argument(i);
+    }
+}

@@ -1,0 +1,83 @@
+-- One variable after another is asked, and those that are left have room in the row of work (`list-next`). Assumes nothing.
+use Prim.Native.Nat.{_-_}
+use native.Mathlib.Omega.{arith}
+use lib.Dec.{ltb}
+use lib.ListN.{length}
+use borrow.Author.Needs.{needs}
+use borrow.Author.Tests.{ltb-true}
+use Rattle.paper.specs.Tables.{Tables}
+use Rattle.paper.proofs.Lists.{all-at}
+use Rattle.routes.specs.Work.{rows}
+use Rattle.routes.proofs.Asks.{asking-start, asking-ready}
+use Rattle.routes.proofs.InTurn.{ListFrom, list-next, list-end}
+use Rattle.routes.proofs.ask.ask_all.Statement.{statement}
+use Rattle.routes.proofs.ask.ask_all.Tie as tie
+
+abbrev Inv-loop : tie.InvT-loop
+Inv-loop asked work kinds params firsts counts vars coefs trial₀ flags₀ j₀ j-end trial flags j =
+    ListFrom (rows kinds params firsts counts vars coefs) work asked trial₀ flags₀ j trial flags
+
+abbrev μ-loop : tie.MeasureT-loop
+μ-loop asked work kinds params firsts counts vars coefs trial₀ flags₀ j₀ j-end trial flags j = j-end - j
+
+-- the rows that the arguments lend
+abbrev tables : tie.Start Inv-loop μ-loop → Tables
+tables s = let a = s .args in rows (a .kinds .now) (a .params .now) (a .firsts .now) (a .counts .now) (a .vars .now) (a .coefs .now)
+
+loop-holds : tie.Need-loop-holds Inv-loop μ-loop
+loop-holds c = let s = c .before .before .before .before .before .before .before in asking-start (tables s) (s .args .work .now) (s .pre .0) _ _ _ (s .pre .1 .1)
+
+mul-wide : tie.Need-mul-wide Inv-loop μ-loop
+mul-wide c = search needs
+
+shared-slice-read-wide : tie.Need-shared-slice-read-wide Inv-loop μ-loop
+shared-slice-read-wide c = search needs
+
+wide-requires : tie.Need-wide-requires Inv-loop μ-loop
+wide-requires c κs = search needs
+
+value-of-variable-requires : tie.Need-value-of-variable-requires Inv-loop μ-loop
+value-of-variable-requires c κs =
+    let s = c .before .before .before .before .before .before .before .before .before .before .before .before .before in let l = c .before .before .before .before .before .loop in let a = s .args in
+    let low = ltb-true _ (length (a .work .now)) (all-at (λ v. ltb v (length (a .work .now))) (a .asked .now) (s .pre .1 .0) (l .j) 0 (c .before .before .before .before .loop-test .taken)) in
+    (s .pre .0, (omega (arith, low, c .before .before .wide .ensures .0), asking-ready (tables s) (a .work .now) (s .pre .0) _ _ _ _ _ _ (l .inv) (s .pre .1 .1)))
+
+add-j : tie.Need-add-j Inv-loop μ-loop
+add-j c = search needs
+
+loop-less : tie.Need-loop-less Inv-loop μ-loop
+loop-less c = search needs
+
+loop-again : tie.Need-loop-again Inv-loop μ-loop
+loop-again c =
+    let s = c .before .before .before .before .before .before .before .before .before .before .before .before .before .before .before .before .before in let l = c .before .before .before .before .before .before .before .before .before .loop in
+    list-next (tables s) (s .args .work .now) (s .args .asked .now) _ _ (s .pre .0) (l .j) _ _ (l .inv) (c .before .before .before .before .before .before .before .before .loop-test .taken) _ _ _ (c .before .before .before .before .before .before .wide .ensures .0) (c .before .before .before .value-of-variable .ensures .1)
+
+same-length : tie.Need-same-length Inv-loop μ-loop
+same-length c = c .before .loop .inv .long
+
+same-length-2 : tie.Need-same-length-2 Inv-loop μ-loop
+same-length-2 c = c .before .loop .inv .reaching .long
+
+returns : tie.Need-returns Inv-loop μ-loop
+returns c =
+    let s = c .before .before .before .before .before .before .before .before .before in let l = c .before .loop in
+    list-end (tables s) (s .args .work .now) (s .args .asked .now) _ _ (s .pre .0) (l .j) _ _ (l .inv) (c .loop-test .left)
+
+pub ask-all-spec : {M : Type 1} → statement M
+ask-all-spec =
+    tie.close
+    (tie.spec
+    Inv-loop
+    μ-loop
+    loop-holds
+    mul-wide
+    shared-slice-read-wide
+    wide-requires
+    value-of-variable-requires
+    add-j
+    loop-less
+    loop-again
+    same-length
+    same-length-2
+    returns)

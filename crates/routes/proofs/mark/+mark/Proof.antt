@@ -1,0 +1,137 @@
+-- The mark of v is set after those of its readers, whose topological numbers are greater: so their distance to the greatest is less (`Going`).
+-- Assumes nothing.
+use Prim.Native.Nat.{ℕ, _<_}
+use native.Mathlib.Omega.{arith}
+use mathlib.Core.Path.{_∙_}
+use lib.ListN.{length-set}
+use borrow.Author.Needs.{needs}
+use Rattle.routes.specs.Readers.{distance}
+use Rattle.routes.proofs.Reach.{reached-again}
+use Rattle.routes.proofs.Readers.{left, Going, going-start, going-room, going-end, going-call, going-step, going-less}
+use borrow.Fn.Kinds.{In}
+use borrow.Fn.PlainCycle.{Measures, is, falls, and}
+use Rattle.routes.proofs.mark.mark.Reads as mark
+use Rattle.routes.proofs.mark.mark.Kinds as mark-kinds
+use Rattle.routes.proofs.mark.+mark.Lts-mark as mark-lts
+use Rattle.integers.proofs.wide.Reads as wide-reads
+use Rattle.routes.proofs.mark.+mark.{statement}
+use Rattle.routes.proofs.mark.+mark.Tie.{close}
+
+abbrev μ-mark : Measures 4 mark-kinds.ps ℕ
+μ-mark κs a = distance (a .1 .0 .now) (a .1 .1 .0 .now) (a .1 .1 .1 .0 .now) (a .0)
+
+abbrev mark-at : ℕ → In 4 mark-kinds.ps
+mark-at t = and 4 mark-kinds.ps (is 4 mark-kinds.ps μ-mark t) mark.Pre
+
+abbrev mark-below : ℕ → In 4 mark-kinds.ps
+mark-below t = and 4 mark-kinds.ps (falls 4 mark-kinds.ps _<_ μ-mark t) mark.Pre
+
+-- what the calls in the body may rely on
+abbrev told : ℕ → mark-lts.Claims
+told t = (wide-reads.Asked, wide-reads.Learnt, mark-below t, mark.Post)
+
+abbrev mark-Inv-loop : mark-lts.InvT-loop
+mark-Inv-loop v heads links made marks₀ link₀ marks link = Going heads links made v marks₀ marks link
+
+abbrev mark-μ-loop : mark-lts.MeasureT-loop
+mark-μ-loop v heads links made marks₀ link₀ marks link = left links link
+
+mark-slice-read-if1 : (t : ℕ) → mark-lts.Need-slice-read-if1 (told t) (mark-at t) mark.Post mark-Inv-loop mark-μ-loop
+mark-slice-read-if1 t c = let s = c .before .before .before .before .before in omega (arith, s .pre .1 .1 .0, s .pre .1 .1 .1 .room)
+
+mark-returns : (t : ℕ) → mark-lts.Need-returns (told t) (mark-at t) mark.Post mark-Inv-loop mark-μ-loop
+mark-returns t c = let s = c .before .before .before .before .before .before in reached-again _ _ _ _ (s .pre .1 .1 .1 .closed) (c .if1 .taken)
+
+mark-mul-wide : (t : ℕ) → mark-lts.Need-mul-wide (told t) (mark-at t) mark.Post mark-Inv-loop mark-μ-loop
+mark-mul-wide t c = search needs
+
+mark-shared-slice-read-wide : (t : ℕ) → mark-lts.Need-shared-slice-read-wide (told t) (mark-at t) mark.Post mark-Inv-loop mark-μ-loop
+mark-shared-slice-read-wide t c = let s = c .before .before .before .before .before .before .before in omega (arith, s .pre .1 .1 .0)
+
+mark-wide-requires : (t : ℕ) → mark-lts.Need-wide-requires (told t) (mark-at t) mark.Post mark-Inv-loop mark-μ-loop
+mark-wide-requires t c κs = search needs
+
+mark-loop-holds : (t : ℕ) → mark-lts.Need-loop-holds (told t) (mark-at t) mark.Post mark-Inv-loop mark-μ-loop
+mark-loop-holds t c = let s = c .before .before .before .before .before .before .before .before in going-start _ _ _ (s .pre .1 .0) _ _ _ (s .pre .1 .1 .1) (c .wide .ensures .0)
+
+mark-sub-wide : (t : ℕ) → mark-lts.Need-sub-wide (told t) (mark-at t) mark.Post mark-Inv-loop mark-μ-loop
+mark-sub-wide t c = search needs
+
+mark-mul-wide-2 : (t : ℕ) → mark-lts.Need-mul-wide-2 (told t) (mark-at t) mark.Post mark-Inv-loop mark-μ-loop
+mark-mul-wide-2 t c = search needs
+
+mark-shared-slice-read-wide-2 : (t : ℕ) → mark-lts.Need-shared-slice-read-wide-2 (told t) (mark-at t) mark.Post mark-Inv-loop mark-μ-loop
+mark-shared-slice-read-wide-2 t c = let s = c .before .before .before .before .before .before .before .before .before .before .before in omega (arith, s .pre .1 .0 .long, c .before .before .loop .inv .low)
+
+mark-wide-requires-2 : (t : ℕ) → mark-lts.Need-wide-requires-2 (told t) (mark-at t) mark.Post mark-Inv-loop mark-μ-loop
+mark-wide-requires-2 t c κs = search needs
+
+mark-mark-requires : (t : ℕ) → mark-lts.Need-mark-requires (told t) (mark-at t) mark.Post mark-Inv-loop mark-μ-loop
+mark-mark-requires t c κs =
+    let s = c .before .before .before .before .before .before .before .before .before .before .before .before .before in
+    let g = going-call _ _ _ (s .pre .1 .0) _ _ _ _ (c .before .before .before .before .loop .inv) (c .before .before .before .loop-test .taken) _ (c .before .wide2 .ensures .0) (s .pre .1 .1 .0) (s .pre .1 .1 .1 .room) in
+    (omega (arith, g .0, s .pre .0), (s .pre .1 .0, (g .1, g .2)))
+
+mark-sub-wide-2 : (t : ℕ) → mark-lts.Need-sub-wide-2 (told t) (mark-at t) mark.Post mark-Inv-loop mark-μ-loop
+mark-sub-wide-2 t c = search needs
+
+mark-mul-wide-3 : (t : ℕ) → mark-lts.Need-mul-wide-3 (told t) (mark-at t) mark.Post mark-Inv-loop mark-μ-loop
+mark-mul-wide-3 t c = search needs
+
+mark-shared-slice-read-wide-3 : (t : ℕ) → mark-lts.Need-shared-slice-read-wide-3 (told t) (mark-at t) mark.Post mark-Inv-loop mark-μ-loop
+mark-shared-slice-read-wide-3 t c = omega (arith, c .before .before .before .before .before .before .before .before .loop .inv .low)
+
+mark-wide-requires-3 : (t : ℕ) → mark-lts.Need-wide-requires-3 (told t) (mark-at t) mark.Post mark-Inv-loop mark-μ-loop
+mark-wide-requires-3 t c κs = search needs
+
+mark-loop-less : (t : ℕ) → mark-lts.Need-loop-less (told t) (mark-at t) mark.Post mark-Inv-loop mark-μ-loop
+mark-loop-less t c =
+    let s = c .before .before .before .before .before .before .before .before .before .before .before .before .before .before .before .before .before .before in
+    going-less _ _ _ (s .pre .1 .0) _ _ _ _ (c .before .before .before .before .before .before .before .before .before .loop .inv) (c .before .before .before .before .before .before .before .before .loop-test .taken) _ (c .before .before .before .before .before .before .wide2 .ensures .0) _ (c .wide3 .ensures .0)
+
+mark-loop-again : (t : ℕ) → mark-lts.Need-loop-again (told t) (mark-at t) mark.Post mark-Inv-loop mark-μ-loop
+mark-loop-again t c =
+    let s = c .before .before .before .before .before .before .before .before .before .before .before .before .before .before .before .before .before .before in
+    going-step _ _ _ (s .pre .1 .0) _ _ _ _ (c .before .before .before .before .before .before .before .before .before .loop .inv) (c .before .before .before .before .before .before .before .before .loop-test .taken) _ (c .before .before .before .before .before .before .wide2 .ensures .0) _ (c .wide3 .ensures .0) _ (c .before .before .before .before .mark .ensures)
+
+-- there is room for the mark of v
+mark-room : (t : ℕ) → mark-lts.Need-slice-write-marks (told t) (mark-at t) mark.Post mark-Inv-loop mark-μ-loop
+mark-room t c =
+    let s = c .before .before .before .before .before .before .before .before .before .before in
+    omega (arith, s .pre .1 .1 .0, going-room _ _ _ (s .pre .1 .0) _ _ _ _ (c .before .loop .inv) (s .pre .1 .1 .1 .room))
+
+mark-slice-write-marks : (t : ℕ) → mark-lts.Need-slice-write-marks (told t) (mark-at t) mark.Post mark-Inv-loop mark-μ-loop
+mark-slice-write-marks t c = mark-room t c
+
+mark-same-length : (t : ℕ) → mark-lts.Need-same-length (told t) (mark-at t) mark.Post mark-Inv-loop mark-μ-loop
+mark-same-length t c = length-set (c .before .loop .marks) _ 1 ∙ c .before .loop .inv .reaching .long
+
+mark-returns-2 : (t : ℕ) → mark-lts.Need-returns-2 (told t) (mark-at t) mark.Post mark-Inv-loop mark-μ-loop
+mark-returns-2 t c = let s = c .before .before .before .before .before .before .before .before .before .before in going-end _ _ _ (s .pre .1 .0) _ (c .before .loop .link) _ _ (c .before .loop .inv) (omega arith) (mark-room t c)
+
+pub +mark-spec : {M : Type 1} → statement M
++mark-spec = close μ-mark λ t. mark-lts.spec (told t)
+    (mark-at t)
+    mark.Post
+    mark-Inv-loop
+    mark-μ-loop
+    (mark-slice-read-if1 t)
+    (mark-returns t)
+    (mark-mul-wide t)
+    (mark-shared-slice-read-wide t)
+    (mark-wide-requires t)
+    (mark-loop-holds t)
+    (mark-sub-wide t)
+    (mark-mul-wide-2 t)
+    (mark-shared-slice-read-wide-2 t)
+    (mark-wide-requires-2 t)
+    (mark-mark-requires t)
+    (mark-sub-wide-2 t)
+    (mark-mul-wide-3 t)
+    (mark-shared-slice-read-wide-3 t)
+    (mark-wide-requires-3 t)
+    (mark-loop-less t)
+    (mark-loop-again t)
+    (mark-slice-write-marks t)
+    (mark-same-length t)
+    (mark-returns-2 t)

@@ -1,0 +1,151 @@
+// Routes 2 and 3, from outputs to inputs, over a row of work: asking a variable asks its row, and the row asks its inputs in turn.
+ghost use mathlib.Core.Bool.{true};
+ghost use mathlib.Core.Path.{_≡_};
+ghost use Prim.Native.Nat.{suc, _<_};
+ghost use lib.Dec.{ltb};
+ghost use lib.ListN.{length};
+ghost use Rattle.paper.specs.Lists.{all, nat};
+ghost use Rattle.routes.specs.Work.{rows, Workable, workedOut, Ready, Asked, AllAsked, nextPlace};
+use crate::row::row_value;
+use integers::wide;
+
+// The place that a row asks after place i, whose variable has the value x: the next one, but of ELEMENT the chosen candidate's after the index.
+fn next_place(kind: u16, x: i32, i: usize, first: usize, last: usize) -> usize
+    requires { ⌜ (i < last) × (first < last) × (last < 131072) ⌝ }
+    ensures { λ r. ⌜ r ≡ nextPlace kind x i first last ⌝ }
+{
+    if kind != 4 {
+        return i + 1;
+    }
+    if i != first {
+        return last;
+    }
+    if x < 0 {
+        return last;
+    }
+    let place = first + 1 + x as usize;
+    if place < last {
+        return place;
+    }
+    last
+}
+
+// The value of variable v: as it stands, or, where there is work to do for v that is not done yet, the value of its row.
+fn value_of_variable(
+    v: usize,
+    work: &[u16],
+    kinds: &[u16],
+    params: &[i32],
+    firsts: &[u16],
+    counts: &[u16],
+    vars: &[u16],
+    coefs: &[i16],
+    trial: &mut [i32],
+    flags: &mut [u8],
+) -> i32
+    requires workable { ⌜ Workable (rows (now kinds) (now params) (now firsts) (now counts) (now vars) (now coefs)) (now work) ⌝ }
+    requires there { ⌜ v < length (now work) ⌝ }
+    requires ready { ⌜ Ready (rows (now kinds) (now params) (now firsts) (now counts) (now vars) (now coefs)) (now work) (now trial) (now flags) ⌝ }
+    ensures value { λ x. ⌜ x ≡ workedOut (rows (now (kinds .entry)) (now (params .entry)) (now (firsts .entry)) (now (counts .entry)) (now (vars .entry)) (now (coefs .entry))) (now (work .entry)) (now (trial .entry)) v ⌝ }
+    ensures asked { λ _. ⌜ Asked (rows (now (kinds .entry)) (now (params .entry)) (now (firsts .entry)) (now (counts .entry)) (now (vars .entry)) (now (coefs .entry))) (now (work .entry)) v (now (trial .entry)) (now (flags .entry)) (now (trial .exit)) (now (flags .exit)) ⌝ }
+{
+    let row = wide(work[v]);
+    if row == 0 {
+        return trial[v];
+    }
+    if flags[v] == 1 {
+        return trial[v];
+    }
+    value_of_row(
+        row - 1,
+        v,
+        work,
+        kinds,
+        params,
+        firsts,
+        counts,
+        vars,
+        coefs,
+        trial,
+        flags,
+    )
+}
+
+// The value of row r over the inputs that it asks in turn, stored with a flag for the variable v that it makes.
+fn value_of_row(
+    r: usize,
+    v: usize,
+    work: &[u16],
+    kinds: &[u16],
+    params: &[i32],
+    firsts: &[u16],
+    counts: &[u16],
+    vars: &[u16],
+    coefs: &[i16],
+    trial: &mut [i32],
+    flags: &mut [u8],
+) -> i32
+    requires workable { ⌜ Workable (rows (now kinds) (now params) (now firsts) (now counts) (now vars) (now coefs)) (now work) ⌝ }
+    requires row { ⌜ nat (now work) v ≡ suc r ⌝ }
+    requires ready { ⌜ Ready (rows (now kinds) (now params) (now firsts) (now counts) (now vars) (now coefs)) (now work) (now trial) (now flags) ⌝ }
+    ensures value { λ x. ⌜ x ≡ workedOut (rows (now (kinds .entry)) (now (params .entry)) (now (firsts .entry)) (now (counts .entry)) (now (vars .entry)) (now (coefs .entry))) (now (work .entry)) (now (trial .entry)) v ⌝ }
+    ensures asked { λ _. ⌜ Asked (rows (now (kinds .entry)) (now (params .entry)) (now (firsts .entry)) (now (counts .entry)) (now (vars .entry)) (now (coefs .entry))) (now (work .entry)) v (now (trial .entry)) (now (flags .entry)) (now (trial .exit)) (now (flags .exit)) ⌝ }
+{
+    let kind = kinds[r];
+    let first = wide(firsts[r]);
+    let last = first + wide(counts[r]);
+    let mut i = first;
+    while i < last {
+        let x = value_of_variable(
+            wide(vars[i]),
+            work,
+            kinds,
+            params,
+            firsts,
+            counts,
+            vars,
+            coefs,
+            trial,
+            flags,
+        );
+        i = next_place(kind, x, i, first, last);
+    }
+    let y = row_value(r, kinds, params, firsts, counts, vars, coefs, trial);
+    trial[v] = y;
+    flags[v] = 1;
+    y
+}
+
+// Asks every variable of a list.
+pub fn ask_all(
+    asked: &[u16],
+    work: &[u16],
+    kinds: &[u16],
+    params: &[i32],
+    firsts: &[u16],
+    counts: &[u16],
+    vars: &[u16],
+    coefs: &[i16],
+    trial: &mut [i32],
+    flags: &mut [u8],
+)
+    requires workable { ⌜ Workable (rows (now kinds) (now params) (now firsts) (now counts) (now vars) (now coefs)) (now work) ⌝ }
+    requires there { ⌜ all (λ v. ltb v (length (now work))) (now asked) ≡ true ⌝ }
+    requires ready { ⌜ Ready (rows (now kinds) (now params) (now firsts) (now counts) (now vars) (now coefs)) (now work) (now trial) (now flags) ⌝ }
+    ensures { λ _. ⌜ AllAsked (rows (now (kinds .entry)) (now (params .entry)) (now (firsts .entry)) (now (counts .entry)) (now (vars .entry)) (now (coefs .entry))) (now (work .entry)) (now (asked .entry)) (now (trial .entry)) (now (flags .entry)) (now (trial .exit)) (now (flags .exit)) ⌝ }
+{
+    for j in 0..asked.len() {
+        value_of_variable(
+            wide(asked[j]),
+            work,
+            kinds,
+            params,
+            firsts,
+            counts,
+            vars,
+            coefs,
+            trial,
+            flags,
+        );
+    }
+}

@@ -1,0 +1,42 @@
+-- What the program prints, as bytes: the refusal line and the list. Assumes nothing.
+use Prim.Native.Nat.{ℕ, zero, suc, _/_, min}
+use mathlib.Core.Bool.{cond}
+use mathlib.Core.List.{List, [], _∷_, _++_}
+use lib.Dec.{ltb}
+use lib.IntN.{ℤ, pos, natAbs}
+use lib.ListN.{length, getD}
+use lib.Signed.{ltZ}
+use Rattle.io.specs.Digits.{digits}
+use Rattle.integers.specs.Integers.{eqZ}
+use Rattle.paper.specs.Lists.{nat}
+use Rattle.paper.specs.Formula.{blank}
+use Rattle.paper.specs.File.{joined}
+
+-- how many decimal digits n has, if it has at most `most`
+abbrev pub places : ℕ → ℕ → ℕ
+places zero n = 0
+places (suc most) n = cond (ltb n 10) 1 (suc (places most (n / 10)))
+
+-- a number below 2 ^ 64 in decimal digits, the fewest that hold it
+unfoldable pub decimal : ℕ → List ℕ
+decimal n = digits 10 (places 20 n) n
+
+-- `-` in front of a number below 0
+abbrev pub sign : ℤ → List ℕ
+sign z = cond (ltZ z (pos 0)) (45 ∷ []) []
+
+-- a value, or `-` if it is blank
+abbrev pub value : ℤ → List ℕ
+value z = cond (eqZ z blank) (45 ∷ []) (sign z ++ decimal (natAbs z))
+
+-- a line of the list: variable, topological number and value, parted by single blanks
+abbrev pub line : ℕ → ℕ → ℤ → List ℕ
+line v number z = decimal v ++ (32 ∷ []) ++ decimal number ++ (32 ∷ []) ++ value z ++ (10 ∷ [])
+
+-- a line for each of the first n variables that has a number and a value
+unfoldable pub list : ℕ → List ℕ → List ℤ → List ℕ
+list n numbers values = joined (λ v. line v (nat numbers v) (getD values v (pos 0))) (min n (min (length numbers) (length values)))
+
+-- `refused`, the number and the place, parted by single blanks
+unfoldable pub refusal : ℕ → ℕ → List ℕ
+refusal number place = (114 ∷ 101 ∷ 102 ∷ 117 ∷ 115 ∷ 101 ∷ 100 ∷ 32 ∷ []) ++ decimal number ++ (32 ∷ []) ++ decimal place ++ (10 ∷ [])

@@ -1,0 +1,65 @@
+// What the program prints, put into a lent buffer: the refusal line and the list. A place is where the next byte goes; a full buffer takes no
+// more, so every call takes any buffer, and the contract says what is in it.
+mod buffer;
+mod numbers;
+
+ghost use Rattle.io.specs.Counts.{Counts};
+ghost use Rattle.paper.specs.File.{joined};
+ghost use Rattle.text.specs.Buffer.{Put, Shows};
+ghost use Rattle.text.specs.Lines as Lines;
+use crate::buffer::least;
+use crate::buffer::put;
+use crate::buffer::put_all;
+use crate::numbers::put_decimal;
+use crate::numbers::put_value;
+
+// Puts a line of the list.
+fn put_line(out: &mut [u8], at: usize, v: usize, number: u16, value: i32) -> usize
+    ensures { λ r. ⌜ Put (Lines.line v number value) (now (out .entry)) at (now (out .exit)) r ⌝ }
+{
+    let a = put_decimal(out, at, v as u64);
+    let b = put(out, a, b' ');
+    let c = put_decimal(out, b, number as u64);
+    let d = put(out, c, b' ');
+    let e = put_value(out, d, value);
+    put(out, e, b'\n')
+}
+
+// Puts the lines of the variables below n, from the front on.
+fn put_lines(n: usize, numbers: &[u16], values: &[i32], out: &mut [u8]) -> usize
+    ensures { λ r. ⌜ Put (Lines.list n (now (numbers .entry)) (now (values .entry))) (now (out .entry)) 0 (now (out .exit)) r ⌝ }
+{
+    let count = least(n, least(numbers.len(), values.len()));
+    let mut at = 0;
+    for v in 0..count {
+        at = put_line(out, at, v, numbers[v], values[v]);
+    }
+    at
+}
+
+// Puts the refusal line, from the front on.
+fn put_refusal(number: u32, place: u32, out: &mut [u8]) -> usize
+    ensures { λ r. ⌜ Put (Lines.refusal number place) (now (out .entry)) 0 (now (out .exit)) r ⌝ }
+{
+    let a = put_all(out, 0, b"refused ");
+    let b = put_decimal(out, a, number as u64);
+    let c = put(out, b, b' ');
+    let d = put_decimal(out, c, place as u64);
+    put(out, d, b'\n')
+}
+
+// The list of the variables below n: its text in front of the buffer, and how many bytes that is.
+pub fn list(n: usize, numbers: &[u16], values: &[i32], out: &mut [u8]) -> usize
+    ensures { λ r. ⌜ Counts r (now (out .exit)) ⌝ }
+    ensures { λ r. ⌜ Shows (Lines.list n (now (numbers .entry)) (now (values .entry))) (now (out .entry)) (now (out .exit)) r ⌝ }
+{
+    put_lines(n, numbers, values, out)
+}
+
+// The refusal line: its text in front of the buffer, and how many bytes that is.
+pub fn refusal(number: u32, place: u32, out: &mut [u8]) -> usize
+    ensures { λ r. ⌜ Counts r (now (out .exit)) ⌝ }
+    ensures { λ r. ⌜ Shows (Lines.refusal number place) (now (out .entry)) (now (out .exit)) r ⌝ }
+{
+    put_refusal(number, place, out)
+}
