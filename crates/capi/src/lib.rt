@@ -1,0 +1,38 @@
+// The calls for C and Rust. Each states what the call beneath it states.
+use engine::Session;
+
+mod answers;
+mod build;
+mod file;
+mod keep;
+mod trial;
+
+pub use build::lukhandro_build;
+pub use file::lukhandro_read;
+pub use file::lukhandro_write;
+pub use keep::lukhandro_keep;
+pub use trial::lukhandro_trial;
+
+// What a call answers: 0 and place 0 if accepted, and then how many evaluations it made.
+#[repr(C)]
+pub struct Outcome {
+    pub number: u32,
+    pub place: u32,
+    pub evaluations: u32,
+}
+
+// What reading a file answers: 0 and place 0 if accepted, and then how many variables, rows and entries it has.
+#[repr(C)]
+pub struct ReadOutcome {
+    pub number: u32,
+    pub place: u32,
+    pub n: u32,
+    pub m: u32,
+    pub e: u32,
+}
+
+// What a call comes to: its answer, and the session record after it.
+pub struct Ended {
+    pub answer: Outcome,
+    pub session: Session,
+}
