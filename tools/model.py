@@ -1,5 +1,6 @@
-"""The model file and what `values` prints for it, from the specification alone: a second implementation, which shares nothing with the
-engine. It is slow and plain on purpose: numbers in rounds, formulas over whole numbers of any size, a place found by looking at every index."""
+"""The model file, what `values` prints for it, and what trial and keep leave, from the specification alone: a second implementation, which
+shares nothing with the engine. It is slow and plain on purpose: numbers in rounds, formulas over whole numbers of any size, a place found by
+looking at every index."""
 import struct
 
 LOW, HIGH = -2147483647, 2147483647
@@ -167,6 +168,142 @@ def built(starts, lines, entries):
         part = entries[first:first + count]
         values[makes] = formula(kind, param, [c for _, c in part], [values[v] for v, _ in part])
     return known, values
+
+
+# ── trial and keep, over the model that they are lent ──
+class Lent:
+    """What trial and keep are lent of a model: counts, tables, numbers, order and stored values, each of the length lent."""
+
+    def __init__(self, n, lines, entries, numbers, order, stored, e=None):
+        self.n, self.m, self.e = n, len(lines), len(entries) if e is None else e
+        self.lines, self.entries = lines, entries
+        self.numbers, self.order, self.stored = numbers, order, stored
+
+
+def table_refusal(n, lines, entries):
+    """Checks 2 to 5."""
+    bad = refusal([0] * n, lines, entries)
+    return bad if bad and bad[0] <= 5 else None
+
+
+def rightly_numbered(lent):
+    """The lent numbers and order are those that build gives."""
+    known = numbers(lent.n, lent.lines, lent.entries)
+    if None in known:
+        return False
+    order = sorted(range(lent.m), key=lambda r: (known[lent.lines[r][1]], r))
+    return lent.numbers[:lent.n] == known and lent.order[:lent.m] == order
+
+
+def lent_refusal(lent, pairs, move_vars, move_values, asked=0, asked_vars=(), route=1, rooms=()):
+    """Checks 1 to 5, 8, 7 and 9 to 13. A keep asks nothing, by route 1. `rooms` has (length, least length) of the rows to be filled."""
+    n, m, e = lent.n, lent.m, lent.e
+    if not (1 <= n <= 4096 and m <= n and e <= 16384 and pairs <= 64 and asked <= 32):
+        return 1, 0
+    if len(lent.entries) < e or len(lent.numbers) < n or len(lent.order) < m or len(lent.stored) < n:
+        return 1, 0
+    if min(len(move_vars), len(move_values)) < pairs or len(asked_vars) < asked or any(have < least for have, least in rooms):
+        return 1, 0
+    bad = table_refusal(n, lent.lines, lent.entries[:e])
+    if bad:
+        return bad
+    if not rightly_numbered(lent):
+        return 8, 0
+    made = {line[1] for line in lent.lines}
+    for v in range(n):
+        if v not in made and lent.stored[v] == BLANK:
+            return 7, v
+    if route not in (1, 2, 3):
+        return 9, 0
+    for i in range(pairs):
+        if move_vars[i] in made or move_vars[i] >= n:
+            return 10, i
+    for i in range(pairs):
+        if move_vars[i] in move_vars[:i]:
+            return 11, i
+    for i in range(pairs):
+        if move_values[i] == BLANK:
+            return 12, i
+    for i in range(asked):
+        if asked_vars[i] >= n:
+            return 13, i
+    return None
+
+
+def worth(lent, v, line_of, value_of):
+    """The formula of the row that makes v, over the values that value_of gives."""
+    kind, _, param, first, count = line_of[v]
+    part = lent.entries[first:first + count]
+    return formula(kind, param, [c for _, c in part], [value_of(u) for u, _ in part])
+
+
+def routed(lent, route, move, asked):
+    """The new values of a move (a dictionary) by a route, and the variables that the route evaluates."""
+    old, line_of = lent.stored, {line[1]: line for line in lent.lines}
+    inputs = {v: [u for u, _ in lent.entries[line[3]:line[3] + line[4]]] for v, line in line_of.items()}
+    first = [move.get(v, old[v]) for v in range(lent.n)]
+    if route == 1:
+        row, evaluated = list(first), set()
+        for v in sorted(line_of, key=lambda v: lent.numbers[v]):
+            if any(row[u] != old[u] for u in inputs[v]):
+                row[v] = worth(lent, v, line_of, lambda u: row[u])
+                evaluated.add(v)
+        return row, evaluated
+    worked = set(line_of)
+    if route == 3:
+        marked = {v for v in range(lent.n) if v not in line_of and first[v] != old[v]}
+        for _ in range(lent.n):
+            marked |= {v for v in line_of if marked & set(inputs[v])}
+        worked &= marked
+    row = list(first)  # every value that this route could come to, needed or not
+    for v in sorted(worked, key=lambda v: lent.numbers[v]):
+        row[v] = worth(lent, v, line_of, lambda u: row[u])
+    needed, waiting = set(), list(asked)
+    while waiting:
+        v = waiting.pop()
+        if v in needed:
+            continue
+        needed.add(v)
+        if v not in worked:
+            continue
+        if line_of[v][0] == ELEMENT:
+            index, candidates = inputs[v][0], inputs[v][1:]
+            waiting.append(index)
+            if 0 <= row[index] < len(candidates):
+                waiting.append(candidates[row[index]])
+        else:
+            waiting += inputs[v]
+    return row, needed & worked
+
+
+def filled(front, row):
+    """A lent row with its front filled; beyond it as it was."""
+    return list(front) + list(row[len(front):])
+
+
+def tried(lent, record, pairs, move_vars, move_values, asked, asked_vars, route, results, trial, flags):
+    """What a trial leaves: answer (number, place, evaluations), record (moves kept, evaluations), results, trial row, flags."""
+    bad = lent_refusal(lent, pairs, move_vars, move_values, asked, asked_vars, route,
+                       [(len(results), asked), (len(trial), lent.n), (len(flags), lent.n)])
+    if bad:
+        return bad + (0,), record, results, trial, flags
+    move, wanted = dict(zip(move_vars[:pairs], move_values[:pairs])), asked_vars[:asked]
+    row, evaluated = routed(lent, route, move, wanted)
+    count, old = len(evaluated), lent.stored
+    left = [row[v] if v in move or v in evaluated else old[v] for v in range(lent.n)]
+    return ((0, 0, count), (record[0], count), filled([row[v] for v in wanted], results), filled(left, trial),
+            filled([int(v in evaluated) for v in range(lent.n)], flags))
+
+
+def kept_move(lent, record, pairs, move_vars, move_values, flags):
+    """What a keep leaves: answer, record, stored values, flags."""
+    bad = lent_refusal(lent, pairs, move_vars, move_values, rooms=[(len(flags), lent.n)])
+    if bad:
+        return bad + (0,), record, lent.stored, flags
+    row, evaluated = routed(lent, 1, dict(zip(move_vars[:pairs], move_values[:pairs])), [])
+    count = len(evaluated)
+    return ((0, 0, count), (min(record[0] + 1, 4294967295), count), filled(row, lent.stored),
+            filled([int(v in evaluated) for v in range(lent.n)], flags))
 
 
 # ── what `values` prints ──

@@ -3,7 +3,6 @@ pub mod Answers
 pub mod Judging
 pub mod JudgingMoves
 pub mod Fills
-pub mod Moves
 pub mod Settled
 pub mod Ran
 pub mod Accepts

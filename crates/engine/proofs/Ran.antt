@@ -21,7 +21,7 @@ use Rattle.paper.proofs.Lawful.{lawful}
 use Rattle.paper.proofs.Fresh.{unnamed}
 use Rattle.routes.specs.Routed.{Begun, Routed}
 use Rattle.engine.specs.Accepted.{Keeping}
-use Rattle.engine.proofs.Moves.{not-named, low-named, moved-at}
+use Rattle.moves.proofs.Put.{not-named, low-named, moved-at}
 use Rattle.engine.proofs.Settled.{idle-new, all-new}
 
 module _ (t : Tables) (ord : List ℕ) (stored : List ℤ) (c : Kept) (k : Keeping t ord stored c) where

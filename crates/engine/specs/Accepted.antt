@@ -12,7 +12,7 @@ use Rattle.paper.specs.Tables.{Tables, isMade}
 use Rattle.paper.specs.Checks.{accepted}
 use Rattle.paper.specs.Calls.{Tried, TrialLeft, askedList, trialLeaves, Kept, KeepLeft, keepLeaves}
 use Rattle.routes.specs.Rows.{Along}
-use Rattle.engine.specs.Moves.{PairsFit}
+use Rattle.moves.specs.Put.{PairsFit}
 
 module _ (t : Tables) (ord : List ℕ) (stored : List ℤ) where
   -- the model can be worked along its order, the move is one of its search variables, and the flags are lent

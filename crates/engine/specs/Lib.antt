@@ -1,5 +1,4 @@
 pub mod Lent
 pub mod Judged
 pub mod Left
-pub mod Moves
 pub mod Accepted

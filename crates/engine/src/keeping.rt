@@ -1,6 +1,5 @@
 // Keep: judged first, and written only once it is accepted.
 ghost use mathlib.Core.Path.{_≡_};
-ghost use Prim.Native.Nat.{suc, min};
 ghost use Rattle.paper.specs.Tables.{lent};
 ghost use Rattle.paper.specs.Calls.{keep as kept};
 ghost use Rattle.engine.specs.Lent.{toModel, toKeep};
@@ -8,9 +7,10 @@ ghost use Rattle.engine.specs.Left.{recordIn, leftByKeep};
 ghost use Rattle.engine.specs.Accepted.{Keeping, KeepFilled};
 use crate::Done;
 use crate::Session;
-use crate::beginning::begin_route;
-use crate::copy::copy_values;
 use crate::judge_moves::judge_keep;
+use moves::begin_route;
+use moves::copy_values;
+use moves::kept_once_more;
 use routes::evaluations;
 use routes::input_to_output;
 use tables::Answer;
@@ -57,16 +57,6 @@ pub fn fill_keep(
     );
     copy_values(n, &row, stored);
     evaluations(n, flags) as u32
-}
-
-// The number of moves kept, with one more; the greatest number stays.
-pub fn kept_once_more(kept: u32) -> u32
-    ensures { λ r. ⌜ r ≡ min (suc kept) 4294967295 ⌝ }
-{
-    if kept < 4294967295 {
-        return kept + 1;
-    }
-    kept
 }
 
 // Keep, with the session record taken and given back by value.

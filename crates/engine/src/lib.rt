@@ -1,10 +1,8 @@
 // The public calls: build, trial and keep. Each is lent the session record; its core takes the record and gives it back by value.
 use tables::Answer;
 
-mod beginning;
 mod building;
 mod calls;
-mod copy;
 mod fits;
 mod judge;
 mod judge_moves;

@@ -1,11 +1,8 @@
 // Trial: judged first, and written only once it is accepted.
 ghost use mathlib.Core.Bool.{true};
 ghost use mathlib.Core.Path.{_≡_};
-ghost use Prim.Native.Nat.{_≤_};
 ghost use lib.Dec.{ltb};
-ghost use lib.IntN.{pos};
-ghost use lib.ListN.{length, getD};
-ghost use Rattle.paper.specs.Lists.{all, nat, over};
+ghost use Rattle.paper.specs.Lists.{all};
 ghost use Rattle.paper.specs.Tables.{lent};
 ghost use Rattle.paper.specs.Calls.{routeOf, trial as tried};
 ghost use Rattle.routes.specs.Rows.{Along};
@@ -15,9 +12,9 @@ ghost use Rattle.engine.specs.Left.{recordIn, leftByTrial};
 ghost use Rattle.engine.specs.Accepted.{Trying, TrialFilled};
 use crate::Done;
 use crate::Session;
-use crate::beginning::begin_route;
 use crate::judge_moves::judge_trial;
-use integers::wide;
+use moves::begin_route;
+use moves::copy_asked;
 use routes::evaluations;
 use routes::input_to_output;
 use routes::mark_guided;
@@ -97,17 +94,6 @@ fn run_route(
             trial,
             flags,
         ),
-    }
-}
-
-// Copies the values of the asked variables, in asking order.
-fn copy_asked(asked: &[u16], values: &[i32], results: &mut [i32])
-    requires known { ⌜ all (λ v. ltb v (length (now values))) (now asked) ≡ true ⌝ }
-    requires room { ⌜ length (now asked) ≤ length (now results) ⌝ }
-    ensures { λ _. ⌜ now (results .exit) ≡ over (length (now (asked .entry))) (λ i. getD (now (values .entry)) (nat (now (asked .entry)) i) (pos 0)) (now (results .entry)) ⌝ }
-{
-    for i in 0..asked.len() {
-        results[i] = values[wide(asked[i])];
     }
 }
 

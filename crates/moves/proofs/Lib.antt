@@ -1,2 +1,3 @@
 pub mod OverMakers
 pub mod Judged
+pub mod Put

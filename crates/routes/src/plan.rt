@@ -5,8 +5,7 @@ ghost use Prim.Native.Nat.{_≤_, _<_};
 ghost use lib.Dec.{eqb};
 ghost use lib.ListN.{length};
 ghost use Rattle.paper.specs.Lists.{nat, over};
-ghost use Rattle.tables.specs.Makers.{AllBelow};
-ghost use Rattle.tables.specs.Makers.{makerOf};
+ghost use Rattle.tables.specs.Makers.{AllBelow, makerOf};
 use tables::makers;
 
 // The maker of a variable that is marked, else 0.

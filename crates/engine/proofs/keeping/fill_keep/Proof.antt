@@ -41,7 +41,7 @@ slice-aggregate-copy-values : tie.Need-slice-aggregate-copy-values
 slice-aggregate-copy-values c = search needs
 
 copy-values-requires : tie.Need-copy-values-requires
-copy-values-requires c κs = let s = c .before .before .before .before .before .before .before .before .before .before .before .before .before .before .before .before .before .before .before .before .before .before .before .before in (omega (arith, room s, c .before .before .before .before .before .before .before .before .before .before .before .before .begin-route .kept .1 .1 .1 .1 .1 .0, c .before .before .before .before .before .input-to-output .kept .1 .1 .1 .1 .1 .1 .1 .1 .1 .1 .1 .1 .0), s .pre .in-stored)
+copy-values-requires c κs = let s = c .before .before .before .before .before .before .before .before .before .before .before .before .before .before .before .before .before .before .before .before .before .before .before .before in (omega (arith, room s, c .before .before .before .before .before .before .before .before .before .before .before .before .begin-route .kept .1 .1 .1 .1 .1 .0, c .before .before .before .before .before .input-to-output .kept .1 .1 .1 .1 .1 .1 .1 .1 .1 .1 .1 .1 .0), omega (arith, s .pre .in-stored))
 
 evaluations-requires : tie.Need-evaluations-requires
 evaluations-requires c κs = let s = c .before .before .before .before .before .before .before .before .before .before .before .before .before .before .before .before .before .before .before .before .before .before .before .before .before .before .before in omega (arith, s .pre .in-flags, c .before .before .before .before .before .before .before .before .before .before .before .before .before .before .before .begin-route .kept .1 .1 .1 .1 .1 .1 .0, c .before .before .before .before .before .before .before .before .input-to-output .kept .1 .1 .1 .1 .1 .1 .1 .1 .1 .1 .1 .1 .1 .0)

@@ -1,0 +1,17 @@
+// What if the 7 o'clock service ran every twelve minutes? In `rust/`: `cargo run -p lukhandro --example headway`.
+use lukhandro::{Model, Refused, Route, Row};
+
+fn main() -> Result<(), Refused> {
+    let rows = [Row::departures(3, 0, 1, 2), Row::last(4, 0, 1, 2)];
+    let mut sheet = Model::build(&[25200, 28800, 600, 0, 0], &rows)?;
+    let tried = sheet
+        .trial(&[(2, 720)], &[3, 4], Route::MarkGuided)?
+        .results
+        .to_vec();
+    println!(
+        "{:?} departures, last at {:?}; every twelve minutes {tried:?}",
+        sheet.value(3),
+        sheet.value(4)
+    );
+    Ok(())
+}

@@ -1,0 +1,131 @@
+/* Lukhandro, a timetable engine whose every call is proved: the calls for C.
+ *
+ * Link with libcapi.a, which `rt staticlib capi` writes for x86-64. No call allocates, keeps a pointer, or touches
+ * anything but the buffers lent to it.
+ *
+ * BUFFERS. A buffer is a pointer and its length in elements. A buffer that a call writes must overlap no other buffer
+ * of the call, the record among them. It may be longer than the counts ask: what lies beyond is neither looked at nor
+ * changed. A pointer whose length is 0 is not followed.
+ *
+ *   n variables (1 to 4,096), m rows (0 to n), e entries (0 to 16,384)
+ *   kinds, makes, params, firsts, counts   m each    the rows: formula 1 to 9, variable made, parameter,
+ *                                                    first entry, number of entries
+ *   vars, coefs                            e each    the entries: variable, coefficient
+ *   starts                                 n         start values; 0 for a variable that a row makes
+ *   numbers, stored                        n each    topological numbers and values, filled by build
+ *   order                                  m         rows by number, filled by build
+ *   move_vars, move_values                 pairs     a move: variable and new value (0 to 64 pairs)
+ *   asked_vars, results                    asked     variables asked and their values (0 to 32)
+ *   trial, flags                           n each    values as they would be; 1 where a formula was evaluated, else 0
+ *   bytes                                            a model file: 24 + 4n + 12m + 4e bytes, little-endian
+ *
+ * VALUES lie in -2,147,483,647 to 2,147,483,647; LUKHANDRO_BLANK is no value.
+ *
+ * REFUSALS. Number 0 is accepted. Any other number is a refusal: the call has changed no byte that it was lent, and
+ * place is the smallest row, variable, pair, asked index or byte that offends. Numbers are the specification's, 1 to 14:
+ *    1 a count outside its bound or a short buffer     8 numbers or order that build does not give for these tables
+ *    2 no such kind                                    9 no such route
+ *    3 variable, input count or part of a row         10 a pair names a made variable or none
+ *    4 coefficient or parameter                       11 a pair names an earlier pair's variable
+ *    5 variable made twice                            12 a new value is blank
+ *    6 variable depends on itself                     13 an asked variable is not there
+ *    7 value blank, or a made variable's start not 0  14 file header, place is the byte
+ *
+ * STACK. On the deepest models, chains of 4,095 rows, a program that makes this call and no other needs a stack of
+ *     lukhandro_build                          432 KiB
+ *     lukhandro_trial by route 2 or 3        1,360 KiB
+ *     lukhandro_trial by route 1, and
+ *     lukhandro_keep, _read and _write         128 KiB or less
+ * These figures were measured, in steps of 16 KiB and under an emulator of x86-64; no proof states them. The tests send
+ * these models through every call on a stack of 2 MiB: a thread that calls should have as much.
+ */
+#ifndef LUKHANDRO_H
+#define LUKHANDRO_H
+
+#include <stddef.h>
+#include <stdint.h>
+
+#ifdef __cplusplus
+extern "C" {
+#endif
+
+#define LUKHANDRO_BLANK INT32_MIN
+
+/* The session record. Build sets 0 and m, a trial its evaluations, keep both; kept stops at 4,294,967,295. */
+typedef struct {
+    uint32_t kept;        /* moves kept */
+    uint32_t evaluations; /* evaluations of the last accepted call */
+} lukhandro_session;
+
+typedef struct {
+    uint32_t number;      /* 0 accepted, else the refusal */
+    uint32_t place;       /* 0 if accepted */
+    uint32_t evaluations; /* 0 if refused, and of write */
+} lukhandro_outcome;
+
+typedef struct {
+    uint32_t number; /* 0 accepted, else the refusal */
+    uint32_t place;  /* 0 if accepted */
+    uint32_t n, m, e; /* 0 if refused */
+} lukhandro_read_outcome;
+
+/* Fills numbers, order and stored from tables and start values. Refusals 1 to 7. */
+lukhandro_outcome lukhandro_build(
+    lukhandro_session *session, size_t n, size_t m, size_t e,
+    const uint16_t *kinds, size_t kinds_length, const uint16_t *makes, size_t makes_length,
+    const int32_t *params, size_t params_length, const uint16_t *firsts, size_t firsts_length,
+    const uint16_t *counts, size_t counts_length, const uint16_t *vars, size_t vars_length,
+    const int16_t *coefs, size_t coefs_length, const int32_t *starts, size_t starts_length,
+    uint16_t *numbers, size_t numbers_length, uint16_t *order, size_t order_length,
+    int32_t *stored, size_t stored_length);
+
+/* Tries a move by a route (1 input to output, 2 output to input, 3 mark-guided) on what build and keep left, and fills
+ * results, trial and flags; stored values stay. Refusals 1 to 13 without 6, 8 before 7. */
+lukhandro_outcome lukhandro_trial(
+    lukhandro_session *session, size_t n, size_t m, size_t e,
+    const uint16_t *kinds, size_t kinds_length, const uint16_t *makes, size_t makes_length,
+    const int32_t *params, size_t params_length, const uint16_t *firsts, size_t firsts_length,
+    const uint16_t *counts, size_t counts_length, const uint16_t *vars, size_t vars_length,
+    const int16_t *coefs, size_t coefs_length, const uint16_t *numbers, size_t numbers_length,
+    const uint16_t *order, size_t order_length, const int32_t *stored, size_t stored_length,
+    size_t pairs, const uint16_t *move_vars, size_t move_vars_length,
+    const int32_t *move_values, size_t move_values_length,
+    size_t asked, const uint16_t *asked_vars, size_t asked_vars_length, uint32_t route,
+    int32_t *results, size_t results_length, int32_t *trial, size_t trial_length,
+    uint8_t *flags, size_t flags_length);
+
+/* Keeps a move by route 1: changes stored, and fills flags. Refusals 1 to 12 without 6 and 9, 8 before 7. */
+lukhandro_outcome lukhandro_keep(
+    lukhandro_session *session, size_t n, size_t m, size_t e,
+    const uint16_t *kinds, size_t kinds_length, const uint16_t *makes, size_t makes_length,
+    const int32_t *params, size_t params_length, const uint16_t *firsts, size_t firsts_length,
+    const uint16_t *counts, size_t counts_length, const uint16_t *vars, size_t vars_length,
+    const int16_t *coefs, size_t coefs_length, const uint16_t *numbers, size_t numbers_length,
+    const uint16_t *order, size_t order_length, int32_t *stored, size_t stored_length,
+    size_t pairs, const uint16_t *move_vars, size_t move_vars_length,
+    const int32_t *move_values, size_t move_values_length,
+    uint8_t *flags, size_t flags_length);
+
+/* Fills tables from a model file of exactly bytes_length bytes. Refusal 14, then 1 for short tables. What is in the
+ * tables is judged by build. */
+lukhandro_read_outcome lukhandro_read(
+    const uint8_t *bytes, size_t bytes_length, int32_t *starts, size_t starts_length,
+    uint16_t *kinds, size_t kinds_length, uint16_t *makes, size_t makes_length,
+    int32_t *params, size_t params_length, uint16_t *firsts, size_t firsts_length,
+    uint16_t *counts, size_t counts_length, uint16_t *vars, size_t vars_length,
+    int16_t *coefs, size_t coefs_length);
+
+/* Fills the front of bytes with the model file of the tables. Refusal 1. */
+lukhandro_outcome lukhandro_write(
+    size_t n, size_t m, size_t e, const int32_t *starts, size_t starts_length,
+    const uint16_t *kinds, size_t kinds_length, const uint16_t *makes, size_t makes_length,
+    const int32_t *params, size_t params_length, const uint16_t *firsts, size_t firsts_length,
+    const uint16_t *counts, size_t counts_length, const uint16_t *vars, size_t vars_length,
+    const int16_t *coefs, size_t coefs_length,
+    uint8_t *bytes, size_t bytes_length);
+
+#ifdef __cplusplus
+}
+#endif
+
+#endif

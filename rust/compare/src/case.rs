@@ -1,0 +1,245 @@
+//! One call with everything that is lent to it, and who answers it.
+
+use second::{Asked, Built, Move, Refused, Session, State, Tables, TablesMut, Tried};
+
+use crate::{Buffer, Guarded};
+
+/// Which call.
+#[derive(Clone, Copy, Debug, Default, PartialEq, Eq)]
+pub enum Call {
+    /// Numbers, order and values from tables and start values.
+    #[default]
+    Build,
+    /// A move tried by a route.
+    Trial,
+    /// A move kept.
+    Keep,
+    /// Tables from a file.
+    Read,
+    /// A file from tables.
+    Write,
+}
+
+/// A call with its counts and every buffer that any call is lent; a call uses those that are its own.
+#[derive(Clone, Debug, Default, PartialEq)]
+#[expect(missing_docs, reason = "the fields are the parameters of the calls, by their names")]
+pub struct Case {
+    pub call: Call,
+    pub session: Session,
+    pub n: usize,
+    pub m: usize,
+    pub e: usize,
+    pub kinds: Guarded<u16>,
+    pub makes: Guarded<u16>,
+    pub params: Guarded<i32>,
+    pub firsts: Guarded<u16>,
+    pub counts: Guarded<u16>,
+    pub vars: Guarded<u16>,
+    pub coefs: Guarded<i16>,
+    pub starts: Guarded<i32>,
+    pub numbers: Guarded<u16>,
+    pub order: Guarded<u16>,
+    pub stored: Guarded<i32>,
+    pub pairs: usize,
+    pub move_vars: Guarded<u16>,
+    pub move_values: Guarded<i32>,
+    pub asked: usize,
+    pub asked_vars: Guarded<u16>,
+    pub route: u32,
+    pub results: Guarded<i32>,
+    pub trial: Guarded<i32>,
+    pub flags: Guarded<u8>,
+    pub bytes: Guarded<u8>,
+}
+
+/// The buffers of a case by name, borrowed one way or the other.
+macro_rules! buffers_of {
+    ($case:expr, $($borrowed:tt)+) => {
+        [
+            ("kinds", $($borrowed)+ $case.kinds),
+            ("makes", $($borrowed)+ $case.makes),
+            ("params", $($borrowed)+ $case.params),
+            ("firsts", $($borrowed)+ $case.firsts),
+            ("counts", $($borrowed)+ $case.counts),
+            ("vars", $($borrowed)+ $case.vars),
+            ("coefs", $($borrowed)+ $case.coefs),
+            ("starts", $($borrowed)+ $case.starts),
+            ("numbers", $($borrowed)+ $case.numbers),
+            ("order", $($borrowed)+ $case.order),
+            ("stored", $($borrowed)+ $case.stored),
+            ("move_vars", $($borrowed)+ $case.move_vars),
+            ("move_values", $($borrowed)+ $case.move_values),
+            ("asked_vars", $($borrowed)+ $case.asked_vars),
+            ("results", $($borrowed)+ $case.results),
+            ("trial", $($borrowed)+ $case.trial),
+            ("flags", $($borrowed)+ $case.flags),
+            ("bytes", $($borrowed)+ $case.bytes),
+        ]
+    };
+}
+
+impl Case {
+    /// The lent tables.
+    #[must_use]
+    pub fn tables(&self) -> Tables<'_> {
+        Tables {
+            n: self.n,
+            m: self.m,
+            e: self.e,
+            kinds: &self.kinds,
+            makes: &self.makes,
+            params: &self.params,
+            firsts: &self.firsts,
+            counts: &self.counts,
+            vars: &self.vars,
+            coefs: &self.coefs,
+        }
+    }
+
+    /// Every buffer by name, in the order of the fields.
+    #[must_use]
+    pub fn buffers(&self) -> [(&'static str, &dyn Buffer); 18] {
+        buffers_of!(self, &)
+    }
+
+    /// Every buffer by name, to be changed.
+    #[must_use]
+    pub fn buffers_mut(&mut self) -> [(&'static str, &mut dyn Buffer); 18] {
+        buffers_of!(self, &mut)
+    }
+
+    /// Everything that is lent, by name.
+    #[must_use]
+    pub fn fields(&self) -> Vec<(&'static str, String)> {
+        let mut fields = vec![("call", format!("{:?}", self.call)), ("session", format!("{:?}", self.session))];
+        let numbers = [("n", self.n), ("m", self.m), ("e", self.e), ("pairs", self.pairs), ("asked", self.asked)];
+        fields.extend(numbers.map(|(name, number)| (name, number.to_string())));
+        fields.push(("route", self.route.to_string()));
+        fields.extend(self.buffers().map(|(name, buffer)| (name, format!("{buffer:?}"))));
+        fields
+    }
+
+    /// Whether the guards of every buffer are as they were.
+    #[must_use]
+    pub fn intact(&self) -> bool {
+        self.buffers().iter().all(|(_, buffer)| buffer.intact())
+    }
+}
+
+/// What comes back from any of the calls; what a call does not give is 0.
+#[derive(Clone, Copy, Debug, Default, PartialEq, Eq)]
+#[expect(missing_docs, reason = "the fields are the results of the calls, by their names")]
+pub struct Answer {
+    pub number: u32,
+    pub place: u32,
+    pub evaluations: u32,
+    pub n: u32,
+    pub m: u32,
+    pub e: u32,
+}
+
+impl Answer {
+    /// The answer of build, trial or keep.
+    #[must_use]
+    pub fn of_call(evaluations: Result<u32, Refused>) -> Answer {
+        evaluations.map_or_else(Answer::refused, |evaluations| Answer { evaluations, ..Answer::default() })
+    }
+
+    /// The answer of read.
+    #[must_use]
+    pub fn of_read(counts: Result<(usize, usize, usize), Refused>) -> Answer {
+        counts.map_or_else(Answer::refused, |(n, m, e)| {
+            let [n, m, e] = [n, m, e].map(|count| u32::try_from(count).unwrap_or(u32::MAX));
+            Answer { n, m, e, ..Answer::default() }
+        })
+    }
+
+    /// A refusal.
+    #[must_use]
+    pub fn refused(refused: Refused) -> Answer {
+        Answer { number: refused.number, place: refused.place, ..Answer::default() }
+    }
+}
+
+/// An implementation of the five calls.
+pub trait Engine {
+    /// Answers the case, and leaves in it what the call leaves.
+    fn answer(&self, case: &mut Case) -> Answer;
+}
+
+/// A test of any engine, with its name.
+pub type Test = (&'static str, fn(&dyn Engine));
+
+/// The second implementation.
+#[derive(Clone, Copy, Debug)]
+pub struct Second;
+
+impl Engine for Second {
+    fn answer(&self, case: &mut Case) -> Answer {
+        let mut session = case.session;
+        let answer = match case.call {
+            Call::Build => Answer::of_call(build(&mut session, case)),
+            Call::Trial => Answer::of_call(trial(&mut session, case)),
+            Call::Keep => Answer::of_call(keep(&mut session, case)),
+            Call::Read => Answer::of_read(read(case)),
+            Call::Write => Answer::of_call(write(case).map(|()| 0)),
+        };
+        case.session = session;
+        answer
+    }
+}
+
+/// The tables of a case, borrowed field by field so that its other buffers may be lent too.
+macro_rules! tables_of {
+    ($case:expr) => {
+        Tables {
+            n: $case.n,
+            m: $case.m,
+            e: $case.e,
+            kinds: &$case.kinds,
+            makes: &$case.makes,
+            params: &$case.params,
+            firsts: &$case.firsts,
+            counts: &$case.counts,
+            vars: &$case.vars,
+            coefs: &$case.coefs,
+        }
+    };
+}
+
+fn build(session: &mut Session, case: &mut Case) -> Result<u32, Refused> {
+    let built = Built { numbers: &mut case.numbers, order: &mut case.order, stored: &mut case.stored };
+    second::build(session, tables_of!(case), &case.starts, built)
+}
+
+fn trial(session: &mut Session, case: &mut Case) -> Result<u32, Refused> {
+    let state = State { numbers: &case.numbers, order: &case.order, stored: &case.stored };
+    let moved = Move { pairs: case.pairs, vars: &case.move_vars, values: &case.move_values };
+    let asked = Asked { asked: case.asked, vars: &case.asked_vars };
+    let tried = Tried { results: &mut case.results, trial: &mut case.trial, flags: &mut case.flags };
+    second::trial(session, tables_of!(case), state, moved, asked, case.route, tried)
+}
+
+fn keep(session: &mut Session, case: &mut Case) -> Result<u32, Refused> {
+    let moved = Move { pairs: case.pairs, vars: &case.move_vars, values: &case.move_values };
+    let (numbers, order) = (&case.numbers, &case.order);
+    second::keep(session, tables_of!(case), numbers, order, &mut case.stored, moved, &mut case.flags)
+}
+
+fn read(case: &mut Case) -> Result<(usize, usize, usize), Refused> {
+    let tables = TablesMut {
+        starts: &mut case.starts,
+        kinds: &mut case.kinds,
+        makes: &mut case.makes,
+        params: &mut case.params,
+        firsts: &mut case.firsts,
+        counts: &mut case.counts,
+        vars: &mut case.vars,
+        coefs: &mut case.coefs,
+    };
+    second::read(&case.bytes, tables)
+}
+
+fn write(case: &mut Case) -> Result<(), Refused> {
+    second::write(tables_of!(case), &case.starts, &mut case.bytes)
+}

@@ -1,0 +1,94 @@
+//! The deepest models through every call, as tests of any engine on a small stack.
+
+use std::thread;
+
+use crate::runs::{built, keep, trial};
+use crate::{Answer, Call, Case, Engine, Side, chain, edges};
+
+/// The stack on which every call is to come back, in bytes.
+pub const STACK: usize = 2 << 20;
+
+/// The kinds of which a chain can be 4,095 rows deep with 4 inputs each.
+const KINDS: [u16; 6] = [1, 2, 3, 4, 5, 6];
+
+/// Sends chains of 4,095 rows through every call, on a thread with a stack of 2 MiB.
+///
+/// # Panics
+/// If a call is refused, or counts wrong.
+pub fn deepest_models<E: Engine + Send + 'static>(engine: E) {
+    let through = move || {
+        for model in models() {
+            for (name, case) in calls(&engine, &model) {
+                every_row(name, Side::of(&engine, &case).answer);
+            }
+        }
+        edges::the_longest_chain(&engine);
+    };
+    let thread = thread::Builder::new().stack_size(STACK).spawn(through).expect("a thread");
+    thread.join().expect("every call comes back");
+}
+
+/// Asserts that a call of this name is accepted and evaluates all rows; input to output, at least one.
+fn every_row(name: &str, answer: Answer) {
+    assert_eq!(answer.number, 0, "{name}");
+    match name {
+        "read" => assert_eq!((answer.n, answer.m, answer.e), (4096, 4095, 16380)),
+        "write" => {}
+        "route 1" | "keep" => assert!(answer.evaluations > 0, "{name}"),
+        _ => assert_eq!(answer.evaluations, 4095, "{name}"),
+    }
+}
+
+/// The deepest models, as builds: chains of each kind, with their variables named from the first to the last and from
+/// the last to the first, and a chain of indices.
+#[must_use]
+pub fn models() -> Vec<Case> {
+    let mut models = vec![chain_of_indices()];
+    for kind in KINDS {
+        let chain = chain(kind, 4095, 4, 1);
+        models.extend([upside_down(&chain), chain]);
+    }
+    models
+}
+
+/// Every call on a deepest model by name; a move at the near end of the chain is tried and kept, and the far end asked.
+pub fn calls(engine: &dyn Engine, model: &Case) -> [(&'static str, Case); 7] {
+    let built = built(engine, model);
+    let numbered = |wanted| built.numbers.iter().position(|&number| number == wanted).unwrap_or(0) as u16;
+    let moved = [(numbered(0), 2)];
+    let route = |route| trial(&built, &moved, &[numbered(4095)], route);
+    let write = edges::file(model);
+    let read = Case { call: Call::Read, ..Side::of(engine, &write).left };
+    [
+        ("build", model.clone()),
+        ("route 1", route(1)),
+        ("route 2", route(2)),
+        ("route 3", route(3)),
+        ("keep", keep(&built, &moved)),
+        ("write", write),
+        ("read", read),
+    ]
+}
+
+/// A chain of ELEMENT rows, each of which takes the variable before its own for its index and chooses variable 0.
+fn chain_of_indices() -> Case {
+    let mut model = chain(4, 4095, 4, 0);
+    for (above, part) in (0..).zip(model.vars.chunks_mut(4)) {
+        part.copy_from_slice(&[above, 0, 0, 0]);
+    }
+    model
+}
+
+/// The same model with its variables named from the last to the first.
+fn upside_down(model: &Case) -> Case {
+    let mut model = model.clone();
+    let last = (model.n - 1) as u16;
+    for variable in model.makes.iter_mut() {
+        *variable = last - *variable;
+    }
+    for variable in model.vars.iter_mut() {
+        *variable = last - *variable;
+    }
+    model.starts.reverse();
+    model
+}

@@ -1,0 +1,438 @@
+//! Both sides of the edge of every refusal, with its place, as tests of any engine.
+
+use second::BLANK;
+
+use crate::runs::{built, keep, model_a, trial};
+use crate::{Call, Case, Engine, Row, Side, Test, chain, of_rows, one_short};
+
+/// A change to a case, and what it is.
+type Change = (&'static str, fn(&mut Case));
+
+/// Asserts what comes back; a refusal changes nothing.
+fn gives(engine: &dyn Engine, what: &str, case: &Case, number: u32, place: u32) {
+    let side = Side::of(engine, case);
+    assert_eq!((side.answer.number, side.answer.place), (number, place), "{what}");
+    if number != 0 {
+        assert_eq!(side.left, *case, "{what}: a refusal changes nothing");
+        assert_eq!(side.answer.evaluations, 0, "{what}: a refusal evaluates nothing");
+    }
+}
+
+/// A case with one change.
+fn with(case: &Case, change: impl FnOnce(&mut Case)) -> Case {
+    let mut case = case.clone();
+    change(&mut case);
+    case
+}
+
+/// Model A's build, trial, keep and write.
+fn all_calls(engine: &dyn Engine) -> [Case; 4] {
+    let model = built(engine, &model_a());
+    let tried = trial(&model, &[(0, 1), (1, 2), (2, 3)], &[4, 5], 2);
+    [model_a(), tried, keep(&model, &[(0, 1), (1, 2), (2, 3)]), file(&model_a())]
+}
+
+/// The write of a model.
+pub(crate) fn file(build: &Case) -> Case {
+    let bytes = vec![0xEE; 24 + 4 * build.n + 12 * build.m + 4 * build.e];
+    Case { call: Call::Write, bytes: bytes.into(), ..build.clone() }
+}
+
+/// A build of one row that makes variable 1 from variable 0.
+fn one_row(kind: u16, inputs: usize, parameter: i32, coefficient: i16) -> Case {
+    let row = Row { kind, makes: 1, parameter, entries: vec![(0, coefficient); inputs] };
+    of_rows(vec![1, 0], &[row])
+}
+
+/// A build of n variables and no row.
+fn no_rows(n: usize) -> Case {
+    of_rows(vec![0; n], &[])
+}
+
+fn refusal_1_counts(engine: &dyn Engine) {
+    for (n, number) in [(1, 0), (4096, 0), (4097, 1)] {
+        gives(engine, &format!("n {n}"), &no_rows(n), number, 0);
+        gives(engine, &format!("written n {n}"), &file(&no_rows(n)), number, 0);
+    }
+    for n in [0, usize::MAX] {
+        gives(engine, &format!("n {n}"), &with(&no_rows(1), |case| case.n = n), 1, 0);
+    }
+    let twice = [Row::plain(1, 0, &[0]), Row::plain(1, 0, &[0])];
+    gives(engine, "as many rows as variables", &of_rows(vec![0], &twice[..1]), 6, 0);
+    gives(engine, "more rows than variables", &of_rows(vec![0], &twice), 1, 0);
+    let full =
+        |rows: u16| of_rows(vec![0; 100], &(1..=rows).map(|row| Row::plain(1, row, &[0; 256])).collect::<Vec<_>>());
+    gives(engine, "16,384 entries", &full(64), 0, 0);
+    gives(engine, "more entries", &full(65), 1, 0);
+    for call in all_calls(engine) {
+        for change in
+            [|case: &mut Case| case.n = 0, |case: &mut Case| case.m = usize::MAX, |case: &mut Case| case.e = 1 << 62]
+        {
+            gives(engine, "a count far out", &with(&call, change), 1, 0);
+        }
+    }
+}
+
+fn refusal_1_moves(engine: &dyn Engine) {
+    let model = built(engine, &no_rows(65));
+    let pairs: Vec<(u16, i32)> = (0..65).map(|variable| (variable, 5)).collect();
+    let asked = [0; 33];
+    for (count, number) in [(64, 0), (65, 1)] {
+        gives(engine, "pairs of a trial", &trial(&model, &pairs[..count], &[], 1), number, 0);
+        gives(engine, "pairs of a keep", &keep(&model, &pairs[..count]), number, 0);
+    }
+    for (count, number) in [(32, 0), (33, 1)] {
+        gives(engine, "asked", &trial(&model, &[], &asked[..count], 1), number, 0);
+    }
+}
+
+fn refusal_1_buffers(engine: &dyn Engine) {
+    for call in all_calls(engine) {
+        gives(engine, "buffers of the right length", &call, 0, 0);
+        for (which, short) in one_short(&call).iter().enumerate() {
+            gives(engine, &format!("{:?}: buffer {which} one short", call.call), short, 1, 0);
+            let also_wrong = with(short, |case| {
+                case.kinds.fill(0);
+                case.starts.fill(BLANK);
+                case.numbers.fill(9);
+                case.route = 9;
+                case.move_vars.fill(99);
+                case.asked_vars.fill(99);
+            });
+            gives(engine, "one short, and all else wrong", &also_wrong, 1, 0);
+        }
+    }
+}
+
+fn refusal_2(engine: &dyn Engine) {
+    for call in &all_calls(engine)[..3] {
+        for kind in [0, 10, 65535] {
+            gives(engine, "kind", &with(call, |case| case.kinds[2] = kind), 2, 2);
+            gives(engine, "two kinds", &with(call, |case| case.kinds[1..].fill(kind)), 2, 1);
+        }
+    }
+    for (kind, inputs) in [(1, 1), (9, 3)] {
+        gives(engine, "kinds 1 and 9", &one_row(kind, inputs, 0, 1), 0, 0);
+    }
+}
+
+fn refusal_3_inputs(engine: &dyn Engine) {
+    for kind in 1..=9 {
+        let (least, most) = match kind {
+            4 => (2, 256),
+            7 => (2, 2),
+            8 | 9 => (3, 3),
+            _ => (1, 256),
+        };
+        for (inputs, number) in [(least - 1, 3), (least, 0), (most, 0), (most + 1, 3)] {
+            gives(engine, &format!("kind {kind}, {inputs} inputs"), &one_row(kind, inputs, 0, 1), number, 0);
+        }
+    }
+}
+
+fn refusal_3_places(engine: &dyn Engine) {
+    for call in &all_calls(engine)[..3] {
+        let changes: [(Change, u32); 9] = [
+            (("made variable n", |case| case.makes[1] = 6), 1),
+            (("made variable far out", |case| case.makes[0] = 65535), 0),
+            (("input n", |case| case.vars[6] = 6), 2),
+            (("input far out", |case| case.vars[3] = 65535), 1),
+            (("first one less", |case| case.firsts[1] = 2), 1),
+            (("first one more", |case| case.firsts[2] = 7), 2),
+            (("a part that ends after e", |case| case.e = 6), 2),
+            (("a part that ends far after e", |case| case.counts[2] = 200), 2),
+            (("no inputs", |case| case.counts[2] = 0), 2),
+        ];
+        for ((what, change), place) in changes {
+            gives(engine, what, &with(call, change), 3, place);
+        }
+        let surplus = with(call, |case| {
+            case.e = 8;
+            case.vars.edit(|vars| vars.push(0));
+            case.coefs.edit(|coefs| coefs.push(1));
+        });
+        gives(engine, "only the total differs from e", &surplus, 3, 2);
+    }
+    let surplus = with(&no_rows(1), |case| {
+        case.e = 1;
+        case.vars = vec![0].into();
+        case.coefs = vec![1].into();
+    });
+    gives(engine, "an entry without rows", &surplus, 3, 0);
+    gives(engine, "made variable n - 1", &of_rows(vec![1, 0], &[Row::plain(1, 1, &[0])]), 0, 0);
+    gives(engine, "input n - 1", &of_rows(vec![0, 1], &[Row::plain(1, 0, &[1])]), 0, 0);
+}
+
+fn refusal_4(engine: &dyn Engine) {
+    for (coefficient, number) in [(1000, 0), (-1000, 0), (1001, 4), (-1001, 4), (i16::MIN, 4), (i16::MAX, 4), (0, 0)] {
+        gives(engine, "LINEAR coefficient", &one_row(1, 1, 0, coefficient), number, 0);
+    }
+    for (kind, inputs) in [(2, 1), (3, 1), (4, 2), (5, 1), (6, 1), (7, 2), (8, 3), (9, 3)] {
+        for (coefficient, number) in [(0, 4), (1, 0), (2, 4)] {
+            gives(engine, "coefficient", &one_row(kind, inputs, 0, coefficient), number, 0);
+        }
+        let other = if kind == 6 { 0 } else { 4 };
+        for (parameter, number) in [(-1, other), (0, 0), (1, other)] {
+            gives(engine, "parameter", &one_row(kind, inputs, parameter, 1), number, 0);
+        }
+    }
+    for kind in [1, 6] {
+        for (parameter, number) in [
+            (1_000_000_000, 0),
+            (1_000_000_001, 4),
+            (-1_000_000_000, 0),
+            (-1_000_000_001, 4),
+            (i32::MIN, 4),
+            (i32::MAX, 4),
+        ] {
+            gives(engine, "parameter at its bound", &one_row(kind, 1, parameter, 1), number, 0);
+        }
+    }
+    for call in &all_calls(engine)[..3] {
+        gives(engine, "the row's place", &with(call, |case| case.coefs[4] = 0), 4, 1);
+        gives(engine, "the least row", &with(call, |case| (case.params[1], case.coefs[6]) = (1, 1001)), 4, 1);
+    }
+}
+
+fn refusal_5(engine: &dyn Engine) {
+    for call in &all_calls(engine)[..3] {
+        gives(engine, "made again", &with(call, |case| case.makes[2] = 3), 5, 2);
+        gives(engine, "made three times", &with(call, |case| case.makes.fill(3)), 5, 1);
+    }
+}
+
+fn refusal_6(engine: &dyn Engine) {
+    let above = of_rows(vec![0, 0, 5], &[Row::plain(1, 0, &[1]), Row::plain(2, 1, &[2, 1])]);
+    gives(engine, "a variable above the closed chain", &above, 6, 0);
+    let below = of_rows(vec![0, 0, 5], &[Row::plain(1, 0, &[2]), Row::plain(2, 1, &[0, 1])]);
+    gives(engine, "a variable below it has a number", &below, 6, 1);
+    the_longest_chain(engine);
+}
+
+/// The longest chain is accepted, and refused once it is closed.
+pub fn the_longest_chain(engine: &dyn Engine) {
+    let mut chain = chain(1, 4095, 4, 1);
+    gives(engine, "the longest chain", &chain, 0, 0);
+    chain.vars[7] = 4095;
+    gives(engine, "the longest chain, closed", &chain, 6, 2);
+}
+
+fn refusal_7(engine: &dyn Engine) {
+    let build = model_a();
+    for (variable, start, number) in
+        [(1, BLANK, 7), (1, -i32::MAX, 0), (1, i32::MAX, 0), (4, BLANK, 7), (4, 1, 7), (4, -1, 7), (4, 0, 0)]
+    {
+        let place = if number == 0 { 0 } else { variable as u32 };
+        gives(engine, "start value", &with(&build, |case| case.starts[variable] = start), number, place);
+    }
+    gives(engine, "the least variable", &with(&build, |case| case.starts.fill(BLANK)), 7, 0);
+    for call in &all_calls(engine)[1..3] {
+        gives(engine, "stored search value", &with(call, |case| case.stored[2] = BLANK), 7, 2);
+        gives(engine, "stored made value", &with(call, |case| case.stored[3..].fill(BLANK)), 0, 0);
+    }
+}
+
+fn refusal_8(engine: &dyn Engine) {
+    for call in &all_calls(engine)[1..3] {
+        let changes: [Change; 9] = [
+            ("a search variable's number", |case| case.numbers[0] = 1),
+            ("a made variable's number", |case| case.numbers[3] = 2),
+            ("all made numbers one more", |case| case.numbers[3..].iter_mut().for_each(|number| *number += 1)),
+            ("a number that is the greatest", |case| case.numbers.fill(65535)),
+            ("two rows exchanged", |case| case.order.swap(0, 1)),
+            ("rows of other numbers exchanged", |case| case.order.swap(1, 2)),
+            ("a row twice", |case| case.order[1] = 0),
+            ("no such row", |case| case.order[2] = 3),
+            ("a circular table", |case| case.vars[0] = 5),
+        ];
+        for (what, change) in changes {
+            gives(engine, what, &with(call, change), 8, 0);
+            let blank = with(call, |case| {
+                change(case);
+                case.stored[0] = BLANK;
+            });
+            gives(engine, "8 before 7", &blank, 8, 0);
+        }
+        let beyond = with(call, |case| {
+            case.numbers.edit(|numbers| numbers.push(9));
+            case.order.edit(|order| order.push(9));
+        });
+        gives(engine, "beyond the counts", &beyond, 0, 0);
+    }
+}
+
+fn refusal_8_unread(engine: &dyn Engine) {
+    let model = built(engine, &of_rows(vec![1, 2, 0], &[Row::plain(1, 2, &[0])]));
+    for call in [trial(&model, &[], &[], 1), keep(&model, &[])] {
+        gives(engine, "as built", &call, 0, 0);
+        gives(engine, "the number of a variable that no row reads", &with(&call, |case| case.numbers[1] = 1), 8, 0);
+    }
+}
+
+fn refusal_9(engine: &dyn Engine) {
+    let [_, tried, ..] = all_calls(engine);
+    for (route, number) in [(0, 9), (1, 0), (2, 0), (3, 0), (4, 9), (65537, 9), (u32::MAX, 9)] {
+        gives(engine, "route", &with(&tried, |case| case.route = route), number, 0);
+    }
+}
+
+fn refusals_10_to_12(engine: &dyn Engine) {
+    for call in &all_calls(engine)[1..3] {
+        for variable in [3, 5, 6, 65535] {
+            gives(engine, "a pair's variable", &with(call, |case| case.move_vars[1] = variable), 10, 1);
+        }
+        gives(engine, "a variable twice", &with(call, |case| case.move_vars[2] = 0), 11, 2);
+        let equal = with(call, |case| {
+            case.move_vars[1] = 0;
+            case.move_values[1] = case.move_values[0];
+        });
+        gives(engine, "a pair twice", &equal, 11, 1);
+        gives(engine, "a blank new value", &with(call, |case| case.move_values[1] = BLANK), 12, 1);
+        gives(engine, "the least new value", &with(call, |case| case.move_values[1] = -i32::MAX), 0, 0);
+        let fewer = with(call, |case| {
+            case.pairs = 2;
+            case.move_vars[2] = 99;
+            case.move_values[2] = BLANK;
+        });
+        gives(engine, "beyond the pairs", &fewer, 0, 0);
+    }
+}
+
+fn refusal_13(engine: &dyn Engine) {
+    let [_, tried, ..] = all_calls(engine);
+    for (variable, number, place) in [(5, 0, 0), (6, 13, 1), (65535, 13, 1)] {
+        gives(engine, "asked", &with(&tried, |case| case.asked_vars[1] = variable), number, place);
+    }
+    let fewer = with(&tried, |case| (case.asked, case.asked_vars[1]) = (1, 99));
+    gives(engine, "beyond the asked", &fewer, 0, 0);
+}
+
+/// A read of model A's file into tables of the right length.
+fn reading(engine: &dyn Engine) -> Case {
+    let written = Side::of(engine, &file(&model_a())).left;
+    Case { call: Call::Read, ..written }
+}
+
+fn refusal_14(engine: &dyn Engine) {
+    let read = reading(engine);
+    gives(engine, "a whole file", &read, 0, 0);
+    for length in 0..24 {
+        gives(
+            engine,
+            "a file without header",
+            &with(&read, |case| case.bytes.edit(|bytes| bytes.truncate(length))),
+            14,
+            length as u32,
+        );
+    }
+    let total = read.bytes.len();
+    for length in [24, total - 1] {
+        gives(engine, "a file cut short", &with(&read, |case| case.bytes.edit(|bytes| bytes.truncate(length))), 14, 20);
+    }
+    gives(engine, "a file too long", &with(&read, |case| case.bytes.edit(|bytes| bytes.push(0))), 14, 20);
+    for field in [0, 2, 4, 6, 8, 12, 16, 20] {
+        let width = if field < 8 { 2 } else { 4 };
+        for byte in field..field + width {
+            gives(engine, "a header field", &with(&read, |case| case.bytes[byte] = 0xFF), 14, first_wrong(field, byte));
+        }
+        let all_after = with(&read, |case| case.bytes[field..24].fill(0xFF));
+        gives(engine, "this field and all after it", &all_after, 14, field as u32);
+    }
+    let none = with(&read, |case| case.bytes[2..4].fill(0));
+    gives(engine, "no variables", &none, 14, 2);
+}
+
+/// The first field that is wrong where this byte of a field is 255: a count may be right and make an offset wrong.
+fn first_wrong(field: usize, byte: usize) -> u32 {
+    match (field, byte) {
+        (2, 2) => 12,
+        (6, 6) => 20,
+        _ => field as u32,
+    }
+}
+
+fn refusal_14_bounds(engine: &dyn Engine) {
+    let full: Vec<Row> = (1..=64).map(|row| Row::plain(1, row, &[0; 256])).collect();
+    let largest = file(&of_rows(vec![0; 4096], &full));
+    let written = Side::of(engine, &largest).left;
+    let read = Case { call: Call::Read, ..written };
+    gives(engine, "n 4,096 and e 16,384", &read, 0, 0);
+    let more = |at: usize| with(&read, |case| case.bytes[at] += 1);
+    gives(engine, "n 4,097", &more(2), 14, 2);
+    gives(engine, "e 16,385", &more(6), 14, 6);
+    let rows = |m: u16| with(&reading(engine), |case| case.bytes[4..6].copy_from_slice(&m.to_le_bytes()));
+    gives(engine, "m at n", &rows(6), 14, 16);
+    gives(engine, "m above n", &rows(7), 14, 4);
+}
+
+fn refusal_1_after_14(engine: &dyn Engine) {
+    let read = reading(engine);
+    for (which, short) in one_short(&read).iter().enumerate() {
+        gives(engine, &format!("table {which} one short"), short, 1, 0);
+        gives(engine, "14 before 1", &with(short, |case| case.bytes[0] = 2), 14, 0);
+    }
+    let answer = Side::of(engine, &read).answer;
+    assert_eq!((answer.n, answer.m, answer.e), (6, 3, 7));
+}
+
+/// One thing wrong: its number, its place and how.
+type Fault = (u32, u32, fn(&mut Case));
+
+/// Of two things wrong the check that runs first speaks.
+fn the_order_of_checks(engine: &dyn Engine) {
+    let tables: [Fault; 5] = [
+        (1, 0, |case| case.n = 0),
+        (2, 1, |case| case.kinds[1] = 0),
+        (3, 2, |case| case.vars[6] = 99),
+        (4, 0, |case| case.params[0] = 1),
+        (5, 1, |case| case.makes[1] = 3),
+    ];
+    let build: [Fault; 2] = [(6, 3, |case| case.vars[0] = 5), (7, 1, |case| case.starts[1] = BLANK)];
+    let state: [Fault; 2] = [(8, 0, |case| case.numbers[3] = 9), (7, 1, |case| case.stored[1] = BLANK)];
+    let route: Fault = (9, 0, |case| case.route = 0);
+    let pairs: [Fault; 3] = [
+        (10, 2, |case| case.move_vars[2] = 4),
+        (11, 1, |case| case.move_vars[1] = 0),
+        (12, 0, |case| case.move_values[0] = BLANK),
+    ];
+    let asked: Fault = (13, 1, |case| case.asked_vars[1] = 6);
+    let [building, tried, kept, _] = all_calls(engine);
+    for (case, faults) in [
+        (building, [&tables[..], &build].concat()),
+        (tried, [&tables[..], &state, &[route], &pairs, &[asked]].concat()),
+        (kept, [&tables[..], &state, &pairs].concat()),
+    ] {
+        for (at, &(number, place, fault)) in faults.iter().enumerate() {
+            for &(later, _, also) in &faults[at..] {
+                let wrong = with(&case, |case| {
+                    also(case);
+                    fault(case);
+                });
+                gives(engine, &format!("{:?}: {number} and {later}", case.call), &wrong, number, place);
+            }
+        }
+    }
+}
+
+/// All edges by name.
+pub const EDGES: &[Test] = &[
+    ("1: counts", refusal_1_counts),
+    ("1: moves and asked", refusal_1_moves),
+    ("1: buffers", refusal_1_buffers),
+    ("2", refusal_2),
+    ("3: inputs", refusal_3_inputs),
+    ("3: places", refusal_3_places),
+    ("4", refusal_4),
+    ("5", refusal_5),
+    ("6", refusal_6),
+    ("7", refusal_7),
+    ("8", refusal_8),
+    ("8: a variable that no row reads", refusal_8_unread),
+    ("9", refusal_9),
+    ("10 to 12", refusals_10_to_12),
+    ("13", refusal_13),
+    ("14", refusal_14),
+    ("14: bounds", refusal_14_bounds),
+    ("1 after 14", refusal_1_after_14),
+    ("the order of checks", the_order_of_checks),
+];

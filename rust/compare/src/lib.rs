@@ -1,0 +1,33 @@
+//! Random calls, answered by two implementations of the engine and compared byte by byte.
+//!
+//! A [`Case`] is one call with everything that is lent to it, each buffer between guard elements. An [`Engine`] answers
+//! it in place. [`compare`] lets two engines answer the same case and compares the answers, the session record, every
+//! element of every buffer, and the guards. [`run`] does so for as many random cases as it is told, from a seed, and
+//! [`shrink`] makes a case on which two engines differ smaller. [`tests_of!`] is everything that an engine must pass.
+#![forbid(unsafe_code)]
+#![warn(missing_docs)]
+
+mod case;
+mod damage;
+pub mod deep;
+mod difference;
+pub mod edges;
+pub mod files;
+pub mod fuzz;
+mod guarded;
+mod models;
+mod plan;
+mod random;
+pub mod runs;
+mod shrink;
+mod tests;
+
+pub use case::{Answer, Call, Case, Engine, Second, Test};
+pub use damage::{damage, lengthen, one_short, scramble, shorten};
+pub use difference::{Difference, Side, compare};
+pub use guarded::{Buffer, Element, Guarded};
+pub use models::{Row, Sizes, chain, model, model_of, of_rows, value};
+pub use plan::{Tally, calls_on, keep_of, run, seed, trial_of};
+pub use random::Random;
+pub use shrink::shrink;
+pub use tests::{hold, random_calls};

@@ -1,0 +1,210 @@
+//! Random calls one after another: models of every size, the calls on each, whole and damaged.
+
+use crate::{
+    Call, Case, Difference, Engine, Guarded, Random, Second, Sizes, chain, compare, damage, lengthen, model, model_of,
+    shorten, shrink, value,
+};
+
+/// The seed of a run without another.
+const SEED: u64 = 20_261_115;
+
+/// The seed of a run: the number in the environment variable `LUKHANDRO_SEED`, else a fixed one.
+#[must_use]
+pub fn seed() -> u64 {
+    std::env::var("LUKHANDRO_SEED").ok().and_then(|seed| seed.parse().ok()).unwrap_or(SEED)
+}
+
+/// How many calls were compared, by the number that came back: 0 is accepted.
+#[derive(Clone, Copy, Debug, Default, PartialEq, Eq)]
+pub struct Tally {
+    /// The calls by number.
+    pub by_number: [usize; 15],
+    /// The accepted calls by call: build, trial, keep, read, write.
+    pub accepted: [usize; 5],
+}
+
+impl Tally {
+    /// All calls.
+    #[must_use]
+    pub fn calls(&self) -> usize {
+        self.by_number.iter().sum()
+    }
+
+    fn note(&mut self, call: Call, number: u32) {
+        if let Some(calls) = self.by_number.get_mut(number as usize) {
+            *calls += 1;
+        }
+        if number == 0 {
+            self.accepted[call as usize] += 1;
+        }
+    }
+}
+
+/// Compares two engines on random calls, at least as many as told, over models that `draw` gives.
+///
+/// # Errors
+/// The first difference, made smaller.
+pub fn run(
+    one: &dyn Engine,
+    other: &dyn Engine,
+    seed: u64,
+    calls: usize,
+    draw: impl Fn(&mut Random) -> Case,
+) -> Result<Tally, Box<Difference>> {
+    let mut random = Random::new(seed);
+    let mut tally = Tally::default();
+    while tally.calls() < calls {
+        let model = draw(&mut random);
+        for case in calls_on(&mut random, &model) {
+            let answer = compare(one, other, &case).map_err(|found| shrink(one, other, found))?;
+            tally.note(case.call, answer.number);
+        }
+    }
+    Ok(tally)
+}
+
+/// Every call on a model, whole and damaged, in the order in which a caller makes them.
+pub fn calls_on(random: &mut Random, build: &Case) -> Vec<Case> {
+    let mut calls = vec![build.clone()];
+    for _ in 0..3 {
+        calls.push(damaged(random, build));
+    }
+    let mut built = build.clone();
+    Second.answer(&mut built);
+    for route in 1..=3 {
+        let mut tried = trial_of(random, &built);
+        tried.route = route;
+        calls.push(tried);
+    }
+    let stale = stale(random, &built);
+    for from in [&built, &stale] {
+        let tried = trial_of(random, from);
+        calls.push(damaged(random, &tried));
+        calls.push(damaged(random, &tried));
+        calls.push(tried);
+        let mut kept = keep_of(random, from);
+        calls.push(damaged(random, &kept));
+        calls.push(kept.clone());
+        Second.answer(&mut kept);
+        calls.push(trial_of(random, &kept));
+    }
+    calls.extend(files_of(random, build));
+    for case in &mut calls {
+        if random.once_in(3) {
+            lengthen(random, case);
+        }
+    }
+    calls
+}
+
+/// A case with one or two things wrong, or a buffer one too short.
+fn damaged(random: &mut Random, case: &Case) -> Case {
+    let mut case = case.clone();
+    for _ in 0..1 + random.below(2) {
+        damage(random, &mut case);
+    }
+    if random.once_in(6) {
+        shorten(random, &mut case);
+    }
+    case
+}
+
+/// The same model with stored values that no call produced.
+fn stale(random: &mut Random, built: &Case) -> Case {
+    let mut stale = built.clone();
+    for place in 0..stale.n {
+        if random.once_in(3) {
+            let made = stale.numbers.get(place).is_some_and(|&number| number > 0);
+            let blank = made && random.once_in(3);
+            stale.stored.put(place, if blank { second::BLANK } else { value(random) });
+        }
+    }
+    stale
+}
+
+/// A trial of a random move on a model that was built, by a random route.
+pub fn trial_of(random: &mut Random, built: &Case) -> Case {
+    let mut case = Case { call: Call::Trial, route: 1 + random.below(3) as u32, ..built.clone() };
+    draw_move(random, &mut case);
+    case.asked = if random.once_in(8) { random.below(33) } else { random.below(4) };
+    case.asked_vars = (0..case.asked).map(|_| random.below(case.n) as u16).collect::<Vec<_>>().into();
+    case.results = Guarded::junk(random, case.asked);
+    case.trial = Guarded::junk(random, case.n);
+    case.flags = Guarded::junk(random, case.n);
+    case
+}
+
+/// A keep of a random move on a model that was built.
+pub fn keep_of(random: &mut Random, built: &Case) -> Case {
+    let mut case = Case { call: Call::Keep, ..built.clone() };
+    draw_move(random, &mut case);
+    case.session.kept = random.pick(&[built.session.kept, 1, u32::MAX - 1, u32::MAX]);
+    case.flags = Guarded::junk(random, case.n);
+    case
+}
+
+/// Gives a case a move: search variables, each once, some with the value that they have.
+fn draw_move(random: &mut Random, case: &mut Case) {
+    let is_search = |&variable: &u16| case.numbers.get(usize::from(variable)) == Some(&0);
+    let wanted = if random.once_in(8) { random.below(65) } else { random.below(4) };
+    let mut variables: Vec<u16> = Vec::new();
+    for _ in 0..2 * wanted {
+        let variable = random.below(case.n) as u16;
+        if variables.len() < wanted && is_search(&variable) && !variables.contains(&variable) {
+            variables.push(variable);
+        }
+    }
+    let new_value = |random: &mut Random, variable: u16| match case.stored.get(usize::from(variable)) {
+        Some(&stored) if random.once_in(4) => stored,
+        Some(&stored) if stored < i32::MAX && random.once_in(2) => stored + 1,
+        _ => value(random),
+    };
+    let values: Vec<i32> = variables.iter().map(|&variable| new_value(random, variable)).collect();
+    case.pairs = variables.len();
+    case.move_vars = variables.into();
+    case.move_values = values.into();
+}
+
+/// Writing and reading a model, whole and damaged.
+fn files_of(random: &mut Random, build: &Case) -> Vec<Case> {
+    let mut write = Case { call: Call::Write, ..build.clone() };
+    write.bytes = Guarded::junk(random, 24 + 4 * build.n + 12 * build.m + 4 * build.e);
+    let mut read = write.clone();
+    Second.answer(&mut read);
+    read.call = Call::Read;
+    forget(random, &mut read);
+    vec![damaged(random, &write), write, damaged(random, &read), damaged(random, &read), read]
+}
+
+/// Fills the tables of a read with what means nothing.
+fn forget(random: &mut Random, read: &mut Case) {
+    for table in [&mut read.kinds, &mut read.makes, &mut read.firsts, &mut read.counts, &mut read.vars] {
+        *table = Guarded::junk(random, table.len());
+    }
+    read.coefs = Guarded::junk(random, read.coefs.len());
+    read.params = Guarded::junk(random, read.params.len());
+    read.starts = Guarded::junk(random, read.starts.len());
+}
+
+impl Sizes {
+    /// Few variables, so that a definition can be followed step by step.
+    pub const TINY: Sizes = Sizes { variables: 7, entries: 18, inputs: 4 };
+
+    /// Models of every size up to the bounds, mostly small.
+    pub fn any_model(random: &mut Random) -> Case {
+        let sizes = |variables, entries, inputs| Sizes { variables, entries, inputs };
+        match random.below(400) {
+            0 => {
+                let inputs = random.pick(&[4, 16, 256]);
+                model_of(random, 4096, sizes(4096, 16384, inputs))
+            }
+            1 => {
+                let kind = random.pick(&[1, 2, 3, 4, 5, 6]);
+                chain(kind, 4095, 4, random.between(-1, 2))
+            }
+            2..=20 => model(random, sizes(300, 1200, 256)),
+            21..=120 => model(random, sizes(40, 160, 8)),
+            _ => model(random, sizes(9, 36, 5)),
+        }
+    }
+}

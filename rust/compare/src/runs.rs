@@ -1,0 +1,312 @@
+//! The runs that the specification names, as tests of any engine: each asserts what comes back and what is left.
+
+use second::BLANK;
+
+use crate::{Answer, Call, Case, Engine, Row, Side, Test, of_rows};
+
+/// Model A: a window from variable 0 to 1 every 2; its departures 3, its last departure 4, and 2 plus 4 times 3.
+#[must_use]
+pub fn model_a() -> Case {
+    let crews = Row { kind: 1, makes: 5, parameter: 2, entries: vec![(3, 4)] };
+    let rows = [Row::plain(8, 3, &[0, 1, 2]), Row::plain(9, 4, &[0, 1, 2]), crews];
+    of_rows(vec![25200, 28800, 600, 0, 0, 0], &rows)
+}
+
+/// Model A with other values of its window.
+fn window(start: i32, end: i32, headway: i32) -> Case {
+    let mut case = model_a();
+    case.starts[..3].copy_from_slice(&[start, end, headway]);
+    case
+}
+
+/// The case after an accepted build by the engine.
+///
+/// # Panics
+/// If it is refused.
+pub fn built(engine: &dyn Engine, build: &Case) -> Case {
+    let side = Side::of(engine, build);
+    assert_eq!(side.answer.number, 0, "a build that is accepted");
+    side.left
+}
+
+/// A trial on a model that was built.
+#[must_use]
+pub fn trial(built: &Case, pairs: &[(u16, i32)], asked: &[u16], route: u32) -> Case {
+    Case {
+        asked: asked.len(),
+        asked_vars: asked.to_vec().into(),
+        route,
+        results: vec![0; asked.len()].into(),
+        trial: vec![0; built.n].into(),
+        ..keep(built, pairs)
+    }
+    .with(Call::Trial)
+}
+
+/// A keep on a model that was built.
+#[must_use]
+pub fn keep(built: &Case, pairs: &[(u16, i32)]) -> Case {
+    let (vars, values): (Vec<u16>, Vec<i32>) = pairs.iter().copied().unzip();
+    Case {
+        pairs: pairs.len(),
+        move_vars: vars.into(),
+        move_values: values.into(),
+        flags: vec![7; built.n].into(),
+        ..built.clone()
+    }
+    .with(Call::Keep)
+}
+
+impl Case {
+    fn with(self, call: Call) -> Case {
+        Case { call, ..self }
+    }
+}
+
+/// Asserts the values that a build stores.
+fn stores(engine: &dyn Engine, build: &Case, values: &[i32]) {
+    assert_eq!(*built(engine, build).stored, *values);
+}
+
+/// Asserts the value of one formula, whose inputs are search variables.
+fn formula_gives(engine: &dyn Engine, kind: u16, parameter: i32, coefficient: i16, inputs: &[i32], value: i32) {
+    let entries = (0..inputs.len() as u16).map(|variable| (variable, coefficient)).collect();
+    let row = Row { kind, makes: inputs.len() as u16, parameter, entries };
+    let mut starts = inputs.to_vec();
+    starts.push(0);
+    let stored = built(engine, &of_rows(starts, &[row])).stored;
+    assert_eq!(stored.last(), Some(&value), "kind {kind} of {inputs:?}");
+}
+
+/// Asserts the results, the evaluations and the flags of a trial on a model that was built.
+fn tries(engine: &dyn Engine, case: &Case, results: &[i32], evaluated: &[u16]) {
+    let side = Side::of(engine, case);
+    let evaluations = evaluated.len() as u32;
+    assert_eq!(side.answer, Answer { evaluations, ..Answer::default() });
+    assert_eq!(*side.left.results, *results, "results");
+    let flags: Vec<u8> = (0..case.n as u16).map(|variable| u8::from(evaluated.contains(&variable))).collect();
+    assert_eq!(*side.left.flags, *flags, "flags");
+    assert_eq!(side.left.session.evaluations, evaluations);
+    assert_eq!(side.left.session.kept, case.session.kept);
+    assert_eq!(side.left.stored, case.stored, "a trial leaves the stored values");
+}
+
+/// Numbers, order, values and record of model A.
+fn model_a_is_built(engine: &dyn Engine) {
+    let left = built(engine, &model_a());
+    assert_eq!(*left.stored, [25200, 28800, 600, 6, 28200, 26]);
+    assert_eq!(*left.numbers, [0, 0, 0, 1, 1, 2]);
+    assert_eq!(*left.order, [0, 1, 2]);
+    assert_eq!((left.session.kept, left.session.evaluations), (0, 3));
+}
+
+/// End 28801: one departure more.
+fn end_after_the_last_departure(engine: &dyn Engine) {
+    stores(engine, &window(25200, 28801, 600), &[25200, 28801, 600, 7, 28800, 30]);
+    let model = built(engine, &model_a());
+    let moved = [(1, 28801)];
+    tries(engine, &trial(&model, &moved, &[3, 4, 5], 1), &[7, 28800, 30], &[3, 4, 5]);
+    tries(engine, &trial(&model, &moved, &[4], 2), &[28800], &[4]);
+    tries(engine, &trial(&model, &moved, &[4], 3), &[28800], &[4]);
+}
+
+/// End 28500: the values come out equal, and route 1 goes no further.
+fn end_that_changes_no_departure(engine: &dyn Engine) {
+    stores(engine, &window(25200, 28500, 600), &[25200, 28500, 600, 6, 28200, 26]);
+    let model = built(engine, &model_a());
+    let moved = [(1, 28500)];
+    tries(engine, &trial(&model, &moved, &[3, 4, 5], 1), &[6, 28200, 26], &[3, 4]);
+    tries(engine, &trial(&model, &moved, &[5], 3), &[26], &[3, 5]);
+}
+
+/// Headway 0 gives blank, an empty window no departure.
+fn headway_0_and_an_empty_window(engine: &dyn Engine) {
+    stores(engine, &window(25200, 28800, 0), &[25200, 28800, 0, BLANK, BLANK, BLANK]);
+    stores(engine, &window(25200, 28800, -1), &[25200, 28800, -1, BLANK, BLANK, BLANK]);
+    stores(engine, &window(25200, 25200, 600), &[25200, 25200, 600, 0, BLANK, 2]);
+    stores(engine, &window(25200, 0, 600), &[25200, 0, 600, 0, BLANK, 2]);
+}
+
+/// An empty move: only route 2 evaluates anything.
+fn the_empty_move(engine: &dyn Engine) {
+    let model = built(engine, &window(25200, 25200, 600));
+    tries(engine, &trial(&model, &[], &[5], 1), &[2], &[]);
+    tries(engine, &trial(&model, &[], &[5], 2), &[2], &[3, 5]);
+    tries(engine, &trial(&model, &[], &[5], 3), &[2], &[]);
+    tries(engine, &trial(&model, &[], &[], 2), &[], &[]);
+    tries(engine, &trial(&model, &[(1, 25200)], &[5, 5, 0], 3), &[2, 2, 25200], &[]);
+}
+
+/// The widest window: the count leaves the range, the last departure does not.
+fn the_widest_window(engine: &dyn Engine) {
+    let widest = |headway| window(-2_147_483_647, 2_147_483_647, headway);
+    let values = |engine, headway| built(engine, &widest(headway)).stored[3..5].to_vec();
+    assert_eq!(values(engine, 1), [BLANK, 2_147_483_646]);
+    assert_eq!(values(engine, 2), [2_147_483_647, 2_147_483_645]);
+}
+
+/// LINEAR at both ends of the range, and a sum that leaves it on the way.
+fn linear(engine: &dyn Engine) {
+    for (coefficient, parameter, value) in
+        [(1, 0, 2_147_483_647), (1, 1, BLANK), (-1, 0, -2_147_483_647), (-1, -1, BLANK), (0, 5, 5)]
+    {
+        formula_gives(engine, 1, parameter, coefficient, &[2_147_483_647], value);
+    }
+    let entries = vec![(0, 1000), (0, 1000), (0, -1000), (0, -999)];
+    let there_and_back = Row { kind: 1, makes: 1, parameter: 0, entries };
+    stores(engine, &of_rows(vec![2_147_483_647, 0], &[there_and_back]), &[2_147_483_647; 2]);
+}
+
+/// SHARED counts places, not values.
+fn shared(engine: &dyn Engine) {
+    for (inputs, value) in [(&[4, 4, 5][..], 2), (&[4, 4, 4], 3), (&[4], 0), (&[1, 2, 1, 2, 3], 4)] {
+        formula_gives(engine, 5, 0, 1, inputs, value);
+    }
+    stores(engine, &of_rows(vec![4, 0], &[Row::plain(5, 1, &[0, 0])]), &[4, 2]);
+}
+
+/// ELEMENT chooses among the candidates; a chosen blank and an index outside give blank.
+fn element(engine: &dyn Engine) {
+    for (index, value) in [(0, 7), (1, BLANK), (2, BLANK), (-1, BLANK)] {
+        let rows = [Row::plain(9, 2, &[1, 1, 1]), Row::plain(4, 3, &[0, 1, 2])];
+        stores(engine, &of_rows(vec![index, 7, 0, 0], &rows), &[index, 7, BLANK, value]);
+    }
+}
+
+/// MIN, MAX, COUNT and OVER.
+fn the_other_formulas(engine: &dyn Engine) {
+    for (kind, parameter, inputs, value) in [
+        (2, 0, &[3, -5, 4][..], -5),
+        (3, 0, &[3, -5, 4], 4),
+        (6, 4, &[4, 5, 4], 2),
+        (6, 6, &[4, 5, 4], 0),
+        (7, 0, &[2_147_483_647, -1], BLANK),
+        (7, 0, &[5, 5], 0),
+        (7, 0, &[9, 5], 4),
+        (7, 0, &[-2_147_483_647, 2_147_483_647], 0),
+    ] {
+        formula_gives(engine, kind, parameter, 1, inputs, value);
+    }
+}
+
+/// Any blank input gives blank, except in ELEMENT.
+fn blank_inputs(engine: &dyn Engine) {
+    let blank = Row::plain(9, 1, &[0, 0, 0]);
+    for (kind, inputs) in [(1, 2), (2, 2), (3, 2), (5, 2), (6, 2), (7, 2), (8, 3), (9, 3)] {
+        for place in 0..inputs {
+            let mut row = Row::plain(kind, 2, &vec![0; inputs]);
+            row.entries[place].0 = 1;
+            stores(engine, &of_rows(vec![1, 0, 0], &[blank.clone(), row]), &[1, BLANK, BLANK]);
+        }
+    }
+    let zero_times_blank = Row { kind: 1, makes: 2, parameter: 3, entries: vec![(1, 0)] };
+    stores(engine, &of_rows(vec![1, 0, 0], &[blank, zero_times_blank]), &[1, BLANK, BLANK]);
+}
+
+/// Variables that depend on themselves are refused, also through a candidate that is not chosen.
+fn circular_models(engine: &dyn Engine) {
+    let self_made = of_rows(vec![0], &[Row::plain(1, 0, &[0])]);
+    let each_other = of_rows(vec![0, 0], &[Row::plain(1, 0, &[1]), Row::plain(1, 1, &[0])]);
+    let unchosen = of_rows(vec![0, 7, 0, 0], &[Row::plain(4, 2, &[0, 1, 3]), Row::plain(1, 3, &[2])]);
+    for (case, place) in [(self_made, 0), (each_other, 0), (unchosen, 2)] {
+        let side = Side::of(engine, &case);
+        assert_eq!((side.answer.number, side.answer.place), (6, place));
+        assert_eq!(side.left, case);
+    }
+}
+
+/// Routes 2 and 3 ask the index and the chosen candidate alone; route 1 evaluates by any input.
+fn candidates_that_are_not_chosen(engine: &dyn Engine) {
+    let rows = [Row::plain(1, 3, &[1]), Row::plain(1, 4, &[2]), Row::plain(4, 5, &[0, 3, 4])];
+    let model = built(engine, &of_rows(vec![0, 10, 20, 0, 0, 0], &rows));
+    let moved = [(2, 21)];
+    tries(engine, &trial(&model, &moved, &[5], 1), &[10], &[4, 5]);
+    tries(engine, &trial(&model, &moved, &[5], 2), &[10], &[3, 5]);
+    tries(engine, &trial(&model, &moved, &[5], 3), &[10], &[5]);
+    tries(engine, &trial(&model, &[(0, 1)], &[5], 3), &[20], &[5]);
+    tries(engine, &trial(&model, &[(0, 2)], &[5], 2), &[BLANK], &[5]);
+}
+
+/// The trial buffer holds new values where moved or evaluated, and old ones elsewhere.
+fn the_trial_buffer(engine: &dyn Engine) {
+    let model = built(engine, &model_a());
+    for (route, values) in [
+        (1, [25200, 28801, 600, 7, 28800, 30]),
+        (2, [25200, 28801, 600, 6, 28800, 26]),
+        (3, [25200, 28801, 600, 6, 28800, 26]),
+    ] {
+        let side = Side::of(engine, &trial(&model, &[(1, 28801)], &[4], route));
+        assert_eq!(*side.left.trial, values, "route {route}");
+    }
+}
+
+/// Keep leaves route 1's values and flags, and counts the move; an empty move is kept too.
+fn keeping(engine: &dyn Engine) {
+    let model = built(engine, &model_a());
+    let kept = Side::of(engine, &keep(&model, &[(1, 28801)]));
+    assert_eq!(kept.answer, Answer { evaluations: 3, ..Answer::default() });
+    assert_eq!(*kept.left.stored, [25200, 28801, 600, 7, 28800, 30]);
+    assert_eq!(*kept.left.flags, [0, 0, 0, 1, 1, 1]);
+    assert_eq!((kept.left.session.kept, kept.left.session.evaluations), (1, 3));
+    let again = Side::of(engine, &keep(&kept.left, &[]));
+    assert_eq!(*again.left.flags, [0; 6]);
+    assert_eq!((again.left.session.kept, again.left.session.evaluations), (2, 0));
+}
+
+/// The number of moves kept stops at its ceiling.
+fn the_ceiling_of_moves_kept(engine: &dyn Engine) {
+    let mut model = built(engine, &model_a());
+    for (before, after) in [(u32::MAX - 1, u32::MAX), (u32::MAX, u32::MAX)] {
+        model.session.kept = before;
+        assert_eq!(Side::of(engine, &keep(&model, &[])).left.session.kept, after);
+    }
+}
+
+/// Over stored values that no call produced each route follows its own rule.
+fn stale_values(engine: &dyn Engine) {
+    let mut model = built(engine, &model_a());
+    model.stored[3] = 100;
+    model.stored[5] = BLANK;
+    let moved = [(0, 25200)];
+    tries(engine, &trial(&model, &moved, &[5], 1), &[BLANK], &[]);
+    tries(engine, &trial(&model, &moved, &[5], 2), &[26], &[3, 5]);
+    tries(engine, &trial(&model, &moved, &[5], 3), &[BLANK], &[]);
+}
+
+/// Buffers longer than needed are untouched beyond that.
+fn longer_buffers(engine: &dyn Engine) {
+    let mut build = model_a();
+    build.numbers.edit(|numbers| numbers.push(77));
+    build.order.edit(|order| order.push(78));
+    build.stored.edit(|stored| stored.push(79));
+    let model = built(engine, &build);
+    assert_eq!((model.numbers.last(), model.order.last(), model.stored.last()), (Some(&77), Some(&78), Some(&79)));
+    let mut tried = trial(&model, &[(1, 28801)], &[4], 1);
+    tried.results.edit(|results| results.push(80));
+    tried.trial.edit(|trial| trial.push(81));
+    tried.flags.edit(|flags| flags.push(82));
+    let left = Side::of(engine, &tried).left;
+    assert_eq!((left.results.last(), left.trial.last(), left.flags.last()), (Some(&80), Some(&81), Some(&82)));
+}
+
+/// All runs by name.
+pub const RUNS: &[Test] = &[
+    ("model A", model_a_is_built),
+    ("end after the last departure", end_after_the_last_departure),
+    ("end that changes no departure", end_that_changes_no_departure),
+    ("headway 0 and an empty window", headway_0_and_an_empty_window),
+    ("the empty move", the_empty_move),
+    ("the widest window", the_widest_window),
+    ("LINEAR", linear),
+    ("SHARED", shared),
+    ("ELEMENT", element),
+    ("the other formulas", the_other_formulas),
+    ("blank inputs", blank_inputs),
+    ("circular models", circular_models),
+    ("candidates that are not chosen", candidates_that_are_not_chosen),
+    ("the trial buffer", the_trial_buffer),
+    ("keeping", keeping),
+    ("the ceiling of moves kept", the_ceiling_of_moves_kept),
+    ("stale values", stale_values),
+    ("longer buffers", longer_buffers),
+];

@@ -1,0 +1,236 @@
+//! Makes a case on which two engines differ smaller, as long as they still differ on it.
+
+use std::time::{Duration, Instant};
+
+use second::{BLANK, Built, Session};
+
+use crate::{Case, Difference, Element, Engine, Guarded, compare};
+
+/// How long a smaller case is looked for.
+const PATIENCE: Duration = Duration::from_secs(10);
+
+/// A smaller case on which the two still differ.
+#[must_use]
+pub fn shrink(one: &dyn Engine, other: &dyn Engine, found: Box<Difference>) -> Box<Difference> {
+    let mut search = Search { one, other, best: found, until: Instant::now() + PATIENCE };
+    while search.round() {}
+    search.best
+}
+
+struct Search<'a> {
+    one: &'a dyn Engine,
+    other: &'a dyn Engine,
+    best: Box<Difference>,
+    until: Instant,
+}
+
+impl Search<'_> {
+    /// One round over all ways to make the case smaller: whether one of them did.
+    fn round(&mut self) -> bool {
+        let case = &self.best.case;
+        let (n, m, e, pairs, asked) = (case.n, case.m, case.e, case.pairs, case.asked);
+        let mut smaller = self.try_case(cut);
+        smaller |= self.without(m, remove_row);
+        smaller |= self.without(pairs, remove_pair);
+        smaller |= self.without(asked, remove_asked);
+        smaller |= self.without(e, remove_entry);
+        smaller |= self.without(n, remove_variable);
+        smaller |= self.without(n, plain_values);
+        smaller |= self.without(pairs, |case, pair| plain(&mut case.move_values, pair, 0));
+        smaller |= self.without(m, |case, row| plain(&mut case.params, row, 0));
+        smaller |= self.without(e, |case, entry| plain(&mut case.coefs, entry, 1));
+        smaller | self.try_case(plain_record)
+    }
+
+    /// Takes away stretches of places, the longest first and from the last to the first.
+    fn without(&mut self, places: usize, remove: impl Fn(&mut Case, usize) -> bool) -> bool {
+        let mut smaller = false;
+        let mut stretch = places.min(4096);
+        while stretch > 0 {
+            let mut end = places.min(16384);
+            while end > 0 {
+                let start = end.saturating_sub(stretch);
+                smaller |= self.try_case(|case| (start..end).rev().fold(false, |any, place| remove(case, place) | any));
+                end = start;
+            }
+            stretch /= 2;
+        }
+        smaller
+    }
+
+    /// Takes a changed case if the two still differ on it, as it is or with its numbers and its order put right.
+    fn try_case(&mut self, change: impl FnOnce(&mut Case) -> bool) -> bool {
+        let mut case = self.best.case.clone();
+        if Instant::now() > self.until || !change(&mut case) {
+            return false;
+        }
+        let Err(found) = compare(self.one, self.other, &case).and_then(|_| {
+            number(&mut case);
+            compare(self.one, self.other, &case)
+        }) else {
+            return false;
+        };
+        self.best = found;
+        true
+    }
+}
+
+/// Cuts what lies beyond the counts.
+fn cut(case: &mut Case) -> bool {
+    let Case { n, m, e, pairs, asked, .. } = *case;
+    let rows = [&mut case.kinds, &mut case.makes, &mut case.firsts, &mut case.counts, &mut case.order];
+    let mut any = rows.into_iter().fold(false, |any, row| shorter(row, m) | any);
+    any |= shorter(&mut case.params, m) | shorter(&mut case.vars, e) | shorter(&mut case.coefs, e);
+    any |= shorter(&mut case.numbers, n) | shorter(&mut case.flags, n);
+    any |= shorter(&mut case.starts, n) | shorter(&mut case.stored, n) | shorter(&mut case.trial, n);
+    any |= shorter(&mut case.move_vars, pairs) | shorter(&mut case.move_values, pairs);
+    any | shorter(&mut case.asked_vars, asked) | shorter(&mut case.results, asked)
+}
+
+fn shorter<T: Element>(row: &mut Guarded<T>, length: usize) -> bool {
+    let longer = row.len() > length;
+    if longer {
+        row.edit(|held| held.truncate(length));
+    }
+    longer
+}
+
+/// Takes the element at a place away, if there is one.
+fn remove<T: Element>(row: &mut Guarded<T>, place: usize) {
+    if place < row.len() {
+        row.edit(|held| {
+            held.remove(place);
+        });
+    }
+}
+
+/// Takes a row away with its part of the entries; what it made has a value then, as a search variable must.
+fn remove_row(case: &mut Case, row: usize) -> bool {
+    if row >= case.m || row >= case.counts.len() {
+        return false;
+    }
+    for _ in 0..case.counts[row] {
+        if !remove_entry_of(case, row) {
+            break;
+        }
+    }
+    let made = case.makes.get(row).map_or(0, |&made| usize::from(made));
+    if case.stored.get(made) == Some(&BLANK) {
+        case.stored.put(made, 0);
+    }
+    for table in [&mut case.kinds, &mut case.makes, &mut case.firsts, &mut case.counts] {
+        remove(table, row);
+    }
+    remove(&mut case.params, row);
+    case.order.edit(|order| {
+        order.retain(|&placed| usize::from(placed) != row);
+        order.iter_mut().filter(|placed| usize::from(**placed) > row).for_each(|placed| *placed -= 1);
+    });
+    case.m -= 1;
+    true
+}
+
+/// Takes an entry away from the row that holds it.
+fn remove_entry(case: &mut Case, entry: usize) -> bool {
+    let holds = |row: &usize| {
+        let first = usize::from(case.firsts[*row]);
+        (first..first + usize::from(case.counts[*row])).contains(&entry)
+    };
+    let rows = case.m.min(case.firsts.len()).min(case.counts.len());
+    let Some(row) = (0..rows).find(holds) else { return false };
+    let (vars, coefs) = (&mut case.vars, &mut case.coefs);
+    remove(vars, entry);
+    remove(coefs, entry);
+    lose_entry(case, row)
+}
+
+/// Takes the first entry of a row away.
+fn remove_entry_of(case: &mut Case, row: usize) -> bool {
+    let first = case.firsts.get(row).map_or(0, |&first| usize::from(first));
+    remove(&mut case.vars, first);
+    remove(&mut case.coefs, first);
+    lose_entry(case, row)
+}
+
+/// Counts one entry less in a row.
+fn lose_entry(case: &mut Case, row: usize) -> bool {
+    if case.e == 0 || case.counts[row] == 0 {
+        return false;
+    }
+    case.e -= 1;
+    case.counts[row] -= 1;
+    case.firsts.iter_mut().skip(row + 1).for_each(|first| *first = first.saturating_sub(1));
+    true
+}
+
+fn remove_pair(case: &mut Case, pair: usize) -> bool {
+    if pair >= case.pairs {
+        return false;
+    }
+    remove(&mut case.move_vars, pair);
+    remove(&mut case.move_values, pair);
+    case.pairs -= 1;
+    true
+}
+
+fn remove_asked(case: &mut Case, place: usize) -> bool {
+    if place >= case.asked {
+        return false;
+    }
+    remove(&mut case.asked_vars, place);
+    remove(&mut case.results, place);
+    case.asked -= 1;
+    true
+}
+
+/// Takes away a variable that nothing names.
+fn remove_variable(case: &mut Case, variable: usize) -> bool {
+    let named = [&mut case.makes, &mut case.vars, &mut case.move_vars, &mut case.asked_vars];
+    if variable >= case.n || named.iter().any(|row| row.iter().any(|&named| usize::from(named) == variable)) {
+        return false;
+    }
+    for row in named {
+        row.iter_mut().filter(|named| usize::from(**named) > variable).for_each(|named| *named -= 1);
+    }
+    remove(&mut case.starts, variable);
+    remove(&mut case.numbers, variable);
+    remove(&mut case.stored, variable);
+    remove(&mut case.trial, variable);
+    remove(&mut case.flags, variable);
+    case.n -= 1;
+    true
+}
+
+/// Puts 0 for a variable's start value, stored value and what its buffers held.
+fn plain_values(case: &mut Case, variable: usize) -> bool {
+    plain(&mut case.stored, variable, 0)
+        | plain(&mut case.starts, variable, 0)
+        | plain(&mut case.trial, variable, 0)
+        | plain(&mut case.flags, variable, 0)
+}
+
+/// Puts 0 for the counters of the record.
+fn plain_record(case: &mut Case) -> bool {
+    std::mem::take(&mut case.session) != Session::default()
+}
+
+/// Puts a plain element at a place where another stands.
+fn plain<T: Element>(row: &mut Guarded<T>, place: usize, element: T) -> bool {
+    let other = row.get(place).is_some_and(|&held| held != element);
+    if other {
+        row.put(place, element);
+    }
+    other
+}
+
+/// Puts the numbers and the order of a model right, if it can be built.
+fn number(case: &mut Case) {
+    let starts = vec![0; case.stored.len()];
+    let mut stored = starts.clone();
+    let (mut numbers, mut order) = (case.numbers.clone(), case.order.clone());
+    let built = Built { numbers: &mut numbers, order: &mut order, stored: &mut stored };
+    if second::build(&mut Session::default(), case.tables(), &starts, built).is_ok() {
+        case.numbers = numbers;
+        case.order = order;
+    }
+}

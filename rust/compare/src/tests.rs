@@ -1,0 +1,74 @@
+//! Everything that an engine must pass, written once for every engine.
+
+use crate::{Engine, Second, Sizes, Test, run, seed};
+
+/// Runs tests one after another, each with its name printed.
+pub fn hold(engine: &dyn Engine, tests: &[Test]) {
+    for (name, test) in tests {
+        println!("{name}");
+        test(engine);
+    }
+}
+
+/// The engine and the second implementation on 200,000 random calls: answer, record and every byte of every buffer.
+///
+/// # Panics
+/// If they differ, or if a number or an accepted call hardly ever came back.
+pub fn random_calls(engine: &dyn Engine) {
+    let seed = seed();
+    println!("seed {seed}");
+    let tally = run(engine, &Second, seed, 200_000, Sizes::any_model);
+    let tally =
+        tally.unwrap_or_else(|difference| panic!("seed {seed}: the engine is one, the second the other\n{difference}"));
+    println!("{tally:?}");
+    assert!(tally.by_number.iter().all(|&calls| calls > 100), "every number comes back often: {tally:?}");
+    assert!(tally.accepted.iter().all(|&calls| calls > 1_000), "every call is accepted often: {tally:?}");
+}
+
+/// The tests of an engine: the runs that the specification names, both sides of the edge of every refusal, files there
+/// and back, the deepest models on a small stack, random calls beside the second implementation, and the fuzz runs.
+/// The second expression is the engine whose calls have a stack of 2 MiB if their thread has.
+#[macro_export]
+macro_rules! tests_of {
+    ($engine:expr, $on_a_small_stack:expr) => {
+        #[test]
+        fn runs() {
+            $crate::hold(&$engine, $crate::runs::RUNS);
+        }
+
+        #[test]
+        fn refusals_on_both_sides() {
+            $crate::hold(&$engine, $crate::edges::EDGES);
+        }
+
+        #[test]
+        fn files_there_and_back() {
+            $crate::hold(&$engine, $crate::files::FILES);
+        }
+
+        #[test]
+        fn the_deepest_models_on_a_stack_of_2_mib() {
+            $crate::deep::deepest_models($on_a_small_stack);
+        }
+
+        #[test]
+        fn two_hundred_thousand_random_calls() {
+            $crate::random_calls(&$engine);
+        }
+
+        #[test]
+        fn kept_cases() {
+            $crate::fuzz::kept_cases(&$engine);
+        }
+
+        #[test]
+        fn mutated_files_through_read_and_build() {
+            $crate::fuzz::mutated_files(&$engine);
+        }
+
+        #[test]
+        fn scrambled_buffers_through_every_call() {
+            $crate::fuzz::scrambled_buffers(&$engine);
+        }
+    };
+}

@@ -1,0 +1,121 @@
+//! The recording that `crates/replay` replays is what `record` writes today, and misses no case.
+
+use std::collections::BTreeSet;
+use std::path::{Path, PathBuf};
+use std::process::Command;
+use std::{env, fs, process};
+
+/// A session of the recording: the model file, the calls, and the lines of the read, the build and each call.
+struct Session {
+    model: Vec<u8>,
+    calls: Vec<Vec<u8>>,
+    lines: Vec<String>,
+}
+
+impl Session {
+    /// The kinds of the rows, if the model is built.
+    fn kinds(&self) -> Vec<u16> {
+        if !self.lines.get(1).is_some_and(|line| line.starts_with("build 0 ")) {
+            return Vec::new();
+        }
+        let (n, m) = (half(&self.model, 2), half(&self.model, 4));
+        let rows = self.model[24 + 4 * usize::from(n)..].chunks_exact(12);
+        rows.take(m.into()).map(|row| half(row, 0)).collect()
+    }
+
+    /// The second number of each call whose line starts so: the route of a trial, the row of a change.
+    fn second_numbers(&self, start: &str) -> Vec<u16> {
+        let made = self.calls.iter().zip(self.lines.iter().skip(2));
+        made.filter(|(_, line)| line.starts_with(start)).map(|(call, _)| half(call, 4)).collect()
+    }
+}
+
+/// The number of two bytes at a place.
+fn half(bytes: &[u8], at: usize) -> u16 {
+    u16::from_le_bytes([bytes[at], bytes[at + 1]])
+}
+
+/// The number of four bytes in front of others, and these.
+fn word(bytes: &[u8]) -> (usize, &[u8]) {
+    let (front, rest) = bytes.split_first_chunk().expect("four bytes");
+    (u32::from_le_bytes(*front) as usize, rest)
+}
+
+/// The crate that replays the recording.
+fn replay() -> PathBuf {
+    Path::new(env!("CARGO_MANIFEST_DIR")).join("../../crates/replay")
+}
+
+/// The files of a recording, by name, with what they hold.
+fn files(folder: &Path) -> Vec<(String, Vec<u8>)> {
+    let data = fs::read_dir(folder.join("data")).expect("a folder data");
+    let names = data.map(|entry| format!("data/{}", entry.expect("a file").file_name().display()));
+    let mut names: Vec<String> = names.chain(["args", "stdout"].map(String::from)).collect();
+    names.sort();
+    let held = |name: &String| fs::read(folder.join(name)).expect("a file of the recording");
+    names.iter().map(|name| (name.clone(), held(name))).collect()
+}
+
+/// The sessions of the recording.
+fn sessions() -> Vec<Session> {
+    let text = fs::read_to_string(replay().join("stdout")).expect("the lines");
+    let lines: Vec<String> = text.lines().map(String::from).collect();
+    let mut lines = lines.chunk_by(|_, line| !line.starts_with("read "));
+    let mut sessions = Vec::new();
+    for (_, data) in files(&replay()).iter().filter(|(name, _)| name.starts_with("data/")) {
+        let (count, mut bytes) = word(data);
+        for _ in 0..count {
+            let (length, rest) = word(bytes);
+            let (calls, rest) = word(rest);
+            let (model, rest) = rest.split_at(length);
+            let (calls, rest) = rest.split_at(48 * calls);
+            bytes = rest;
+            let calls = calls.chunks(48).map(<[u8]>::to_vec).collect();
+            let lines = lines.next().expect("the lines of the session").to_vec();
+            sessions.push(Session { model: model.to_vec(), calls, lines });
+        }
+    }
+    sessions
+}
+
+/// The numbers that the lines of a call give.
+fn numbers(call: &str) -> BTreeSet<u32> {
+    let number = |line: &String| line.strip_prefix(call)?.split_whitespace().next()?.parse().ok();
+    sessions().iter().flat_map(|session| &session.lines).filter_map(number).collect()
+}
+
+#[test]
+fn is_up_to_date() {
+    let folder = env::temp_dir().join(format!("recording-{}", process::id()));
+    let status = Command::new(env!("CARGO_BIN_EXE_record")).arg(&folder).status().expect("record runs");
+    assert!(status.success());
+    let [written, stands] = [&folder, &replay()].map(|folder| files(folder));
+    fs::remove_dir_all(&folder).expect("the folder is there");
+    assert!(written == stands, "crates/replay is out of date: run tools/record");
+}
+
+#[test]
+fn has_every_number_of_every_call() {
+    assert_eq!(numbers("read "), [0, 1, 14].into());
+    assert_eq!(numbers("build "), [0, 2, 3, 4, 5, 6, 7].into());
+    assert_eq!(numbers("trial "), [0, 1, 2, 3, 4, 5, 7, 8, 9, 10, 11, 12, 13].into());
+    assert_eq!(numbers("keep "), [0, 1, 2, 3, 4, 5, 7, 8, 10, 11, 12].into());
+}
+
+#[test]
+fn has_every_kind_route_and_row() {
+    let sessions = sessions();
+    let kinds: BTreeSet<u16> = sessions.iter().flat_map(Session::kinds).collect();
+    let routes: BTreeSet<u16> = sessions.iter().flat_map(|session| session.second_numbers("trial 0 ")).collect();
+    let rows: BTreeSet<u16> = sessions.iter().flat_map(|session| session.second_numbers("change ")).collect();
+    assert_eq!(kinds, (1..=9).collect());
+    assert_eq!(routes, (1..=3).collect());
+    assert_eq!(rows, (0..=10).collect());
+}
+
+#[test]
+fn has_trials_after_keeps() {
+    let after_keep = |lines: &[String]| lines[0].starts_with("keep 0 ") && lines[1].starts_with("trial 0 ");
+    let trials = |session: &Session| session.lines.windows(2).filter(|lines| after_keep(lines)).count();
+    assert!(sessions().iter().map(trials).sum::<usize>() > 20);
+}

@@ -1,0 +1,53 @@
+//! The safe binding of Lukhandro, a timetable engine whose every call is proved.
+//!
+//! Departures, last trips, crew need and clashes are variables, each made by one formula from others. A planner builds a
+//! [`Model`], tries a move, reads a few numbers, and keeps the move or drops it. A call either does what it is for or is
+//! [`Refused`] with a number and a place, and then changes nothing.
+//!
+//! ```
+//! use lukhandro::{Model, Route, Row};
+//!
+//! // Every ten minutes from 7:00 to 8:00; four crews for each departure, and two in reserve.
+//! let rows = [Row::departures(3, 0, 1, 2), Row::linear(4, 2, &[(3, 4)])];
+//! let mut sheet = Model::build(&[25200, 28800, 600, 0, 0], &rows)?;
+//! assert_eq!(sheet.value(4), Some(26));
+//!
+//! // Every twelve minutes instead: five departures.
+//! let tried = sheet.trial(&[(2, 720)], &[4], Route::InputToOutput)?;
+//! assert_eq!(tried.results, [22]);
+//! # Ok::<(), lukhandro::Refused>(())
+//! ```
+//!
+//! [`lent`] has the same calls for callers who keep the buffers themselves.
+//!
+//! A thread that calls should have a stack of 2 MiB, as Rust's threads do. On the deepest model a trial by route 2 or 3
+//! takes 1,360 KiB of it and a build 432 KiB, measured under an emulator of x86-64; no other call takes more than 128.
+#![warn(missing_docs)]
+
+#[cfg(not(target_arch = "x86_64"))]
+compile_error!("lukhandro links the archive of the proved engine, which is for x86-64: build it for that processor");
+
+pub mod lent;
+mod model;
+mod refused;
+mod row;
+pub mod sys;
+
+pub use model::{Model, Trial};
+pub use refused::Refused;
+pub use row::{Kind, Route, Row};
+
+/// No value: the one 32-bit number that is no value of a variable.
+pub const BLANK: i32 = i32::MIN;
+
+/// The most variables of a model, and the most rows.
+pub const MOST_VARIABLES: usize = 4096;
+
+/// The most entries of a model.
+pub const MOST_ENTRIES: usize = 16384;
+
+/// The most pairs of a move.
+pub const MOST_PAIRS: usize = 64;
+
+/// The most variables that a trial may ask.
+pub const MOST_ASKED: usize = 32;

@@ -1,0 +1,288 @@
+//! A model that owns its buffers.
+
+use crate::lent::{self, Asked, Built, Move, Session, State, Tables, TablesMut, Tried};
+use crate::{BLANK, MOST_ASKED, MOST_ENTRIES, MOST_PAIRS, MOST_VARIABLES, Refused, Route, Row};
+
+/// A model with its values, built and ready to try and keep moves.
+///
+/// ```
+/// use lukhandro::{Model, Route, Row};
+///
+/// // A window from 7:00 to 8:00 every ten minutes, its departures and its last departure.
+/// let rows = [Row::departures(3, 0, 1, 2), Row::last(4, 0, 1, 2)];
+/// let mut sheet = Model::build(&[25200, 28800, 600, 0, 0], &rows)?;
+/// assert_eq!((sheet.value(3), sheet.value(4)), (Some(6), Some(28200)));
+///
+/// // What if service went on for a second more? A departure at 8:00.
+/// let tried = sheet.trial(&[(1, 28801)], &[3, 4], Route::MarkGuided)?;
+/// assert_eq!(tried.results, [7, 28800]);
+/// assert_eq!(sheet.value(3), Some(6));
+///
+/// sheet.keep(&[(1, 28801)])?;
+/// assert_eq!(sheet.value(3), Some(7));
+/// # Ok::<(), lukhandro::Refused>(())
+/// ```
+#[derive(Clone, Debug)]
+pub struct Model {
+    session: Session,
+    kinds: Vec<u16>,
+    makes: Vec<u16>,
+    params: Vec<i32>,
+    firsts: Vec<u16>,
+    counts: Vec<u16>,
+    vars: Vec<u16>,
+    coefs: Vec<i16>,
+    numbers: Vec<u16>,
+    order: Vec<u16>,
+    stored: Vec<i32>,
+    results: [i32; MOST_ASKED],
+    trial: Vec<i32>,
+    flags: Vec<u8>,
+}
+
+/// What a trial found. Stored values are as they were.
+#[derive(Clone, Copy, Debug)]
+pub struct Trial<'a> {
+    /// How many formulas were evaluated.
+    pub evaluations: u32,
+    /// The asked values in asking order; [`BLANK`] is no value.
+    pub results: &'a [i32],
+    /// The new value of each variable moved or evaluated, and the stored one elsewhere.
+    pub values: &'a [i32],
+    /// 1 for each variable that was evaluated, 0 elsewhere.
+    pub flags: &'a [u8],
+}
+
+/// The tables of a model, borrowed field by field so that its other buffers may be lent too.
+macro_rules! tables_of {
+    ($model:expr) => {
+        Tables {
+            n: $model.stored.len(),
+            m: $model.kinds.len(),
+            e: $model.vars.len(),
+            kinds: &$model.kinds,
+            makes: &$model.makes,
+            params: &$model.params,
+            firsts: &$model.firsts,
+            counts: &$model.counts,
+            vars: &$model.vars,
+            coefs: &$model.coefs,
+        }
+    };
+}
+
+impl Model {
+    /// Builds a model of rows over as many variables as there are start values; a variable that a row makes starts at 0.
+    ///
+    /// ```
+    /// use lukhandro::{Model, Row};
+    ///
+    /// // Variable 0 made from 1, and 1 from 0.
+    /// let circular = [Row::min(0, &[1]), Row::min(1, &[0])];
+    /// let refused = Model::build(&[0, 0], &circular).unwrap_err();
+    /// assert_eq!((refused.number, refused.place), (6, 0));
+    /// ```
+    ///
+    /// # Errors
+    /// Refusals 1 to 7.
+    pub fn build(starts: &[i32], rows: &[Row]) -> Result<Model, Refused> {
+        let mut model = Model::empty(starts.len(), rows.len());
+        for row in rows {
+            // More entries than a count can say are more than a model may have: build refuses them.
+            let narrow = |count: usize| u16::try_from(count).unwrap_or(u16::MAX);
+            model.kinds.push(row.kind as u16);
+            model.makes.push(row.makes);
+            model.params.push(row.parameter);
+            model.firsts.push(narrow(model.vars.len()));
+            model.counts.push(narrow(row.entries.len()));
+            model.vars.extend(row.entries.iter().map(|&(variable, _)| variable));
+            model.coefs.extend(row.entries.iter().map(|&(_, coefficient)| coefficient));
+        }
+        model.built(starts)
+    }
+
+    /// Reads a model file and builds its model.
+    ///
+    /// ```
+    /// use lukhandro::{Model, Row};
+    ///
+    /// let sheet = Model::build(&[4, 9, 0], &[Row::max(2, &[0, 1])])?;
+    /// let again = Model::read(&sheet.write()?)?;
+    /// assert_eq!(again.value(2), Some(9));
+    ///
+    /// let refused = Model::read(b"no model").unwrap_err();
+    /// assert_eq!((refused.number, refused.place), (14, 8));
+    /// # Ok::<(), lukhandro::Refused>(())
+    /// ```
+    ///
+    /// # Errors
+    /// Refusal 14 for the file, and refusals 2 to 7 for what is in it.
+    pub fn read(bytes: &[u8]) -> Result<Model, Refused> {
+        let mut starts = vec![0; MOST_VARIABLES];
+        let rows = || vec![0; MOST_VARIABLES];
+        let (mut kinds, mut makes, mut firsts, mut counts) = (rows(), rows(), rows(), rows());
+        let mut params = vec![0; MOST_VARIABLES];
+        let (mut vars, mut coefs) = (vec![0; MOST_ENTRIES], vec![0; MOST_ENTRIES]);
+        let tables = TablesMut {
+            starts: &mut starts,
+            kinds: &mut kinds,
+            makes: &mut makes,
+            params: &mut params,
+            firsts: &mut firsts,
+            counts: &mut counts,
+            vars: &mut vars,
+            coefs: &mut coefs,
+        };
+        let (n, m, e) = lent::read(bytes, tables).judged()?;
+        for table in [&mut kinds, &mut makes, &mut firsts, &mut counts] {
+            table.truncate(m);
+        }
+        params.truncate(m);
+        vars.truncate(e);
+        coefs.truncate(e);
+        starts.truncate(n);
+        Model { kinds, makes, params, firsts, counts, vars, coefs, ..Model::empty(n, m) }.built(&starts)
+    }
+
+    /// Tries a move: gives the values of the asked variables as they would be, and changes none that is stored.
+    ///
+    /// # Errors
+    /// Refusal 1 for more than 64 pairs or more than 32 asked variables, and refusals 10 to 13.
+    pub fn trial(&mut self, pairs: &[(u16, i32)], asked: &[u16], route: Route) -> Result<Trial<'_>, Refused> {
+        let moved = Pairs::of(pairs);
+        let evaluations = lent::trial(
+            &mut self.session,
+            tables_of!(self),
+            State { numbers: &self.numbers, order: &self.order, stored: &self.stored },
+            moved.lent(),
+            Asked { asked: asked.len(), vars: asked },
+            route as u32,
+            Tried { results: &mut self.results, trial: &mut self.trial, flags: &mut self.flags },
+        )
+        .judged()?;
+        let results = self.results.get(..asked.len()).unwrap_or(&[]);
+        Ok(Trial { evaluations, results, values: &self.trial, flags: &self.flags })
+    }
+
+    /// Keeps a move: changes the stored values, and gives the number of formulas evaluated.
+    ///
+    /// ```
+    /// use lukhandro::{Model, Row};
+    ///
+    /// let mut sheet = Model::build(&[5, 8, 0], &[Row::over(2, 1, 0)])?;
+    /// assert_eq!(sheet.keep(&[(1, 20)])?, 1);
+    /// assert_eq!((sheet.value(2), sheet.kept()), (Some(15), 1));
+    ///
+    /// let refused = sheet.keep(&[(2, 1)]).unwrap_err();
+    /// assert_eq!((refused.number, refused.place), (10, 0));
+    /// assert_eq!(sheet.kept(), 1);
+    /// # Ok::<(), lukhandro::Refused>(())
+    /// ```
+    ///
+    /// # Errors
+    /// Refusal 1 for more than 64 pairs, and refusals 10 to 12.
+    pub fn keep(&mut self, pairs: &[(u16, i32)]) -> Result<u32, Refused> {
+        let moved = Pairs::of(pairs);
+        let tables = tables_of!(self);
+        let (numbers, order) = (&self.numbers, &self.order);
+        lent::keep(&mut self.session, tables, numbers, order, &mut self.stored, moved.lent(), &mut self.flags).judged()
+    }
+
+    /// The model's file, which starts from the values that search variables have now.
+    ///
+    /// # Errors
+    /// None for a model that was built.
+    pub fn write(&self) -> Result<Vec<u8>, Refused> {
+        let tables = tables_of!(self);
+        let mut bytes = vec![0; 24 + 4 * tables.n + 12 * tables.m + 4 * tables.e];
+        let start = |(&value, &number): (&i32, &u16)| if number == 0 { value } else { 0 };
+        let starts: Vec<i32> = self.stored.iter().zip(&self.numbers).map(start).collect();
+        lent::write(tables, &starts, &mut bytes).judged()?;
+        Ok(bytes)
+    }
+
+    /// The value of a variable; none if it is blank or there is no such variable.
+    #[must_use]
+    pub fn value(&self, variable: u16) -> Option<i32> {
+        self.stored.get(usize::from(variable)).copied().filter(|&value| value != BLANK)
+    }
+
+    /// All values, one for each variable; [`BLANK`] is no value.
+    #[must_use]
+    pub fn stored(&self) -> &[i32] {
+        &self.stored
+    }
+
+    /// The topological number of each variable: 0 for a search variable, else 1 plus the greatest of its inputs'.
+    #[must_use]
+    pub fn numbers(&self) -> &[u16] {
+        &self.numbers
+    }
+
+    /// The rows by the number of the variable made, ties by row.
+    #[must_use]
+    pub fn order(&self) -> &[u16] {
+        &self.order
+    }
+
+    /// Moves kept.
+    #[must_use]
+    pub fn kept(&self) -> u32 {
+        self.session.kept
+    }
+
+    /// Evaluations of the last accepted call.
+    #[must_use]
+    pub fn evaluations(&self) -> u32 {
+        self.session.evaluations
+    }
+
+    /// A model without rows whose buffers have room for n variables and m rows.
+    fn empty(n: usize, m: usize) -> Model {
+        Model {
+            session: Session::default(),
+            kinds: Vec::with_capacity(m),
+            makes: Vec::with_capacity(m),
+            params: Vec::with_capacity(m),
+            firsts: Vec::with_capacity(m),
+            counts: Vec::with_capacity(m),
+            vars: Vec::new(),
+            coefs: Vec::new(),
+            numbers: vec![0; n],
+            order: vec![0; m],
+            stored: vec![0; n],
+            results: [0; MOST_ASKED],
+            trial: vec![0; n],
+            flags: vec![0; n],
+        }
+    }
+
+    /// The model with its numbers, order and values.
+    fn built(mut self, starts: &[i32]) -> Result<Model, Refused> {
+        let tables = Tables { n: starts.len(), ..tables_of!(self) };
+        let built = Built { numbers: &mut self.numbers, order: &mut self.order, stored: &mut self.stored };
+        lent::build(&mut self.session, tables, starts, built).judged()?;
+        Ok(self)
+    }
+}
+
+/// A move as two rows. Of more pairs than a move may have only the number is kept: the call refuses it.
+struct Pairs {
+    pairs: usize,
+    vars: [u16; MOST_PAIRS],
+    values: [i32; MOST_PAIRS],
+}
+
+impl Pairs {
+    fn of(pairs: &[(u16, i32)]) -> Pairs {
+        let mut moved = Pairs { pairs: pairs.len(), vars: [0; MOST_PAIRS], values: [0; MOST_PAIRS] };
+        for ((variable, value), pair) in moved.vars.iter_mut().zip(&mut moved.values).zip(pairs) {
+            (*variable, *value) = *pair;
+        }
+        moved
+    }
+
+    fn lent(&self) -> Move<'_> {
+        Move { pairs: self.pairs, vars: &self.vars, values: &self.values }
+    }
+}

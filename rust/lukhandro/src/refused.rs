@@ -1,0 +1,49 @@
+//! Why a call was refused.
+
+use std::fmt;
+
+/// A refusal: nothing that was lent has changed.
+///
+/// ```
+/// let refused = lukhandro::Refused { number: 5, place: 3 };
+/// assert_eq!(refused.to_string(), "refused 5 3: row 3 makes a variable that an earlier row makes already");
+/// ```
+#[derive(Clone, Copy, Debug, PartialEq, Eq)]
+pub struct Refused {
+    /// Which check refused, 1 to 14.
+    pub number: u32,
+    /// The smallest row, variable, pair, asked place or byte that offends.
+    pub place: u32,
+}
+
+impl fmt::Display for Refused {
+    fn fmt(&self, f: &mut fmt::Formatter<'_>) -> fmt::Result {
+        let Refused { number, place } = self;
+        write!(f, "refused {number} {place}: ")?;
+        match number {
+            1 => write!(f, "a count is outside its bound, or a buffer is shorter than the counts ask"),
+            2 => write!(f, "row {place} has a kind that is none of the nine formulas"),
+            3 => write!(
+                f,
+                "row {place} names a variable that is not there, has a number of inputs that its kind does not take, or its entries are not the next ones"
+            ),
+            4 => write!(f, "row {place} has a coefficient or a parameter outside its bound"),
+            5 => write!(f, "row {place} makes a variable that an earlier row makes already"),
+            6 => write!(f, "variable {place} depends on itself, or on one that does"),
+            7 => write!(
+                f,
+                "variable {place} has no value and no row makes it, or a row makes it and it starts at another value than 0"
+            ),
+            8 => write!(f, "the numbers and the order are not those that build gives for these tables"),
+            9 => write!(f, "there is no such route: it is 1, 2 or 3"),
+            10 => write!(f, "pair {place} of the move names a variable that a row makes, or one that is not there"),
+            11 => write!(f, "pair {place} of the move names the variable of an earlier pair"),
+            12 => write!(f, "pair {place} of the move has no value"),
+            13 => write!(f, "place {place} of the asked list names a variable that is not there"),
+            14 => write!(f, "the file is no whole model file of version 1: it is wrong at byte {place}"),
+            _ => write!(f, "no check has this number"),
+        }
+    }
+}
+
+impl std::error::Error for Refused {}

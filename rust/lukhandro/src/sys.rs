@@ -1,0 +1,119 @@
+//! The five calls as the archive exports them. A slice is a pointer and a length.
+
+use crate::Refused;
+use crate::lent::Session;
+
+/// What build, trial, keep and write give.
+#[repr(C)]
+#[derive(Clone, Copy, Debug, PartialEq, Eq)]
+pub struct Outcome {
+    /// 0 if accepted.
+    pub number: u32,
+    /// The smallest offending index.
+    pub place: u32,
+    /// 0 if refused, and of write.
+    pub evaluations: u32,
+}
+
+/// What read gives.
+#[repr(C)]
+#[derive(Clone, Copy, Debug, PartialEq, Eq)]
+pub struct ReadOutcome {
+    /// 0 if accepted.
+    pub number: u32,
+    /// The smallest offending index.
+    pub place: u32,
+    /// Variables, 0 if refused.
+    pub n: u32,
+    /// Rows, 0 if refused.
+    pub m: u32,
+    /// Entries, 0 if refused.
+    pub e: u32,
+}
+
+impl Outcome {
+    /// The evaluations, or the refusal.
+    ///
+    /// # Errors
+    /// The refusal, if the call was refused.
+    pub fn judged(self) -> Result<u32, Refused> {
+        match self {
+            Outcome { number: 0, evaluations, .. } => Ok(evaluations),
+            Outcome { number, place, .. } => Err(Refused { number, place }),
+        }
+    }
+}
+
+impl ReadOutcome {
+    /// n, m and e, or the refusal.
+    ///
+    /// # Errors
+    /// The refusal, if the call was refused.
+    pub fn judged(self) -> Result<(usize, usize, usize), Refused> {
+        match self {
+            ReadOutcome { number: 0, n, m, e, .. } => Ok((n as usize, m as usize, e as usize)),
+            ReadOutcome { number, place, .. } => Err(Refused { number, place }),
+        }
+    }
+}
+
+#[rustfmt::skip]
+unsafe extern "C" {
+    /// Numbers, order and values from tables and start values.
+    pub fn lukhandro_build(
+        session: *mut Session, n: usize, m: usize, e: usize,
+        kinds: *const u16, kinds_length: usize, makes: *const u16, makes_length: usize,
+        params: *const i32, params_length: usize, firsts: *const u16, firsts_length: usize,
+        counts: *const u16, counts_length: usize, vars: *const u16, vars_length: usize,
+        coefs: *const i16, coefs_length: usize, starts: *const i32, starts_length: usize,
+        numbers: *mut u16, numbers_length: usize, order: *mut u16, order_length: usize,
+        stored: *mut i32, stored_length: usize,
+    ) -> Outcome;
+
+    /// A move tried by a route.
+    pub fn lukhandro_trial(
+        session: *mut Session, n: usize, m: usize, e: usize,
+        kinds: *const u16, kinds_length: usize, makes: *const u16, makes_length: usize,
+        params: *const i32, params_length: usize, firsts: *const u16, firsts_length: usize,
+        counts: *const u16, counts_length: usize, vars: *const u16, vars_length: usize,
+        coefs: *const i16, coefs_length: usize, numbers: *const u16, numbers_length: usize,
+        order: *const u16, order_length: usize, stored: *const i32, stored_length: usize,
+        pairs: usize, move_vars: *const u16, move_vars_length: usize,
+        move_values: *const i32, move_values_length: usize,
+        asked: usize, asked_vars: *const u16, asked_vars_length: usize, route: u32,
+        results: *mut i32, results_length: usize, trial: *mut i32, trial_length: usize,
+        flags: *mut u8, flags_length: usize,
+    ) -> Outcome;
+
+    /// A move kept.
+    pub fn lukhandro_keep(
+        session: *mut Session, n: usize, m: usize, e: usize,
+        kinds: *const u16, kinds_length: usize, makes: *const u16, makes_length: usize,
+        params: *const i32, params_length: usize, firsts: *const u16, firsts_length: usize,
+        counts: *const u16, counts_length: usize, vars: *const u16, vars_length: usize,
+        coefs: *const i16, coefs_length: usize, numbers: *const u16, numbers_length: usize,
+        order: *const u16, order_length: usize, stored: *mut i32, stored_length: usize,
+        pairs: usize, move_vars: *const u16, move_vars_length: usize,
+        move_values: *const i32, move_values_length: usize,
+        flags: *mut u8, flags_length: usize,
+    ) -> Outcome;
+
+    /// Tables from a file.
+    pub fn lukhandro_read(
+        bytes: *const u8, bytes_length: usize, starts: *mut i32, starts_length: usize,
+        kinds: *mut u16, kinds_length: usize, makes: *mut u16, makes_length: usize,
+        params: *mut i32, params_length: usize, firsts: *mut u16, firsts_length: usize,
+        counts: *mut u16, counts_length: usize, vars: *mut u16, vars_length: usize,
+        coefs: *mut i16, coefs_length: usize,
+    ) -> ReadOutcome;
+
+    /// A file from tables.
+    pub fn lukhandro_write(
+        n: usize, m: usize, e: usize, starts: *const i32, starts_length: usize,
+        kinds: *const u16, kinds_length: usize, makes: *const u16, makes_length: usize,
+        params: *const i32, params_length: usize, firsts: *const u16, firsts_length: usize,
+        counts: *const u16, counts_length: usize, vars: *const u16, vars_length: usize,
+        coefs: *const i16, coefs_length: usize,
+        bytes: *mut u8, bytes_length: usize,
+    ) -> Outcome;
+}

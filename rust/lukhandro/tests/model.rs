@@ -1,0 +1,112 @@
+//! The model that owns its buffers.
+
+use lukhandro::{BLANK, Kind, Model, Refused, Route, Row};
+
+fn refused(number: u32, place: u32) -> Refused {
+    Refused { number, place }
+}
+
+/// Model A of the specification.
+fn model_a() -> Model {
+    let rows = [Row::departures(3, 0, 1, 2), Row::last(4, 0, 1, 2), Row::linear(5, 2, &[(3, 4)])];
+    Model::build(&[25200, 28800, 600, 0, 0, 0], &rows).expect("model A")
+}
+
+#[test]
+fn a_model_is_built() {
+    let sheet = model_a();
+    assert_eq!(sheet.stored(), [25200, 28800, 600, 6, 28200, 26]);
+    assert_eq!(sheet.numbers(), [0, 0, 0, 1, 1, 2]);
+    assert_eq!(sheet.order(), [0, 1, 2]);
+    assert_eq!((sheet.kept(), sheet.evaluations()), (0, 3));
+    assert_eq!((sheet.value(5), sheet.value(6)), (Some(26), None));
+}
+
+#[test]
+fn every_formula() {
+    let rows = [
+        Row::linear(4, 1, &[(0, 2), (1, -1)]),
+        Row::min(5, &[0, 1, 2]),
+        Row::max(6, &[0, 1, 2]),
+        Row::element(7, 3, &[1, 2]),
+        Row::shared(8, &[0, 1, 2]),
+        Row::count(9, 5, &[0, 1, 2]),
+        Row::over(10, 2, 0),
+        Row::departures(11, 0, 2, 3),
+        Row::last(12, 0, 2, 3),
+    ];
+    let mut starts = vec![5, 5, 8, 1];
+    starts.resize(13, 0);
+    let sheet = Model::build(&starts, &rows).expect("a model");
+    assert_eq!(sheet.stored()[4..], [6, 5, 8, 8, 2, 2, 3, 3, 7]);
+}
+
+#[test]
+fn the_three_routes_agree() {
+    let mut sheet = model_a();
+    for (route, evaluations) in [(Route::InputToOutput, 3), (Route::OutputToInput, 2), (Route::MarkGuided, 2)] {
+        let tried = sheet.trial(&[(1, 28801)], &[5, 0, 5], route).expect("a trial");
+        assert_eq!(tried.results, [30, 25200, 30]);
+        assert_eq!(tried.evaluations, evaluations);
+        assert_eq!(tried.flags.iter().filter(|&&flag| flag == 1).count(), evaluations as usize);
+        assert_eq!(tried.values[5], 30);
+        assert_eq!(sheet.evaluations(), evaluations);
+    }
+    assert_eq!(sheet.value(5), Some(26));
+}
+
+#[test]
+fn a_blank_is_no_value() {
+    let mut sheet = model_a();
+    sheet.keep(&[(2, 0)]).expect("a keep");
+    assert_eq!(sheet.stored()[3..], [BLANK; 3]);
+    assert_eq!(sheet.value(3), None);
+}
+
+#[test]
+fn a_kept_model_goes_to_a_file_and_back() {
+    let mut sheet = model_a();
+    sheet.keep(&[(1, 28801), (2, 300)]).expect("a keep");
+    let file = sheet.write().expect("a file");
+    let again = Model::read(&file).expect("a model");
+    assert_eq!(again.stored(), sheet.stored());
+    assert_eq!(again.write().expect("a file"), file);
+    assert_eq!(Model::read(&file[..file.len() - 1]).unwrap_err(), refused(14, 20));
+}
+
+#[test]
+fn refusals_change_nothing() {
+    let mut sheet = model_a();
+    let before = sheet.stored().to_vec();
+    let many: Vec<(u16, i32)> = vec![(0, 1); 65];
+    assert_eq!(sheet.trial(&many, &[], Route::InputToOutput).unwrap_err(), refused(1, 0));
+    assert_eq!(sheet.trial(&[], &[0; 33], Route::InputToOutput).unwrap_err(), refused(1, 0));
+    assert_eq!(sheet.trial(&[], &[5, 6], Route::MarkGuided).unwrap_err(), refused(13, 1));
+    assert_eq!(sheet.keep(&many).unwrap_err(), refused(1, 0));
+    assert_eq!(sheet.keep(&[(0, 1), (3, 1)]).unwrap_err(), refused(10, 1));
+    assert_eq!(sheet.keep(&[(0, 1), (0, 1)]).unwrap_err(), refused(11, 1));
+    assert_eq!(sheet.keep(&[(0, BLANK)]).unwrap_err(), refused(12, 0));
+    assert_eq!(sheet.stored(), before);
+    assert_eq!((sheet.kept(), sheet.evaluations()), (0, 3));
+}
+
+#[test]
+fn models_that_are_too_large() {
+    let row = |inputs: usize| Row { kind: Kind::Min, makes: 1, parameter: 0, entries: vec![(0, 1); inputs] };
+    assert!(Model::build(&[1, 0], &[row(256)]).is_ok());
+    assert_eq!(Model::build(&[1, 0], &[row(257)]).unwrap_err(), refused(3, 0));
+    assert_eq!(Model::build(&[1, 0], &[row(70_000)]).unwrap_err(), refused(1, 0));
+    assert_eq!(Model::build(&[], &[]).unwrap_err(), refused(1, 0));
+    assert!(Model::build(&[1; 4096], &[]).is_ok());
+    assert_eq!(Model::build(&[1; 4097], &[]).unwrap_err(), refused(1, 0));
+}
+
+#[test]
+fn every_refusal_has_a_sentence() {
+    let sentences: Vec<String> = (1..=14).map(|number| refused(number, 7).to_string()).collect();
+    for (number, sentence) in (1..).zip(&sentences) {
+        assert!(sentence.starts_with(&format!("refused {number} 7: ")), "{sentence}");
+        assert!(!sentence.contains("no check"), "{sentence}");
+    }
+    assert!(refused(15, 0).to_string().contains("no check"));
+}

@@ -1,0 +1,135 @@
+//! The calls over the session record: the checks in the specification's order, and then the work.
+
+use crate::checks::{self, Makers, fits};
+use crate::lent::{Asked, Built, Move, Refused, Session, State, Tables, Tried};
+use crate::{order, routes};
+
+/// Fills numbers, order and stored values; gives the number of evaluations, m.
+///
+/// # Errors
+/// Refusals 1 to 7.
+pub fn build(session: &mut Session, tables: Tables<'_>, starts: &[i32], built: Built<'_>) -> Result<u32, Refused> {
+    let Tables { n, m, .. } = tables;
+    fits(&[
+        tables.fit(),
+        starts.len() >= n,
+        built.numbers.len() >= n,
+        built.order.len() >= m,
+        built.stored.len() >= n,
+    ])?;
+    let tables = tables.counted();
+    let makers = checks::tables(&tables)?;
+    let numbers = order::numbers(&tables, &makers)?;
+    checks::starts(&makers, &starts[..n])?;
+
+    let order = &mut built.order[..m];
+    let stored = &mut built.stored[..n];
+    built.numbers[..n].copy_from_slice(&numbers);
+    order::fill_order(&tables, &numbers, order);
+    stored.copy_from_slice(&starts[..n]);
+    routes::fill_values(&tables, order, stored);
+    *session = Session { kept: 0, evaluations: m as u32 };
+    Ok(session.evaluations)
+}
+
+/// Tries a move by a route, and fills the asked values, the trial values and the flags; gives the evaluations.
+///
+/// # Errors
+/// Refusals 1 to 13 without 6.
+pub fn trial(
+    session: &mut Session,
+    tables: Tables<'_>,
+    state: State<'_>,
+    moved: Move<'_>,
+    asked: Asked<'_>,
+    route: u32,
+    tried: Tried<'_>,
+) -> Result<u32, Refused> {
+    let Tables { n, m, .. } = tables;
+    fits(&[
+        tables.fit() && state.fits(n, m),
+        moved.fits() && asked.fits(tried.results),
+        tried.trial.len() >= n && tried.flags.len() >= n,
+    ])?;
+    let (tables, state, moved) = (tables.counted(), state.counted(n, m), moved.counted());
+    let asked = &asked.vars[..asked.asked];
+    let makers = model(&tables, &state)?;
+    checks::route(route)?;
+    checks::pairs(&makers, &moved)?;
+    checks::asked(n, asked)?;
+
+    let (values, flags) = (&mut tried.trial[..n], &mut tried.flags[..n]);
+    values.copy_from_slice(state.stored);
+    flags.fill(0);
+    let changed = routes::make_move(&moved, values);
+    session.evaluations = if route == 1 {
+        routes::sweep(&tables, state.order, changed, values, flags)
+    } else {
+        let waiting = if route == 2 { makers } else { routes::marked(&tables, state.order, changed, makers) };
+        let mut asking = routes::Asking { tables: &tables, waiting, values, flags };
+        asked.iter().map(|&variable| asking.ask(variable)).sum()
+    };
+    for (result, &variable) in tried.results.iter_mut().zip(asked) {
+        *result = tried.trial[usize::from(variable)];
+    }
+    Ok(session.evaluations)
+}
+
+/// Keeps a move by route 1: changes the stored values, and fills the flags; gives the evaluations.
+///
+/// # Errors
+/// Refusals 1 to 12 without 6 and 9.
+pub fn keep(
+    session: &mut Session,
+    tables: Tables<'_>,
+    numbers: &[u16],
+    order: &[u16],
+    stored: &mut [i32],
+    moved: Move<'_>,
+    flags: &mut [u8],
+) -> Result<u32, Refused> {
+    let Tables { n, m, .. } = tables;
+    let state = State { numbers, order, stored };
+    fits(&[tables.fit() && state.fits(n, m), moved.fits(), flags.len() >= n])?;
+    let (tables, state, moved) = (tables.counted(), state.counted(n, m), moved.counted());
+    let makers = model(&tables, &state)?;
+    checks::pairs(&makers, &moved)?;
+
+    let (stored, flags) = (&mut stored[..n], &mut flags[..n]);
+    flags.fill(0);
+    let changed = routes::make_move(&moved, stored);
+    session.evaluations = routes::sweep(&tables, &order[..m], changed, stored, flags);
+    session.kept = session.kept.saturating_add(1);
+    Ok(session.evaluations)
+}
+
+/// The input variables of a row: its part of the lent entries, empty if there is no such row or its part ends after e.
+#[must_use]
+pub fn inputs_of_row<'a>(m: usize, e: usize, firsts: &[u16], counts: &[u16], vars: &'a [u16], row: usize) -> &'a [u16] {
+    let part = || {
+        let first = usize::from(*firsts.get(row)?);
+        let end = first + usize::from(*counts.get(row)?);
+        if row < m && end <= e { vars.get(first..end) } else { None }
+    };
+    part().unwrap_or(&[])
+}
+
+/// Checks 2 to 5, 8 and 7, which trial and keep share, and with them the makers.
+fn model(tables: &Tables<'_>, state: &State<'_>) -> Result<Makers, Refused> {
+    let makers = checks::tables(tables)?;
+    order::holds(tables, &makers, state.numbers, state.order)?;
+    checks::stored(&makers, state.stored)?;
+    Ok(makers)
+}
+
+impl<'a> State<'a> {
+    /// Whether no buffer is shorter than the counts ask.
+    fn fits(&self, n: usize, m: usize) -> bool {
+        self.numbers.len() >= n && self.order.len() >= m && self.stored.len() >= n
+    }
+
+    /// The state without what lies beyond the counts. Check 1 has passed.
+    fn counted(&self, n: usize, m: usize) -> State<'a> {
+        State { numbers: &self.numbers[..n], order: &self.order[..m], stored: &self.stored[..n] }
+    }
+}

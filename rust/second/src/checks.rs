@@ -1,0 +1,141 @@
+//! Checks 1 to 5, 7 and 9 to 13: each over its whole input, the place the smallest offending index.
+
+use crate::formulas::{COUNT, DEPARTURES, ELEMENT, LAST, LINEAR, MAX, MIN, OVER, SHARED, suits};
+use crate::lent::{Asked, Move, Refused, Row, Tables};
+use crate::{BLANK, MOST_ASKED, MOST_ENTRIES, MOST_PAIRS, MOST_VARIABLES};
+
+const MOST_COEFFICIENT: u16 = 1_000;
+const MOST_PARAMETER: u32 = 1_000_000_000;
+
+/// Which row makes each variable: one more than the row, 0 for a search variable.
+pub(crate) type Makers = Vec<u16>;
+
+/// Check 1 over parts of it that were judged: all must be good.
+pub(crate) fn fits(good: &[bool]) -> Result<(), Refused> {
+    require(good.iter().all(|&good| good), 1)
+}
+
+/// A check whose place is 0.
+pub(crate) fn require(good: bool, number: u32) -> Result<(), Refused> {
+    if good { Ok(()) } else { Err(Refused::at(number, 0)) }
+}
+
+/// A check whose place is the first index that offends, if one does.
+fn first(number: u32, offends: Option<usize>) -> Result<(), Refused> {
+    offends.map_or(Ok(()), |place| Err(Refused::at(number, place)))
+}
+
+/// Whether n, m and e are inside their bounds.
+pub(crate) fn counts_fit(n: usize, m: usize, e: usize) -> bool {
+    (1..=MOST_VARIABLES).contains(&n) && m <= n && e <= MOST_ENTRIES
+}
+
+impl Tables<'_> {
+    /// Whether the counts are inside their bounds and no table is shorter than they ask.
+    pub(crate) fn fit(&self) -> bool {
+        let rows = [self.kinds.len(), self.makes.len(), self.params.len(), self.firsts.len(), self.counts.len()];
+        let entries = [self.vars.len(), self.coefs.len()];
+        counts_fit(self.n, self.m, self.e)
+            && rows.iter().all(|&length| length >= self.m)
+            && entries.iter().all(|&length| length >= self.e)
+    }
+}
+
+impl Move<'_> {
+    /// Whether the number of pairs is inside its bound and no buffer is shorter.
+    pub(crate) fn fits(&self) -> bool {
+        self.pairs <= MOST_PAIRS && self.vars.len() >= self.pairs && self.values.len() >= self.pairs
+    }
+}
+
+impl Asked<'_> {
+    /// Whether the number asked is inside its bound and no buffer is shorter.
+    pub(crate) fn fits(&self, results: &[i32]) -> bool {
+        self.asked <= MOST_ASKED && self.vars.len() >= self.asked && results.len() >= self.asked
+    }
+}
+
+/// Checks 2 to 5, and with them the makers. The tables hold no more than the counts ask.
+pub(crate) fn tables(tables: &Tables<'_>) -> Result<Makers, Refused> {
+    first(2, tables.kinds.iter().position(|kind| !(LINEAR..=LAST).contains(kind)))?;
+    parts(tables)?;
+    first(4, tables.rows().position(|row| !weighed(&row)))?;
+    makers(tables)
+}
+
+/// Check 3: made variables, input counts, parts that follow one another up to e, and inputs.
+fn parts(tables: &Tables<'_>) -> Result<(), Refused> {
+    let all_known = all_below(tables.vars, tables.n);
+    let mut reached = 0;
+    for row in 0..tables.m {
+        let count = usize::from(tables.counts[row]);
+        let good = usize::from(tables.makes[row]) < tables.n
+            && suits(tables.kinds[row], count)
+            && usize::from(tables.firsts[row]) == reached
+            && reached + count <= tables.e
+            && (all_known || all_below(&tables.vars[reached..reached + count], tables.n));
+        if !good {
+            return Err(Refused::at(3, row));
+        }
+        reached += count;
+    }
+    if reached == tables.e { Ok(()) } else { Err(Refused::at(3, tables.m.saturating_sub(1))) }
+}
+
+/// Whether every variable is below n.
+fn all_below(vars: &[u16], n: usize) -> bool {
+    vars.iter().copied().max().is_none_or(|greatest| usize::from(greatest) < n)
+}
+
+/// Check 4 of one row: its coefficients and its parameter.
+fn weighed(row: &Row<'_>) -> bool {
+    let coefficients_of_one = || row.coefs.iter().all(|&coefficient| coefficient == 1);
+    let parameter_fits = row.parameter.unsigned_abs() <= MOST_PARAMETER;
+    match row.kind {
+        LINEAR => parameter_fits && row.coefs.iter().all(|coefficient| coefficient.unsigned_abs() <= MOST_COEFFICIENT),
+        COUNT => parameter_fits && coefficients_of_one(),
+        MIN | MAX | ELEMENT | SHARED | OVER | DEPARTURES | LAST => row.parameter == 0 && coefficients_of_one(),
+        _ => false,
+    }
+}
+
+/// Check 5, and with it the makers.
+fn makers(tables: &Tables<'_>) -> Result<Makers, Refused> {
+    let mut makers = vec![0; tables.n];
+    for (row, (&made, one_more)) in tables.makes.iter().zip(1..).enumerate() {
+        let maker = &mut makers[usize::from(made)];
+        if *maker != 0 {
+            return Err(Refused::at(5, row));
+        }
+        *maker = one_more;
+    }
+    Ok(makers)
+}
+
+/// Check 7 of a build: search variables have a start value, made ones have 0.
+pub(crate) fn starts(makers: &[u16], starts: &[i32]) -> Result<(), Refused> {
+    let offends = |(&maker, &start): (&u16, &i32)| if maker == 0 { start == BLANK } else { start != 0 };
+    first(7, makers.iter().zip(starts).position(offends))
+}
+
+/// Check 7 of trial and keep: search variables have a value.
+pub(crate) fn stored(makers: &[u16], stored: &[i32]) -> Result<(), Refused> {
+    first(7, makers.iter().zip(stored).position(|(&maker, &value)| maker == 0 && value == BLANK))
+}
+
+/// Check 9.
+pub(crate) fn route(route: u32) -> Result<(), Refused> {
+    require((1..=3).contains(&route), 9)
+}
+
+/// Checks 10 to 12.
+pub(crate) fn pairs(makers: &[u16], moved: &Move<'_>) -> Result<(), Refused> {
+    first(10, moved.vars.iter().position(|&variable| makers.get(usize::from(variable)) != Some(&0)))?;
+    first(11, (0..moved.pairs).find(|&pair| moved.vars[..pair].contains(&moved.vars[pair])))?;
+    first(12, moved.values.iter().position(|&value| value == BLANK))
+}
+
+/// Check 13.
+pub(crate) fn asked(n: usize, vars: &[u16]) -> Result<(), Refused> {
+    first(13, vars.iter().position(|&variable| usize::from(variable) >= n))
+}

@@ -1,0 +1,39 @@
+//! A second implementation of the timetable engine, written from its specification alone.
+//!
+//! It shares no code and no table with the engine. Like the engine it works over lent slices and never keeps anything
+//! between calls, so that the answer, the session record and every byte of every buffer can be compared with what the
+//! engine leaves. All work is linear in variables, rows and entries.
+//!
+//! A call that is refused changes nothing that it was lent.
+#![forbid(unsafe_code)]
+#![warn(missing_docs)]
+
+mod calls;
+mod checks;
+mod file;
+mod formulas;
+mod lent;
+mod order;
+mod routes;
+
+pub use calls::{build, inputs_of_row, keep, trial};
+pub use file::{read, write};
+pub use lent::{Asked, Built, Move, Refused, Session, State, Tables, TablesMut, Tried};
+
+/// No value: the one 32-bit number that is no value of a variable.
+pub const BLANK: i32 = i32::MIN;
+
+/// The most variables of a model.
+pub const MOST_VARIABLES: usize = 4096;
+
+/// The most input entries of a model.
+pub const MOST_ENTRIES: usize = 16384;
+
+/// The most inputs of one row.
+pub const MOST_INPUTS: usize = 256;
+
+/// The most pairs of a move.
+pub const MOST_PAIRS: usize = 64;
+
+/// The most variables that a trial may ask.
+pub const MOST_ASKED: usize = 32;

@@ -1,0 +1,94 @@
+//! The second implementation against the definitions: random calls on tiny models, byte by byte.
+
+mod naive;
+
+use compare::{Call, Case, Engine, Second, Sizes, compare, model, run, seed};
+use naive::Naive;
+
+#[test]
+fn agrees_with_the_definitions() {
+    let seed = seed();
+    println!("seed {seed}");
+    let tally = run(&Second, &Naive, seed, 200_000, |random| model(random, Sizes::TINY));
+    let tally = tally.unwrap_or_else(|difference| panic!("seed {seed}\n{difference}"));
+    println!("{tally:?}");
+    assert!(tally.by_number.iter().all(|&calls| calls > 100), "every number comes back often: {tally:?}");
+    assert!(tally.accepted.iter().all(|&calls| calls > 1_000), "every call is accepted often: {tally:?}");
+}
+
+/// An engine with one fault that is easy to write.
+struct Faulty(fn(&Case, &mut Case));
+
+impl Engine for Faulty {
+    fn answer(&self, case: &mut Case) -> compare::Answer {
+        let lent = case.clone();
+        let mut answer = Second.answer(case);
+        if answer.number == 0 {
+            self.0(&lent, case);
+            answer.evaluations =
+                if matches!(case.call, Call::Read | Call::Write) { 0 } else { case.session.evaluations };
+        }
+        answer
+    }
+}
+
+/// Finds the fault, and says how many rows the smallest case has on which it shows.
+fn found(fault: fn(&Case, &mut Case)) -> usize {
+    let found = run(&Faulty(fault), &Naive, 1, 20_000, |random| model(random, Sizes::TINY)).expect_err("a difference");
+    assert!(compare(&Faulty(fault), &Naive, &found.case).is_err(), "the small case still shows the fault");
+    found.case.m
+}
+
+#[test]
+fn finds_a_buffer_of_another_length() {
+    let fault = |_: &Case, case: &mut Case| case.trial = vec![0; case.trial.len() + 1].into();
+    assert_eq!(found(fault), 0);
+}
+
+#[test]
+fn finds_values_left_beyond_the_count() {
+    let fault = |_: &Case, case: &mut Case| {
+        if let Some(beyond) = case.flags.get_mut(case.n) {
+            *beyond = 0;
+        }
+    };
+    assert_eq!(found(fault), 0);
+}
+
+#[test]
+fn finds_old_values_put_back_only_where_asked() {
+    let fault = |lent: &Case, case: &mut Case| {
+        let asked = &case.asked_vars[..case.asked];
+        for variable in (0..case.n).filter(|&variable| case.call == Call::Trial && !asked.contains(&(variable as u16)))
+        {
+            case.trial[variable] = lent.trial[variable];
+        }
+    };
+    assert_eq!(found(fault), 0);
+}
+
+#[test]
+fn finds_a_count_fixed_at_m() {
+    let fault = |_: &Case, case: &mut Case| {
+        if case.call == Call::Trial {
+            case.session.evaluations = case.m as u32;
+        }
+    };
+    assert!(found(fault) <= 1);
+}
+
+#[test]
+fn finds_a_keep_that_leaves_the_values() {
+    let fault = |lent: &Case, case: &mut Case| {
+        if case.call == Call::Keep {
+            case.stored = lent.stored.clone();
+        }
+    };
+    assert_eq!(found(fault), 0);
+}
+
+#[test]
+fn finds_a_record_that_keeps_its_count() {
+    let fault = |lent: &Case, case: &mut Case| case.session.kept = lent.session.kept;
+    assert_eq!(found(fault), 0);
+}

@@ -1,0 +1,497 @@
+//! A third version of the calls, straight from the definitions and with no thought of time: for tiny models only.
+//!
+//! A check is the list of all places that offend; a value is worked out anew each time it is looked at.
+
+use std::collections::BTreeSet;
+
+use compare::{Answer, Call, Case, Engine};
+use second::{BLANK, Refused};
+
+/// The definitions as an engine.
+#[derive(Clone, Copy, Debug)]
+pub struct Naive;
+
+/// Variable and coefficient of each input.
+type Inputs = Vec<(usize, i128)>;
+
+/// A row as the specification speaks of it.
+struct Row {
+    kind: u16,
+    makes: usize,
+    parameter: i128,
+    inputs: Inputs,
+}
+
+/// A model: n variables and the rows, whose tables have passed checks 1 to 3.
+struct Model {
+    n: usize,
+    rows: Vec<Row>,
+}
+
+/// A check: its number and every place that offends.
+type Check = (u32, Vec<usize>);
+
+impl Engine for Naive {
+    fn answer(&self, case: &mut Case) -> Answer {
+        if case.call == Call::Read {
+            return read(case);
+        }
+        match verdict(case) {
+            Some(refused) => Answer::refused(refused),
+            None => accepted(case),
+        }
+    }
+}
+
+/// The first check with an offending place, and the smallest such place.
+fn first(checks: impl IntoIterator<Item = Check>) -> Option<Refused> {
+    let (number, places) = checks.into_iter().find(|(_, places)| !places.is_empty())?;
+    Some(Refused { number, place: places.into_iter().min()? as u32 })
+}
+
+/// A check with place 0.
+fn fixed(number: u32, good: bool) -> Check {
+    (number, if good { vec![] } else { vec![0] })
+}
+
+/// The places below `end` that offend.
+fn places(number: u32, end: usize, offends: impl Fn(usize) -> bool) -> Check {
+    (number, (0..end).filter(|&place| offends(place)).collect())
+}
+
+fn verdict(case: &Case) -> Option<Refused> {
+    let check_1 = fixed(1, check_1(case));
+    if case.call == Call::Write || !check_1.1.is_empty() {
+        return first([check_1]);
+    }
+    first([check_2(case), check_3(case)]).or_else(|| {
+        let model = Model::of(case);
+        let mut checks = vec![check_4(&model), check_5(&model)];
+        match case.call {
+            Call::Build => checks.extend([model.check_6(), model.check_7(case)]),
+            Call::Trial => {
+                checks.extend([model.check_8(case), model.check_7(case), fixed(9, [1, 2, 3].contains(&case.route))]);
+                checks.extend(model.checks_10_to_12(case));
+                checks.push(places(13, case.asked, |place| usize::from(case.asked_vars[place]) >= case.n));
+            }
+            _ => {
+                checks.extend([model.check_8(case), model.check_7(case)]);
+                checks.extend(model.checks_10_to_12(case));
+            }
+        }
+        first(checks)
+    })
+}
+
+/// Check 1 of every call but read.
+fn check_1(case: &Case) -> bool {
+    let Case { n, m, e, pairs, asked, .. } = *case;
+    let counts = (1..=4096).contains(&n) && m <= n && e <= 16384;
+    let tables = counts
+        && case.kinds.len() >= m
+        && case.makes.len() >= m
+        && case.params.len() >= m
+        && case.firsts.len() >= m
+        && case.counts.len() >= m
+        && case.vars.len() >= e
+        && case.coefs.len() >= e;
+    let state = case.numbers.len() >= n && case.order.len() >= m && case.stored.len() >= n;
+    let moved = pairs <= 64 && case.move_vars.len() >= pairs && case.move_values.len() >= pairs;
+    let keep = tables && state && moved && case.flags.len() >= n;
+    let questions = asked <= 32 && case.asked_vars.len() >= asked && case.results.len() >= asked;
+    match case.call {
+        Call::Build => tables && state && case.starts.len() >= n,
+        Call::Trial => keep && questions && case.trial.len() >= n,
+        Call::Keep => keep,
+        Call::Read => true,
+        Call::Write => tables && case.starts.len() >= n && case.bytes.len() >= 24 + 4 * n + 12 * m + 4 * e,
+    }
+}
+
+fn check_2(case: &Case) -> Check {
+    places(2, case.m, |row| case.kinds[row] < 1 || case.kinds[row] > 9)
+}
+
+fn check_3(case: &Case) -> Check {
+    let before = |row: usize| case.counts[..row].iter().map(|&count| u64::from(count)).sum::<u64>();
+    let offends = |row: usize| {
+        let count = u64::from(case.counts[row]);
+        let suits = match case.kinds[row] {
+            4 => (2..=256).contains(&count),
+            7 => count == 2,
+            8 | 9 => count == 3,
+            _ => (1..=256).contains(&count),
+        };
+        let placed = u64::from(case.firsts[row]) == before(row) && before(row) + count <= case.e as u64;
+        let known = |variable: u16| usize::from(variable) < case.n;
+        !(known(case.makes[row]) && suits && placed)
+            || (before(row)..before(row) + count).any(|entry| !known(case.vars[entry as usize]))
+    };
+    let (number, mut offending) = places(3, case.m, offends);
+    if offending.is_empty() && before(case.m) != case.e as u64 {
+        offending.push(if case.m == 0 { 0 } else { case.m - 1 });
+    }
+    (number, offending)
+}
+
+fn check_4(model: &Model) -> Check {
+    places(4, model.rows.len(), |row| {
+        let Row { kind, parameter, ref inputs, .. } = model.rows[row];
+        let coefficients = if kind == 1 { -1000..=1000 } else { 1..=1 };
+        let parameters = if kind == 1 || kind == 6 { -1_000_000_000..=1_000_000_000 } else { 0..=0 };
+        !parameters.contains(&parameter) || inputs.iter().any(|(_, coefficient)| !coefficients.contains(coefficient))
+    })
+}
+
+fn check_5(model: &Model) -> Check {
+    places(5, model.rows.len(), |row| model.rows[..row].iter().any(|earlier| earlier.makes == model.rows[row].makes))
+}
+
+impl Model {
+    fn of(case: &Case) -> Model {
+        let row = |row: usize| {
+            let first = usize::from(case.firsts[row]);
+            let entry = |entry: usize| (usize::from(case.vars[entry]), i128::from(case.coefs[entry]));
+            Row {
+                kind: case.kinds[row],
+                makes: usize::from(case.makes[row]),
+                parameter: i128::from(case.params[row]),
+                inputs: (first..first + usize::from(case.counts[row])).map(entry).collect(),
+            }
+        };
+        Model { n: case.n, rows: (0..case.m).map(row).collect() }
+    }
+
+    /// The row that makes a variable.
+    fn maker(&self, variable: usize) -> Option<&Row> {
+        self.rows.iter().find(|row| row.makes == variable)
+    }
+
+    /// The topological number of a variable, unless more than this many steps lead on from it.
+    fn number(&self, variable: usize, steps: usize) -> Option<usize> {
+        let Some(row) = self.maker(variable) else { return Some(0) };
+        let steps = steps.checked_sub(1)?;
+        let mut greatest = 0;
+        for &(input, _) in &row.inputs {
+            greatest = greatest.max(self.number(input, steps)?);
+        }
+        Some(1 + greatest)
+    }
+
+    /// The order: rows by number, ties by row; none if the model is circular.
+    fn order(&self) -> Option<Vec<usize>> {
+        let numbers: Option<Vec<usize>> = self.rows.iter().map(|row| self.number(row.makes, self.n)).collect();
+        let numbers = numbers?;
+        let mut order: Vec<usize> = (0..self.rows.len()).collect();
+        order.sort_by_key(|&row| (numbers[row], row));
+        Some(order)
+    }
+
+    fn check_6(&self) -> Check {
+        places(6, self.n, |variable| self.number(variable, self.n).is_none())
+    }
+
+    fn check_7(&self, case: &Case) -> Check {
+        places(7, self.n, |variable| match (case.call, self.maker(variable)) {
+            (Call::Build, None) => case.starts[variable] == BLANK,
+            (Call::Build, Some(_)) => case.starts[variable] != 0,
+            (_, None) => case.stored[variable] == BLANK,
+            (_, Some(_)) => false,
+        })
+    }
+
+    fn check_8(&self, case: &Case) -> Check {
+        let numbered = (0..self.n).all(|variable| self.number(variable, self.n) == Some(case.numbers[variable].into()));
+        let lent: Vec<usize> = case.order[..case.m].iter().map(|&row| usize::from(row)).collect();
+        fixed(8, numbered && self.order() == Some(lent))
+    }
+
+    fn checks_10_to_12(&self, case: &Case) -> [Check; 3] {
+        let variable = |pair: usize| usize::from(case.move_vars[pair]);
+        [
+            places(10, case.pairs, |pair| variable(pair) >= self.n || self.maker(variable(pair)).is_some()),
+            places(11, case.pairs, |pair| (0..pair).any(|earlier| variable(earlier) == variable(pair))),
+            places(12, case.pairs, |pair| case.move_values[pair] == BLANK),
+        ]
+    }
+}
+
+/// What an accepted call leaves, and its answer.
+fn accepted(case: &mut Case) -> Answer {
+    if case.call == Call::Write {
+        let file = file(case);
+        case.bytes[..file.len()].copy_from_slice(&file);
+        return Answer::default();
+    }
+    let model = Model::of(case);
+    if case.call == Call::Build {
+        return build(case, &model);
+    }
+    let (new, evaluated) = {
+        let route = Route { model: &model, case };
+        let number = if case.call == Call::Keep { 1 } else { case.route };
+        let evaluated = route.evaluated(number);
+        let new: Vec<i32> = (0..case.n).map(|variable| route.left(number, &evaluated, variable)).collect();
+        (new, evaluated)
+    };
+    let values = if case.call == Call::Keep { &mut case.stored } else { &mut case.trial };
+    values[..new.len()].copy_from_slice(&new);
+    for variable in 0..case.n {
+        case.flags[variable] = u8::from(evaluated.contains(&variable));
+    }
+    if case.call == Call::Trial {
+        for place in 0..case.asked {
+            case.results[place] = new[usize::from(case.asked_vars[place])];
+        }
+    } else {
+        case.session.kept = case.session.kept.saturating_add(1);
+    }
+    case.session.evaluations = evaluated.len() as u32;
+    Answer { evaluations: case.session.evaluations, ..Answer::default() }
+}
+
+fn build(case: &mut Case, model: &Model) -> Answer {
+    let route = Route { model, case };
+    let values: Vec<i32> = (0..case.n).map(|variable| route.fresh(variable, &|search| case.starts[search])).collect();
+    let numbers: Vec<u16> = (0..case.n).map(|variable| model.number(variable, case.n).unwrap() as u16).collect();
+    let order: Vec<u16> = model.order().unwrap().into_iter().map(|row| row as u16).collect();
+    case.stored[..values.len()].copy_from_slice(&values);
+    case.numbers[..numbers.len()].copy_from_slice(&numbers);
+    case.order[..order.len()].copy_from_slice(&order);
+    case.session.kept = 0;
+    case.session.evaluations = case.m as u32;
+    Answer { evaluations: case.session.evaluations, ..Answer::default() }
+}
+
+/// The rules of the routes over one case.
+struct Route<'a> {
+    model: &'a Model,
+    case: &'a Case,
+}
+
+impl Route<'_> {
+    fn old(&self, variable: usize) -> i32 {
+        self.case.stored[variable]
+    }
+
+    /// The new value of a search variable.
+    fn moved(&self, variable: usize) -> i32 {
+        let pair = (0..self.case.pairs).find(|&pair| usize::from(self.case.move_vars[pair]) == variable);
+        pair.map_or(self.old(variable), |pair| self.case.move_values[pair])
+    }
+
+    /// The value from the formulas alone, given the search variables.
+    fn fresh(&self, variable: usize, search: &dyn Fn(usize) -> i32) -> i32 {
+        match self.model.maker(variable) {
+            None => search(variable),
+            Some(row) => formula(row, &|input| self.fresh(input, search)),
+        }
+    }
+
+    /// Route 1: whether some input's new value differs from the old one.
+    fn differs(&self, row: &Row) -> bool {
+        row.inputs.iter().any(|&(input, _)| self.swept(input) != self.old(input))
+    }
+
+    /// Route 1: the new value.
+    fn swept(&self, variable: usize) -> i32 {
+        match self.model.maker(variable) {
+            None => self.moved(variable),
+            Some(row) if self.differs(row) => formula(row, &|input| self.swept(input)),
+            Some(_) => self.old(variable),
+        }
+    }
+
+    /// Route 3: whether a variable is marked.
+    fn marked(&self, variable: usize) -> bool {
+        match self.model.maker(variable) {
+            None => self.moved(variable) != self.old(variable),
+            Some(row) => row.inputs.iter().any(|&(input, _)| self.marked(input)),
+        }
+    }
+
+    /// Route 3: the new value.
+    fn guided(&self, variable: usize) -> i32 {
+        match self.model.maker(variable) {
+            None => self.moved(variable),
+            Some(_) if !self.marked(variable) => self.old(variable),
+            Some(row) => formula(row, &|input| self.guided(input)),
+        }
+    }
+
+    /// The new value by a route.
+    fn new_value(&self, route: u32, variable: usize) -> i32 {
+        match route {
+            1 => self.swept(variable),
+            2 => self.fresh(variable, &|search| self.moved(search)),
+            _ => self.guided(variable),
+        }
+    }
+
+    /// Adds a variable to those needed, with all that it asks in turn.
+    fn need(&self, route: u32, variable: usize, needed: &mut BTreeSet<usize>) {
+        needed.insert(variable);
+        let Some(row) = self.model.maker(variable) else { return };
+        if route == 3 && !self.marked(variable) {
+            return;
+        }
+        for (place, &(input, _)) in row.inputs.iter().enumerate() {
+            let index = || i64::from(self.new_value(route, row.inputs[0].0));
+            if row.kind != 4 || place == 0 || index() == place as i64 - 1 {
+                self.need(route, input, needed);
+            }
+        }
+    }
+
+    /// The variables that a route evaluates.
+    fn evaluated(&self, route: u32) -> BTreeSet<usize> {
+        if route == 1 {
+            return self.model.rows.iter().filter(|row| self.differs(row)).map(|row| row.makes).collect();
+        }
+        let mut needed = BTreeSet::new();
+        for place in 0..self.case.asked {
+            self.need(route, usize::from(self.case.asked_vars[place]), &mut needed);
+        }
+        needed.retain(|&variable| self.model.maker(variable).is_some() && (route == 2 || self.marked(variable)));
+        needed
+    }
+
+    /// The value that a call leaves: the new one of a variable moved or evaluated, the old one elsewhere.
+    fn left(&self, route: u32, evaluated: &BTreeSet<usize>, variable: usize) -> i32 {
+        if evaluated.contains(&variable) {
+            self.new_value(route, variable)
+        } else if self.model.maker(variable).is_none() {
+            self.moved(variable)
+        } else {
+            self.old(variable)
+        }
+    }
+}
+
+/// The formula of a row over the values of variables.
+fn formula(row: &Row, value: &dyn Fn(usize) -> i32) -> i32 {
+    let input = |place: usize| row.inputs.get(place).map_or(BLANK, |&(variable, _)| value(variable));
+    if row.kind == 4 {
+        let index = i64::from(input(0));
+        let chosen = 0 <= index && index < row.inputs.len() as i64 - 1;
+        return if chosen { input(1 + index as usize) } else { BLANK };
+    }
+    let inputs: Vec<i32> = (0..row.inputs.len()).map(input).collect();
+    if inputs.contains(&BLANK) {
+        return BLANK;
+    }
+    let exact = |place: usize| i128::from(inputs[place]);
+    let result = match row.kind {
+        1 => Some(row.parameter + row.inputs.iter().zip(&inputs).map(|(&(_, c), &x)| c * i128::from(x)).sum::<i128>()),
+        2 => inputs.iter().min().map(|&least| least.into()),
+        3 => inputs.iter().max().map(|&greatest| greatest.into()),
+        5 => Some(count(inputs.len(), |i| (0..inputs.len()).any(|j| j != i && inputs[j] == inputs[i]))),
+        6 => Some(count(inputs.len(), |i| exact(i) == row.parameter)),
+        7 => Some(if exact(0) > exact(1) { exact(0) - exact(1) } else { 0 }),
+        8 => departures(exact(0), exact(1), exact(2)),
+        9 => departures(exact(0), exact(1), exact(2))
+            .filter(|&trips| trips > 0)
+            .map(|trips| exact(0) + (trips - 1) * exact(2)),
+        _ => None,
+    };
+    let in_range = |exact: i128| (-2_147_483_647..=2_147_483_647).contains(&exact);
+    result.filter(|&exact| in_range(exact)).map_or(BLANK, |exact| exact as i32)
+}
+
+fn count(end: usize, holds: impl Fn(usize) -> bool) -> i128 {
+    (0..end).filter(|&place| holds(place)).count() as i128
+}
+
+/// How many times start + k headway lie strictly before end; none if the headway is 0 or less.
+///
+/// Times ascend, so the number is the least k whose time is not before end: found by doubling and halving.
+fn departures(start: i128, end: i128, headway: i128) -> Option<i128> {
+    let before = |k: i128| start + k * headway < end;
+    if headway <= 0 {
+        return None;
+    }
+    let mut step = 1;
+    while before(step) {
+        step *= 2;
+    }
+    let mut trips = 0;
+    while step > 0 {
+        if before(trips + step - 1) {
+            trips += step;
+        }
+        step /= 2;
+    }
+    Some(trips)
+}
+
+/// The bytes of a model's file.
+fn file(case: &Case) -> Vec<u8> {
+    let Case { n, m, e, .. } = *case;
+    let mut file = Vec::new();
+    for short in [1, n, m, e] {
+        file.extend((short as u16).to_le_bytes());
+    }
+    for long in [24, 24 + 4 * n, 24 + 4 * n + 12 * m, 24 + 4 * n + 12 * m + 4 * e] {
+        file.extend((long as u32).to_le_bytes());
+    }
+    case.starts[..n].iter().for_each(|start| file.extend(start.to_le_bytes()));
+    for row in 0..m {
+        file.extend(case.kinds[row].to_le_bytes());
+        file.extend(case.makes[row].to_le_bytes());
+        file.extend(case.params[row].to_le_bytes());
+        file.extend(case.firsts[row].to_le_bytes());
+        file.extend(case.counts[row].to_le_bytes());
+    }
+    for entry in 0..e {
+        file.extend(case.vars[entry].to_le_bytes());
+        file.extend(case.coefs[entry].to_le_bytes());
+    }
+    file
+}
+
+/// Reading: the header's fields in turn, then the lengths of the lent tables.
+fn read(case: &mut Case) -> Answer {
+    let bytes = case.bytes.to_vec();
+    if bytes.len() < 24 {
+        return Answer::refused(Refused { number: 14, place: bytes.len() as u32 });
+    }
+    let field = |at: usize, width: usize| (0..width).map(|i| usize::from(bytes[at + i]) << (8 * i)).sum::<usize>();
+    let (n, m, e) = (field(2, 2), field(4, 2), field(6, 2));
+    let fields = [
+        (0, field(0, 2) == 1),
+        (2, (1..=4096).contains(&n)),
+        (4, m <= n),
+        (6, e <= 16384),
+        (8, field(8, 4) == 24),
+        (12, field(12, 4) == 24 + 4 * n),
+        (16, field(16, 4) == 24 + 4 * n + 12 * m),
+        (20, field(20, 4) == 24 + 4 * n + 12 * m + 4 * e && field(20, 4) == bytes.len()),
+    ];
+    if let Some(&(place, _)) = fields.iter().find(|(_, right)| !right) {
+        return Answer::refused(Refused { number: 14, place });
+    }
+    let rows = [&case.kinds, &case.makes, &case.firsts, &case.counts];
+    let long = case.starts.len() >= n
+        && rows.iter().all(|table| table.len() >= m)
+        && case.params.len() >= m
+        && case.vars.len() >= e
+        && case.coefs.len() >= e;
+    if !long {
+        return Answer::refused(Refused { number: 1, place: 0 });
+    }
+    let (rows, entries) = (24 + 4 * n, 24 + 4 * n + 12 * m);
+    (0..n).for_each(|variable| case.starts[variable] = field(24 + 4 * variable, 4) as u32 as i32);
+    for row in 0..m {
+        let at = rows + 12 * row;
+        case.kinds[row] = field(at, 2) as u16;
+        case.makes[row] = field(at + 2, 2) as u16;
+        case.params[row] = field(at + 4, 4) as u32 as i32;
+        case.firsts[row] = field(at + 8, 2) as u16;
+        case.counts[row] = field(at + 10, 2) as u16;
+    }
+    for entry in 0..e {
+        case.vars[entry] = field(entries + 4 * entry, 2) as u16;
+        case.coefs[entry] = field(entries + 4 * entry + 2, 2) as u16 as i16;
+    }
+    Answer { n: n as u32, m: m as u32, e: e as u32, ..Answer::default() }
+}

@@ -1,0 +1,64 @@
+//! Every run that the specification names, and both sides of the edge of every refusal.
+
+mod naive;
+
+use compare::deep::deepest_models;
+use compare::edges::EDGES;
+use compare::files::FILES;
+use compare::runs::{RUNS, model_a};
+use compare::{Case, Engine, Second, Test};
+use naive::Naive;
+
+fn hold(tests: &[Test], engine: &dyn Engine) {
+    for (name, test) in tests {
+        println!("{name}");
+        test(engine);
+    }
+}
+
+#[test]
+fn runs() {
+    hold(RUNS, &Second);
+}
+
+#[test]
+fn refusals_on_both_sides() {
+    hold(EDGES, &Second);
+}
+
+#[test]
+fn runs_by_the_definitions() {
+    hold(RUNS, &Naive);
+}
+
+#[test]
+fn refusals_by_the_definitions() {
+    let tiny = |name: &str| !["1: counts", "6", "14: bounds"].contains(&name);
+    let tests: Vec<_> = EDGES.iter().copied().filter(|(name, _)| tiny(name)).collect();
+    hold(&tests, &Naive);
+}
+
+#[test]
+fn files_there_and_back() {
+    hold(FILES, &Second);
+}
+
+#[test]
+fn the_deepest_models_on_a_small_stack() {
+    deepest_models(Second);
+}
+
+#[test]
+fn inputs_of_a_row() {
+    let Case { m, e, firsts, counts, vars, .. } = model_a();
+    let inputs = |m, e, row| second::inputs_of_row(m, e, &firsts, &counts, &vars, row).to_vec();
+    assert_eq!(inputs(m, e, 1), [0, 1, 2]);
+    assert_eq!(inputs(m, e, 2), [3]);
+    assert_eq!(inputs(m, e, 3), [0; 0], "no such row");
+    assert_eq!(inputs(4, e, 3), [0; 0], "no such row in the tables");
+    assert_eq!(inputs(m, 6, 2), [0; 0], "a part that ends after e");
+    assert_eq!(inputs(m, 6, 1), [0, 1, 2], "a part that ends at e");
+    assert_eq!(inputs(m, 99, 2), [3], "e beyond the entries");
+    let part = second::inputs_of_row(m, e, &firsts, &counts, &vars, 1);
+    assert!(std::ptr::eq(part, &vars[3..6]), "the very part");
+}

@@ -1,0 +1,12 @@
+/* What the programs use of <stdint.h>. */
+#ifndef STDINT_H
+#define STDINT_H
+typedef __INT16_TYPE__ int16_t;
+typedef __INT32_TYPE__ int32_t;
+typedef __UINT8_TYPE__ uint8_t;
+typedef __UINT16_TYPE__ uint16_t;
+typedef __UINT32_TYPE__ uint32_t;
+typedef __UINT64_TYPE__ uint64_t;
+#define INT32_MIN (-2147483647 - 1)
+#define UINT32_MAX 4294967295u
+#endif

@@ -1,0 +1,122 @@
+/* Answers calls that come on standard input, for a caller who cannot link the archive.
+ *
+ * A request is a `struct request` and a block of bytes. The record and the buffers lie in the block where the request
+ * says, between guards that the caller has put there, and the call is made on them where they lie: each is lent as a
+ * pointer into the block and the length that the request gives, or as a null pointer if the length is 0. The answer is
+ * a `struct answer` and the whole block as the call left it, so that the caller sees every byte, guards too. Numbers
+ * are little-endian.
+ *
+ * At the end of its input the program ends with status 0. It ends with status 2 if the input breaks off or a buffer
+ * does not lie in the block, with 3 if there is no memory, and with 4 if the answer cannot be written. */
+#include <stdlib.h>
+#include <unistd.h>
+#include "lukhandro.h"
+
+enum call { BUILD, TRIAL, KEEP, READ, WRITE };
+
+enum buffer {
+    SESSION, KINDS, MAKES, PARAMS, FIRSTS, COUNTS, VARS, COEFS, STARTS, NUMBERS, ORDER, STORED, MOVE_VARS, MOVE_VALUES,
+    ASKED_VARS, RESULTS, TRIED, FLAGS, BYTES, BUFFERS
+};
+
+/* Bytes of one element of each buffer; the record is one element. */
+static const uint64_t width[BUFFERS] = {8, 2, 2, 4, 2, 2, 2, 2, 4, 2, 2, 4, 2, 4, 2, 4, 4, 1, 1};
+
+struct request {
+    uint64_t call, n, m, e, pairs, asked, route;
+    uint64_t block; /* bytes of the block */
+    struct { uint64_t place, length; } lent[BUFFERS]; /* first byte in the block, elements */
+};
+
+struct answer {
+    uint32_t number, place, evaluations, n, m, e; /* what the call does not give is 0 */
+};
+
+static struct request request;
+static struct answer *answer; /* the block follows it, and both go out together */
+static unsigned char *block;
+static uint64_t room; /* bytes of the largest block so far */
+
+/* Reads that many bytes: whether they came. Nothing at all is the end of the input, if it may be. */
+static int take(void *bytes, uint64_t count, int may_end) {
+    uint64_t done = 0;
+    while (done < count) {
+        ssize_t got = read(0, (char *)bytes + done, count - done);
+        if (got == 0 && done == 0 && may_end) return 0;
+        if (got <= 0) exit(2);
+        done += (uint64_t)got;
+    }
+    return 1;
+}
+
+static void give(const void *bytes, uint64_t count) {
+    uint64_t done = 0;
+    while (done < count) {
+        ssize_t gone = write(1, (const char *)bytes + done, count - done);
+        if (gone <= 0) exit(4);
+        done += (uint64_t)gone;
+    }
+}
+
+/* Makes the block as long as the request says, and reads it. */
+static void take_block(void) {
+    if (answer == NULL || request.block > room) {
+        if (request.block > UINT32_MAX) exit(3);
+        room = request.block;
+        answer = realloc(answer, sizeof *answer + room);
+        if (answer == NULL) exit(3);
+        block = (unsigned char *)(answer + 1);
+    }
+    take(block, request.block, 0);
+    for (int which = 0; which < BUFFERS; which++) {
+        uint64_t place = request.lent[which].place, length = request.lent[which].length;
+        if (place > request.block || place % width[which] != 0) exit(2);
+        if (length > (request.block - place) / width[which]) exit(2);
+    }
+    if (request.lent[SESSION].length != 1) exit(2);
+}
+
+#define COUNTED request.n, request.m, request.e
+#define LENT(which) (request.lent[which].length == 0 ? NULL : (void *)(block + request.lent[which].place)), \
+    request.lent[which].length
+#define ROWS_AND_ENTRIES LENT(KINDS), LENT(MAKES), LENT(PARAMS), LENT(FIRSTS), LENT(COUNTS), LENT(VARS), LENT(COEFS)
+#define MOVE request.pairs, LENT(MOVE_VARS), LENT(MOVE_VALUES)
+
+static struct answer of_call(lukhandro_outcome outcome) {
+    return (struct answer){outcome.number, outcome.place, outcome.evaluations, 0, 0, 0};
+}
+
+static struct answer of_read(lukhandro_read_outcome outcome) {
+    return (struct answer){outcome.number, outcome.place, 0, outcome.n, outcome.m, outcome.e};
+}
+
+static struct answer made(void) {
+    lukhandro_session *session = (void *)(block + request.lent[SESSION].place);
+    switch (request.call) {
+    case BUILD:
+        return of_call(lukhandro_build(session, COUNTED, ROWS_AND_ENTRIES, LENT(STARTS), LENT(NUMBERS), LENT(ORDER),
+            LENT(STORED)));
+    case TRIAL:
+        return of_call(lukhandro_trial(session, COUNTED, ROWS_AND_ENTRIES, LENT(NUMBERS), LENT(ORDER), LENT(STORED),
+            MOVE, request.asked, LENT(ASKED_VARS), (uint32_t)request.route, LENT(RESULTS), LENT(TRIED), LENT(FLAGS)));
+    case KEEP:
+        return of_call(lukhandro_keep(session, COUNTED, ROWS_AND_ENTRIES, LENT(NUMBERS), LENT(ORDER), LENT(STORED),
+            MOVE, LENT(FLAGS)));
+    case READ:
+        return of_read(lukhandro_read(LENT(BYTES), LENT(STARTS), ROWS_AND_ENTRIES));
+    case WRITE:
+        return of_call(lukhandro_write(COUNTED, LENT(STARTS), ROWS_AND_ENTRIES, LENT(BYTES)));
+    default:
+        exit(2);
+    }
+}
+
+int main(void) {
+    while (take(&request, sizeof request, 1)) {
+        take_block();
+        struct answer outcome = made();
+        *answer = outcome;
+        give(answer, sizeof *answer + request.block);
+    }
+    return 0;
+}

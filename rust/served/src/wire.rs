@@ -1,0 +1,122 @@
+//! Requests and answers as bytes, as `c/server.c` has them.
+
+use compare::{Answer, Buffer, Case, Guarded};
+
+/// What lies between the buffers of a block besides their guards.
+const GAP: u8 = 0x5A;
+
+/// Every buffer of a block begins at a multiple of this, guards and all.
+const ALIGNED: usize = 8;
+
+/// The bytes of a request before its block: 8 numbers, and the place and length of the record and the 18 buffers.
+const REQUEST: usize = 8 * (8 + 2 * 19);
+
+/// The bytes of an answer before its block.
+const ANSWER: usize = 4 * 6;
+
+/// The session record between guards.
+fn record(case: &Case) -> Guarded<i32> {
+    vec![case.session.kept as i32, case.session.evaluations as i32].into()
+}
+
+/// The request for a case.
+pub fn request(case: &Case) -> Vec<u8> {
+    let mut block = Vec::new();
+    let mut lent = vec![record(case).send(&mut block), 1];
+    for (_, buffer) in case.buffers() {
+        block.resize(block.len().next_multiple_of(ALIGNED), GAP);
+        lent.extend([buffer.send(&mut block), buffer.length()]);
+    }
+    let Case { call, n, m, e, pairs, asked, route, .. } = *case;
+    let numbers = [call as usize, n, m, e, pairs, asked, route as usize, block.len()];
+    let mut request = Vec::with_capacity(REQUEST + block.len());
+    request.extend(numbers.iter().chain(&lent).flat_map(|&number| (number as u64).to_le_bytes()));
+    request.extend(block);
+    request
+}
+
+/// The bytes of the answer to a request.
+pub fn answer_length(request: &[u8]) -> usize {
+    request.len() - REQUEST + ANSWER
+}
+
+/// The answer; what the call left goes into the case.
+///
+/// # Panics
+/// If the call wrote beside everything that it was lent.
+pub fn take_answer(bytes: &[u8], case: &mut Case) -> Answer {
+    let (answer, block) = bytes.split_at(ANSWER);
+    let mut session = record(case);
+    let mut rest = session.receive(block);
+    assert!(session.intact(), "the call writes beside the record: {:?}", case.fields());
+    (case.session.kept, case.session.evaluations) = (session[0] as u32, session[1] as u32);
+    for (name, buffer) in case.buffers_mut() {
+        let reached = block.len() - rest.len();
+        let (gap, after) = rest.split_at(reached.next_multiple_of(ALIGNED) - reached);
+        assert!(gap.iter().all(|&byte| byte == GAP), "the call writes before the guards of {name}");
+        rest = buffer.receive(after);
+    }
+    let number = |at: usize| u32::from_le_bytes(answer[4 * at..][..4].try_into().expect("four bytes"));
+    let [number, place, evaluations, n, m, e] = [0, 1, 2, 3, 4, 5].map(number);
+    Answer { number, place, evaluations, n, m, e }
+}
+
+#[cfg(test)]
+mod tests {
+    use std::panic::catch_unwind;
+
+    use compare::runs::{built, keep, model_a};
+    use compare::{Second, Side};
+
+    use super::*;
+
+    /// A case, and the answer of a server that makes no call.
+    fn untouched() -> (Case, Vec<u8>) {
+        let case = keep(&built(&Second, &model_a()), &[(1, 28801)]);
+        let mut answer = vec![0; ANSWER];
+        answer.extend(&request(&case)[REQUEST..]);
+        assert_eq!(answer.len(), answer_length(&request(&case)));
+        (case, answer)
+    }
+
+    #[test]
+    fn what_went_comes_back() {
+        let (case, mut bytes) = untouched();
+        for (at, byte) in bytes[..ANSWER].iter_mut().step_by(4).enumerate() {
+            *byte = at as u8 + 1;
+        }
+        let mut left = case.clone();
+        let answer = take_answer(&bytes, &mut left);
+        assert_eq!(answer, Answer { number: 1, place: 2, evaluations: 3, n: 4, m: 5, e: 6 });
+        assert_eq!(left, case);
+    }
+
+    #[test]
+    fn no_byte_changes_unseen() {
+        let (case, bytes) = untouched();
+        for at in ANSWER..bytes.len() {
+            let mut bytes = bytes.clone();
+            bytes[at] ^= 1;
+            let mut left = case.clone();
+            let seen = catch_unwind(move || {
+                take_answer(&bytes, &mut left);
+                left
+            });
+            assert!(seen.map_or(true, |left| left != case), "byte {at}");
+        }
+    }
+
+    #[test]
+    fn buffers_lie_where_the_request_says() {
+        let case = Side::of(&Second, &model_a()).left;
+        let request = request(&case);
+        let number = |at: usize| u64::from_le_bytes(request[8 * at..][..8].try_into().expect("eight bytes")) as usize;
+        assert_eq!(number(7), request.len() - REQUEST);
+        for (which, (name, buffer)) in case.buffers().into_iter().enumerate() {
+            let (place, length) = (number(8 + 2 * (which + 1)), number(9 + 2 * (which + 1)));
+            assert_eq!((length, place % buffer.width()), (buffer.length(), 0), "{name}");
+        }
+        let stored = REQUEST + number(8 + 2 * 11);
+        assert_eq!(request[stored..][..4], 25200i32.to_le_bytes());
+    }
+}

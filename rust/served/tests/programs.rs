@@ -1,0 +1,61 @@
+//! The C programs print what they must, and the server ends when and how it must.
+
+use std::io::Write;
+use std::process::Stdio;
+
+use compare::deep::{calls, models};
+use compare::{Case, Second};
+use served::{Served, program};
+
+/// What a C program prints.
+fn printed(name: &str) -> String {
+    let output = program(name, None).output().expect("the program starts");
+    assert!(output.status.success(), "{name}: {}", output.status);
+    String::from_utf8(output.stdout).expect("text")
+}
+
+#[test]
+fn the_c_example() {
+    assert_eq!(printed("headway"), "number 0, place 0: 6 departures\n");
+}
+
+#[test]
+fn every_call_from_c() {
+    let expected = "\
+build 0 0 3, session 0 3, stored 6 28200 26
+trial 0 0 3, session 0 3, stored 6 28200 26
+results 30 28800, trial 28801, flags 1 1 1
+keep 0 0 3, session 1 3, stored 7 28800 30
+keep 10 0 0, session 1 3, stored 7 28800 30
+write 0 0 0, session 1 3, stored 7 28800 30
+read 0 0 6 3 7, parameter 2
+read 14 20 0 0 0
+";
+    assert_eq!(printed("calls"), expected);
+}
+
+/// The status with which the server ends on an input.
+fn ends(input: &[u8]) -> Option<i32> {
+    let mut command = program("server", None);
+    let mut server = command.stdin(Stdio::piped()).stdout(Stdio::null()).spawn().expect("the server starts");
+    server.stdin.take().expect("a pipe to the server").write_all(input).expect("the server reads");
+    server.wait().expect("the server ends").code()
+}
+
+#[test]
+fn the_server_ends_with_its_input() {
+    assert_eq!(ends(&[]), Some(0));
+    assert_eq!(ends(&[0; 10]), Some(2), "a request that breaks off");
+    assert_eq!(ends(&[0; 368]), Some(2), "a request without a record");
+}
+
+#[test]
+fn a_server_that_ends_is_noticed() {
+    let cases = calls(&Second, &models()[0]);
+    let (_, deep) = cases.iter().find(|(name, _)| *name == "route 2").expect("a trial by route 2");
+    let server = Served::start_on(256 << 10);
+    assert!(server.try_answer(&mut Case::default()).is_ok(), "a small call on a small stack");
+    let ended = server.try_answer(&mut deep.clone()).expect_err("a stack that is too small");
+    println!("{ended}");
+    assert!(server.try_answer(&mut Case::default()).is_err(), "it does not come back");
+}
