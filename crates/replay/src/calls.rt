@@ -9,6 +9,7 @@ use crate::put::put_kept;
 use crate::put::put_signed16;
 use crate::put::put_signed32;
 use crate::put::put16;
+use engine::Done;
 use engine::Session;
 
 // The variables of the pairs.
@@ -39,6 +40,26 @@ fn asked_vars(call: &[u8]) -> [u16; 4] {
         half(call, 44),
         half(call, 46),
     ]
+}
+
+// Prints what a trial comes to and what it leaves.
+fn tell_trial(done: Done, asked: usize, results: &[i32], n: usize, trial: &[i32], flags: &[u8]) {
+    let answer = done.answer;
+    print::text(b"trial");
+    print::answer(answer);
+    print::record(done.session);
+    print::left_by_trial(answer, asked, results, n, trial, flags);
+    print::text(b"\n");
+}
+
+// Prints what a keep comes to and what it leaves.
+fn tell_keep(done: Done, n: usize, stored: &[i32], flags: &[u8]) {
+    let answer = done.answer;
+    print::text(b"keep");
+    print::answer(answer);
+    print::record(done.session);
+    print::left_by_keep(answer, n, stored, flags);
+    print::text(b"\n");
 }
 
 // Tries the move of a call, prints what comes back, and answers the record.
@@ -88,12 +109,7 @@ fn try_move(
         &mut trial,
         &mut flags,
     );
-    let answer = done.answer;
-    print::text(b"trial");
-    print::answer(answer);
-    print::record(done.session);
-    print::left_by_trial(answer, asked, &results, n, &trial, &flags);
-    print::text(b"\n");
+    tell_trial(done, asked, &results, n, &trial, &flags);
     done.session
 }
 
@@ -136,17 +152,12 @@ fn keep_move(
         &move_values(call),
         &mut flags,
     );
-    let answer = done.answer;
-    print::text(b"keep");
-    print::answer(answer);
-    print::record(done.session);
-    print::left_by_keep(answer, n, stored, &flags);
-    print::text(b"\n");
+    tell_keep(done, n, stored, &flags);
     done.session
 }
 
-// Changes a field of the tables, if the row is one of theirs.
-fn change_tables(
+// Changes a field of the rows, if it is one of theirs.
+fn change_rows(
     row: u32,
     place: usize,
     field: u32,
@@ -155,14 +166,16 @@ fn change_tables(
     params: &mut [i32],
     firsts: &mut [u16],
     counts: &mut [u16],
-    vars: &mut [u16],
-    coefs: &mut [i16],
 ) {
     put16(kinds, row == 1, place, field);
     put16(makes, row == 2, place, field);
     put_signed32(params, row == 3, place, field);
     put16(firsts, row == 4, place, field);
     put16(counts, row == 5, place, field);
+}
+
+// Changes a field of the entries, if it is one of theirs.
+fn change_entries(row: u32, place: usize, field: u32, vars: &mut [u16], coefs: &mut [i16]) {
     put16(vars, row == 6, place, field);
     put_signed16(coefs, row == 7, place, field);
 }
@@ -197,23 +210,12 @@ fn change_field(
     stored: &mut [i32],
 ) -> Session {
     let row = word(call, 4);
-    let place = word(call, 8);
+    let place = word(call, 8) as usize;
     let field = word(call, 12);
-    print::change(row, place, field);
-    let at = place as usize;
-    change_tables(
-        row,
-        at,
-        field,
-        kinds,
-        makes,
-        params,
-        firsts,
-        counts,
-        vars,
-        coefs,
-    );
-    change_model(row, at, field, numbers, order, stored);
+    print::change(row, word(call, 8), field);
+    change_rows(row, place, field, kinds, makes, params, firsts, counts);
+    change_entries(row, place, field, vars, coefs);
+    change_model(row, place, field, numbers, order, stored);
     put_kept(session, row == 0, field)
 }
 

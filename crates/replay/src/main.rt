@@ -56,6 +56,14 @@ fn make_calls(
     }
 }
 
+// The calls to make after a build: all of them if it is accepted, and else none.
+fn calls_after(told: Answer, calls: &[u8]) -> &[u8] {
+    let Answer::Accepted { .. } = told else {
+        return &calls[0..0];
+    };
+    calls
+}
+
 // Builds a model that was read, prints what comes back, and makes the calls if it is accepted. The record before it is not all 0, so that what
 // build makes of it shows.
 fn build_and_call(
@@ -97,12 +105,9 @@ fn build_and_call(
     );
     let answer = done.answer;
     print::built(answer, done.session, n, m, &numbers, &order, &stored);
-    let Answer::Accepted { .. } = answer else {
-        return;
-    };
     make_calls(
         done.session,
-        calls,
+        calls_after(answer, calls),
         n,
         m,
         e,

@@ -1,5 +1,6 @@
 // A trial and a keep of a case, over a record that says 9 evaluations.
 use crate::print;
+use engine::Done;
 use engine::Session;
 
 // The record that a trial begins with.
@@ -8,6 +9,23 @@ pub fn record() -> Session {
         kept: 5,
         evaluations: 9,
     }
+}
+
+// Prints what a trial comes to and what it leaves.
+fn tell_trial(case: &[u8], route: u32, done: Done, results: &[i32], trial: &[i32], flags: &[u8]) {
+    print::by(route);
+    print::come_to(case, done);
+    print::values(b"; results", results);
+    print::values(b"; trial", trial);
+    print::end_with_flags(flags);
+}
+
+// Prints what a keep comes to and what it leaves.
+fn tell_keep(case: &[u8], done: Done, stored: &[i32], flags: &[u8]) {
+    print::text(b"keep, ");
+    print::come_to(case, done);
+    print::values(b"; stored", stored);
+    print::end_with_flags(flags);
 }
 
 // Tries a move over a record with 5 moves kept, and prints what comes back and what is left.
@@ -61,12 +79,7 @@ pub fn try_case(
         trial,
         flags,
     );
-    print::by(route);
-    print::come_to(case, done);
-    print::values(b"; results", results);
-    print::values(b"; trial", trial);
-    print::flags(flags);
-    print::text(b"\n");
+    tell_trial(case, route, done, results, trial, flags);
 }
 
 // Keeps a move over a record with so many moves kept, and prints what comes back and what is left.
@@ -115,9 +128,5 @@ pub fn keep_case(
         move_values,
         flags,
     );
-    print::text(b"keep, ");
-    print::come_to(case, done);
-    print::values(b"; stored", stored);
-    print::flags(flags);
-    print::text(b"\n");
+    tell_keep(case, done, stored, flags);
 }

@@ -133,6 +133,49 @@ pub fn on_a(
     );
 }
 
+// A trial of a move over model A, with every row lent that is not a table.
+pub fn try_lent(
+    case: &[u8],
+    numbers: &[u16],
+    order: &[u16],
+    stored: &[i32],
+    pairs: usize,
+    move_vars: &[u16],
+    move_values: &[i32],
+    asked: usize,
+    asked_vars: &[u16],
+    route: u32,
+    results: &mut [i32],
+    trial: &mut [i32],
+    flags: &mut [u8],
+) {
+    try_case(
+        case,
+        6,
+        3,
+        7,
+        &[8, 9, 1],
+        &[3, 4, 5],
+        &[0, 0, 2],
+        &[0, 3, 6],
+        &[3, 3, 1],
+        &[0, 1, 2, 0, 1, 2, 3],
+        &[1, 1, 1, 1, 1, 1, 4],
+        numbers,
+        order,
+        stored,
+        pairs,
+        move_vars,
+        move_values,
+        asked,
+        asked_vars,
+        route,
+        results,
+        trial,
+        flags,
+    );
+}
+
 // A trial over model A, with a stored value of variable 3 of its own. The trial row and the flags are one longer than they need be.
 pub fn try_a(
     case: &[u8],
@@ -147,18 +190,8 @@ pub fn try_a(
 ) {
     let mut trial = [77i32; 7];
     let mut flags = [7u8; 7];
-    try_case(
+    try_lent(
         case,
-        6,
-        3,
-        7,
-        &[8, 9, 1],
-        &[3, 4, 5],
-        &[0, 0, 2],
-        &[0, 3, 6],
-        &[3, 3, 1],
-        &[0, 1, 2, 0, 1, 2, 3],
-        &[1, 1, 1, 1, 1, 1, 4],
         &[0, 0, 0, 1, 1, 2],
         &[0, 1, 2],
         &[25200, 28800, 600, x3, 28200, 26],
@@ -174,16 +207,18 @@ pub fn try_a(
     );
 }
 
-// A keep over model A.
-pub fn keep_a(
+// A keep of a move over model A, with every row lent that is not a table.
+pub fn keep_lent(
     case: &[u8],
     kept: u32,
+    numbers: &[u16],
+    order: &[u16],
+    stored: &mut [i32],
     pairs: usize,
     move_vars: &[u16],
     move_values: &[i32],
-    stored: &mut [i32],
+    flags: &mut [u8],
 ) {
-    let mut flags = [7u8; 7];
     keep_case(
         case,
         kept,
@@ -197,6 +232,29 @@ pub fn keep_a(
         &[3, 3, 1],
         &[0, 1, 2, 0, 1, 2, 3],
         &[1, 1, 1, 1, 1, 1, 4],
+        numbers,
+        order,
+        stored,
+        pairs,
+        move_vars,
+        move_values,
+        flags,
+    );
+}
+
+// A keep over model A.
+pub fn keep_a(
+    case: &[u8],
+    kept: u32,
+    pairs: usize,
+    move_vars: &[u16],
+    move_values: &[i32],
+    stored: &mut [i32],
+) {
+    let mut flags = [7u8; 7];
+    keep_lent(
+        case,
+        kept,
         &[0, 0, 0, 1, 1, 2],
         &[0, 1, 2],
         stored,

@@ -53,11 +53,17 @@ fn flag(f: u8) {
 }
 
 // Prints a row of flags.
-pub fn flags(row: &[u8]) {
+fn flags(row: &[u8]) {
     text(b"; flags");
     for i in 0..row.len() {
         flag(row[i]);
     }
+}
+
+// Prints a row of flags, and ends the line.
+pub fn end_with_flags(row: &[u8]) {
+    flags(row);
+    text(b"\n");
 }
 
 // Prints the first flag of a row.

@@ -2,50 +2,13 @@
 use crate::calls::keep_case;
 use crate::calls::record;
 use crate::calls::try_case;
+use crate::models::keep_lent;
 use crate::models::try_a;
+use crate::models::try_lent;
 use crate::print;
+use engine::Done;
 
-// A trial of model A with the rows given: a move of one pair, by route 2, and two variables asked.
-fn try_rooms(
-    case: &[u8],
-    numbers: &[u16],
-    order: &[u16],
-    stored: &[i32],
-    move_vars: &[u16],
-    move_values: &[i32],
-    asked_vars: &[u16],
-    results: &mut [i32],
-    trial: &mut [i32],
-    flags: &mut [u8],
-) {
-    try_case(
-        case,
-        6,
-        3,
-        7,
-        &[8, 9, 1],
-        &[3, 4, 5],
-        &[0, 0, 2],
-        &[0, 3, 6],
-        &[3, 3, 1],
-        &[0, 1, 2, 0, 1, 2, 3],
-        &[1, 1, 1, 1, 1, 1, 4],
-        numbers,
-        order,
-        stored,
-        1,
-        move_vars,
-        move_values,
-        2,
-        asked_vars,
-        2,
-        results,
-        trial,
-        flags,
-    );
-}
-
-// The same with rows to fill that are exact.
+// A trial of model A with rows to read of its own, and rows to fill that are exact: a move of one pair, by route 2, and two variables asked.
 fn try_read(
     case: &[u8],
     numbers: &[u16],
@@ -58,171 +21,190 @@ fn try_read(
     let mut results = [77i32; 2];
     let mut trial = [77i32; 6];
     let mut flags = [7u8; 6];
-    try_rooms(
+    try_lent(
         case,
-        numbers,
-        order,
-        stored,
-        move_vars,
-        move_values,
-        asked_vars,
-        &mut results,
-        &mut trial,
-        &mut flags,
-    );
-}
-
-// The same with rows to read that are exact.
-fn try_fill(case: &[u8], results: &mut [i32], trial: &mut [i32], flags: &mut [u8]) {
-    try_rooms(
-        case,
-        &[0, 0, 0, 1, 1, 2],
-        &[0, 1, 2],
-        &[25200, 28800, 600, 6, 28200, 26],
-        &[1],
-        &[28801],
-        &[3, 4],
-        results,
-        trial,
-        flags,
-    );
-}
-
-// Each row that a trial reads exact, and each one short.
-pub fn trial_reads() {
-    let nu = [0u16, 0, 0, 1, 1, 2];
-    let or = [0u16, 1, 2];
-    let st = [25200i32, 28800, 600, 6, 28200, 26];
-    let mv = [1u16];
-    let mx = [28801i32];
-    let av = [3u16, 4];
-    try_read(b"all rows exact", &nu, &or, &st, &mv, &mx, &av);
-    try_read(b"numbers one short", &nu[..5], &or, &st, &mv, &mx, &av);
-    try_read(b"order one short", &nu, &or[..2], &st, &mv, &mx, &av);
-    try_read(b"stored one short", &nu, &or, &st[..5], &mv, &mx, &av);
-    try_read(
-        b"move variables one short",
-        &nu,
-        &or,
-        &st,
-        &mv[..0],
-        &mx,
-        &av,
-    );
-    try_read(b"move values one short", &nu, &or, &st, &mv, &mx[..0], &av);
-    try_read(b"asked one short", &nu, &or, &st, &mv, &mx, &av[..1]);
-}
-
-// Each row that a trial fills one short.
-pub fn trial_fills() {
-    let mut results = [77i32; 2];
-    let mut trial = [77i32; 6];
-    let mut flags = [7u8; 6];
-    let mut short_results = [77i32; 1];
-    let mut short_trial = [77i32; 5];
-    let mut short_flags = [7u8; 5];
-    try_fill(
-        b"results one short",
-        &mut short_results,
-        &mut trial,
-        &mut flags,
-    );
-    try_fill(
-        b"trial row one short",
-        &mut results,
-        &mut short_trial,
-        &mut flags,
-    );
-    try_fill(
-        b"flags one short",
-        &mut results,
-        &mut trial,
-        &mut short_flags,
-    );
-}
-
-// A keep of model A with the rows given: a move of one pair.
-fn keep_rooms(
-    case: &[u8],
-    numbers: &[u16],
-    order: &[u16],
-    move_vars: &[u16],
-    move_values: &[i32],
-    stored: &mut [i32],
-    flags: &mut [u8],
-) {
-    keep_case(
-        case,
-        5,
-        6,
-        3,
-        7,
-        &[8, 9, 1],
-        &[3, 4, 5],
-        &[0, 0, 2],
-        &[0, 3, 6],
-        &[3, 3, 1],
-        &[0, 1, 2, 0, 1, 2, 3],
-        &[1, 1, 1, 1, 1, 1, 4],
         numbers,
         order,
         stored,
         1,
         move_vars,
         move_values,
-        flags,
-    );
-}
-
-// The same with stored values and flags that are exact.
-fn keep_read(case: &[u8], numbers: &[u16], order: &[u16], move_vars: &[u16], move_values: &[i32]) {
-    let mut stored = [25200i32, 28800, 600, 6, 28200, 26];
-    let mut flags = [7u8; 6];
-    keep_rooms(
-        case,
-        numbers,
-        order,
-        move_vars,
-        move_values,
-        &mut stored,
+        2,
+        asked_vars,
+        2,
+        &mut results,
+        &mut trial,
         &mut flags,
     );
 }
 
-// The same with rows to read that are exact.
-fn keep_fill(case: &[u8], stored: &mut [i32], flags: &mut [u8]) {
-    keep_rooms(
+// The same with a model of its own.
+fn try_model(case: &[u8], numbers: &[u16], order: &[u16], stored: &[i32]) {
+    try_read(case, numbers, order, stored, &[1], &[28801], &[3, 4]);
+}
+
+// The same with a move and asked variables of its own.
+fn try_move(case: &[u8], move_vars: &[u16], move_values: &[i32], asked_vars: &[u16]) {
+    try_read(
         case,
         &[0, 0, 0, 1, 1, 2],
         &[0, 1, 2],
+        &[25200, 28800, 600, 6, 28200, 26],
+        move_vars,
+        move_values,
+        asked_vars,
+    );
+}
+
+// Every row that a trial reads exact, and each of the model one short.
+fn model_reads() {
+    let nu = [0u16, 0, 0, 1, 1, 2];
+    let or = [0u16, 1, 2];
+    let st = [25200i32, 28800, 600, 6, 28200, 26];
+    try_model(b"all rows exact", &nu, &or, &st);
+    try_model(b"numbers one short", &nu[..5], &or, &st);
+    try_model(b"order one short", &nu, &or[..2], &st);
+    try_model(b"stored one short", &nu, &or, &st[..5]);
+}
+
+// Each row of the move, and the asked variables, one short.
+fn move_reads() {
+    try_move(b"move variables one short", &[], &[28801], &[3, 4]);
+    try_move(b"move values one short", &[1], &[], &[3, 4]);
+    try_move(b"asked one short", &[1], &[28801], &[3]);
+}
+
+// Each row that a trial reads exact, and each one short.
+pub fn trial_reads() {
+    model_reads();
+    move_reads();
+}
+
+// A trial of model A with rows to fill of its own, and rows to read that are exact.
+fn try_fill(case: &[u8], results: &mut [i32], trial: &mut [i32], flags: &mut [u8]) {
+    try_lent(
+        case,
+        &[0, 0, 0, 1, 1, 2],
+        &[0, 1, 2],
+        &[25200, 28800, 600, 6, 28200, 26],
+        1,
         &[1],
         &[28801],
-        stored,
+        2,
+        &[3, 4],
+        2,
+        results,
+        trial,
         flags,
+    );
+}
+
+// The results one short.
+fn short_results() {
+    let mut results = [77i32; 1];
+    let mut trial = [77i32; 6];
+    let mut flags = [7u8; 6];
+    try_fill(b"results one short", &mut results, &mut trial, &mut flags);
+}
+
+// The trial row one short.
+fn short_trial() {
+    let mut results = [77i32; 2];
+    let mut trial = [77i32; 5];
+    let mut flags = [7u8; 6];
+    try_fill(b"trial row one short", &mut results, &mut trial, &mut flags);
+}
+
+// The flags one short.
+fn short_flags() {
+    let mut results = [77i32; 2];
+    let mut trial = [77i32; 6];
+    let mut flags = [7u8; 5];
+    try_fill(b"flags one short", &mut results, &mut trial, &mut flags);
+}
+
+// Each row that a trial fills one short.
+pub fn trial_fills() {
+    short_results();
+    short_trial();
+    short_flags();
+}
+
+// A keep of model A with rows to read of its own, and stored values and flags that are exact: a move of one pair.
+fn keep_read(case: &[u8], numbers: &[u16], order: &[u16], move_vars: &[u16], move_values: &[i32]) {
+    let mut stored = [25200i32, 28800, 600, 6, 28200, 26];
+    let mut flags = [7u8; 6];
+    keep_lent(
+        case,
+        5,
+        numbers,
+        order,
+        &mut stored,
+        1,
+        move_vars,
+        move_values,
+        &mut flags,
+    );
+}
+
+// The same with numbers and an order of its own.
+fn keep_model(case: &[u8], numbers: &[u16], order: &[u16]) {
+    keep_read(case, numbers, order, &[1], &[28801]);
+}
+
+// The same with a move of its own.
+fn keep_move(case: &[u8], move_vars: &[u16], move_values: &[i32]) {
+    keep_read(
+        case,
+        &[0, 0, 0, 1, 1, 2],
+        &[0, 1, 2],
+        move_vars,
+        move_values,
     );
 }
 
 // Each row that a keep reads exact, and each one short.
 pub fn kept_reads() {
-    let nu = [0u16, 0, 0, 1, 1, 2];
-    let or = [0u16, 1, 2];
-    let mv = [1u16];
-    let mx = [28801i32];
-    keep_read(b"all rows exact", &nu, &or, &mv, &mx);
-    keep_read(b"numbers one short", &nu[..5], &or, &mv, &mx);
-    keep_read(b"order one short", &nu, &or[..2], &mv, &mx);
-    keep_read(b"move variables one short", &nu, &or, &mv[..0], &mx);
-    keep_read(b"move values one short", &nu, &or, &mv, &mx[..0]);
+    keep_model(b"all rows exact", &[0, 0, 0, 1, 1, 2], &[0, 1, 2]);
+    keep_model(b"numbers one short", &[0, 0, 0, 1, 1], &[0, 1, 2]);
+    keep_model(b"order one short", &[0, 0, 0, 1, 1, 2], &[0, 1]);
+    keep_move(b"move variables one short", &[], &[28801]);
+    keep_move(b"move values one short", &[1], &[]);
+}
+
+// A keep of model A with stored values and flags of its own, and rows to read that are exact.
+fn keep_fill(case: &[u8], stored: &mut [i32], flags: &mut [u8]) {
+    keep_lent(
+        case,
+        5,
+        &[0, 0, 0, 1, 1, 2],
+        &[0, 1, 2],
+        stored,
+        1,
+        &[1],
+        &[28801],
+        flags,
+    );
+}
+
+// The stored values one short.
+fn short_stored() {
+    let mut stored = [25200i32, 28800, 600, 6, 28200];
+    let mut flags = [7u8; 6];
+    keep_fill(b"stored one short", &mut stored, &mut flags);
+}
+
+// The flags of a keep one short.
+fn short_keep_flags() {
+    let mut stored = [25200i32, 28800, 600, 6, 28200, 26];
+    let mut flags = [7u8; 5];
+    keep_fill(b"flags one short", &mut stored, &mut flags);
 }
 
 // Each row that a keep fills one short.
 pub fn kept_fills() {
-    let mut stored = [25200i32, 28800, 600, 6, 28200, 26];
-    let mut flags = [7u8; 6];
-    let mut short_stored = [25200i32, 28800, 600, 6, 28200];
-    let mut short_flags = [7u8; 5];
-    keep_fill(b"stored one short", &mut short_stored, &mut flags);
-    keep_fill(b"flags one short", &mut stored, &mut short_flags);
+    short_stored();
+    short_keep_flags();
 }
 
 // So many asked of 33, all of them variable 5.
@@ -239,11 +221,69 @@ pub fn asked_bounds() {
     asked(b"asked 33", 33);
 }
 
+// A trial that moves so many of 65 pairs, over 66 variables without rows, and asks nothing.
+fn try_pairs(case: &[u8], pairs: usize, move_vars: &[u16]) {
+    let none = [0u16; 0];
+    let mut results = [77i32; 1];
+    let mut trial = [77i32; 66];
+    let mut flags = [7u8; 66];
+    try_case(
+        case,
+        66,
+        0,
+        0,
+        &none,
+        &none,
+        &[],
+        &none,
+        &none,
+        &none,
+        &[],
+        &[0; 66],
+        &none,
+        &[3; 66],
+        pairs,
+        move_vars,
+        &[4; 65],
+        0,
+        &none,
+        3,
+        &mut results,
+        &mut trial,
+        &mut flags,
+    );
+}
+
+// A keep of the same move.
+fn keep_pairs(case: &[u8], pairs: usize, move_vars: &[u16]) {
+    let none = [0u16; 0];
+    let mut stored = [3i32; 66];
+    let mut flags = [7u8; 66];
+    keep_case(
+        case,
+        5,
+        66,
+        0,
+        0,
+        &none,
+        &none,
+        &[],
+        &none,
+        &none,
+        &none,
+        &[],
+        &[0; 66],
+        &none,
+        &mut stored,
+        pairs,
+        move_vars,
+        &[4; 65],
+        &mut flags,
+    );
+}
+
 // A move of so many pairs over 66 variables without rows: a trial that asks nothing, and a keep.
 fn pairs(case: &[u8], pairs: usize) {
-    let none = [0u16; 0];
-    let numbers = [0u16; 66];
-    let mut stored = [3i32; 66];
     let move_vars = [
         0,
         1,
@@ -311,57 +351,8 @@ fn pairs(case: &[u8], pairs: usize) {
         63,
         64,
     ];
-    let move_values = [4i32; 65];
-    let mut results = [77i32; 1];
-    let mut trial = [77i32; 66];
-    let mut flags = [7u8; 66];
-    try_case(
-        case,
-        66,
-        0,
-        0,
-        &none,
-        &none,
-        &[],
-        &none,
-        &none,
-        &none,
-        &[],
-        &numbers,
-        &none,
-        &stored,
-        pairs,
-        &move_vars,
-        &move_values,
-        0,
-        &none,
-        3,
-        &mut results,
-        &mut trial,
-        &mut flags,
-    );
-    let mut left = [7u8; 66];
-    keep_case(
-        case,
-        5,
-        66,
-        0,
-        0,
-        &none,
-        &none,
-        &[],
-        &none,
-        &none,
-        &none,
-        &[],
-        &numbers,
-        &none,
-        &mut stored,
-        pairs,
-        &move_vars,
-        &move_values,
-        &mut left,
-    );
+    try_pairs(case, pairs, &move_vars);
+    keep_pairs(case, pairs, &move_vars);
 }
 
 // The number of pairs.
@@ -370,13 +361,25 @@ pub fn pair_bounds() {
     pairs(b"65 pairs", 65);
 }
 
+// Prints the first values and flags that a call leaves.
+fn tell_first(case: &[u8], done: Done, name: &[u8], row: &[i32], flags: &[u8]) {
+    print::come_to(case, done);
+    print::first_value(name, row);
+    print::first_flag(flags);
+    print::text(b"\n");
+}
+
 // A trial with the counts given, over rows that are as long as any count asks: each row makes variable 0 from itself.
-fn try_counts(case: &[u8], n: usize, m: usize, e: usize) {
-    let ones = [1u16; 4097];
-    let zeros = [0u16; 4097];
-    let values = [0i32; 4097];
-    let vars = [0u16; 16385];
-    let coefs = [1i16; 16385];
+fn try_counts(
+    case: &[u8],
+    n: usize,
+    m: usize,
+    e: usize,
+    ones: &[u16],
+    zeros: &[u16],
+    coefs: &[i16],
+    values: &[i32],
+) {
     let mut results = [77i32; 1];
     let mut trial = [77i32; 4097];
     let mut flags = [7u8; 4097];
@@ -385,40 +388,41 @@ fn try_counts(case: &[u8], n: usize, m: usize, e: usize) {
         n,
         m,
         e,
-        &ones,
-        &zeros,
-        &values,
-        &zeros,
-        &ones,
-        &vars,
-        &coefs,
-        &zeros,
-        &zeros,
-        &values,
+        ones,
+        zeros,
+        values,
+        zeros,
+        ones,
+        zeros,
+        coefs,
+        zeros,
+        zeros,
+        values,
         0,
-        &zeros,
-        &values,
+        zeros,
+        values,
         0,
-        &zeros,
+        zeros,
         1,
         &mut results,
         &mut trial,
         &mut flags,
     );
     print::by(1);
-    print::come_to(case, done);
-    print::first_value(b"; trial", &trial);
-    print::first_flag(&flags);
-    print::text(b"\n");
+    tell_first(case, done, b"; trial", &trial, &flags);
 }
 
 // A keep likewise.
-fn keep_counts(case: &[u8], n: usize, m: usize, e: usize) {
-    let ones = [1u16; 4097];
-    let zeros = [0u16; 4097];
-    let values = [0i32; 4097];
-    let vars = [0u16; 16385];
-    let coefs = [1i16; 16385];
+fn keep_counts(
+    case: &[u8],
+    n: usize,
+    m: usize,
+    e: usize,
+    ones: &[u16],
+    zeros: &[u16],
+    coefs: &[i16],
+    values: &[i32],
+) {
     let mut stored = [0i32; 4097];
     let mut flags = [7u8; 4097];
     let done = engine::keep_core(
@@ -426,32 +430,33 @@ fn keep_counts(case: &[u8], n: usize, m: usize, e: usize) {
         n,
         m,
         e,
-        &ones,
-        &zeros,
-        &values,
-        &zeros,
-        &ones,
-        &vars,
-        &coefs,
-        &zeros,
-        &zeros,
+        ones,
+        zeros,
+        values,
+        zeros,
+        ones,
+        zeros,
+        coefs,
+        zeros,
+        zeros,
         &mut stored,
         0,
-        &zeros,
-        &values,
+        zeros,
+        values,
         &mut flags,
     );
     print::text(b"keep, ");
-    print::come_to(case, done);
-    print::first_value(b"; stored", &stored);
-    print::first_flag(&flags);
-    print::text(b"\n");
+    tell_first(case, done, b"; stored", &stored, &flags);
 }
 
 // A trial and a keep with the counts given.
 fn counts(case: &[u8], n: usize, m: usize, e: usize) {
-    try_counts(case, n, m, e);
-    keep_counts(case, n, m, e);
+    let ones = [1u16; 4097];
+    let zeros = [0u16; 16385];
+    let coefs = [1i16; 16385];
+    let values = [0i32; 4097];
+    try_counts(case, n, m, e, &ones, &zeros, &coefs, &values);
+    keep_counts(case, n, m, e, &ones, &zeros, &coefs, &values);
 }
 
 // The counts of variables, rows and entries.
