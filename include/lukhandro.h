@@ -33,10 +33,10 @@
  *
  * STACK. On the deepest models, chains of 4,095 rows, a program that makes this call and no other needs a stack of
  *     lukhandro_build                          432 KiB
- *     lukhandro_trial by route 2 or 3        1,360 KiB
+ *     lukhandro_trial by route 2 or 3        1,120 KiB
  *     lukhandro_trial by route 1, and
  *     lukhandro_keep, _read and _write         128 KiB or less
- * These figures were measured, in steps of 16 KiB and under an emulator of x86-64; no proof states them. The tests send
+ * These figures were measured, in steps of 16 KiB, on an x86-64 machine; no proof states them. The tests send
  * these models through every call on a stack of 2 MiB: a thread that calls should have as much.
  */
 #ifndef LUKHANDRO_H

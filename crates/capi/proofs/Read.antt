@@ -1,4 +1,4 @@
--- What `read` and `write` answer, in numbers: they say the same, and the counts of a file that is accepted are small. Assumes nothing.
+-- What `read` answers, in numbers: they say the same, and the counts of a file that is accepted are small. Assumes nothing.
 use mathlib.Core.Path.{_≡_, refl, ap, sym, _∙_}
 use mathlib.Core.List.{List}
 use Prim.Native.Nat.{ℕ}
@@ -6,27 +6,22 @@ use native.Mathlib.Omega.{arith}
 use lib.IntN.{ℤ}
 use Rattle.paper.specs.Tables.{Tables, lent}
 use Rattle.paper.specs.Checks.{Verdict, leaves}
-use Rattle.paper.specs.Calls.{Answer, answered}
-use Rattle.paper.specs.File.{nIn, mIn, eIn, counted, laid, readVerdict, read}
+use Rattle.paper.specs.File.{nIn, mIn, eIn, counted, laid, read}
 use Rattle.paper.proofs.Reading.{headed, read-headed}
-use Rattle.files.specs.Answers.{verdict, hasRead}
-use Rattle.files.specs.declared.Written.{Written}
+use Rattle.files.specs.Answers.{hasRead}
 use Rattle.files.specs.declared.Reading.{Reading}
 use Rattle.files.specs.declared.Reading.the-variants.{Accepted, Refused}
 use Rattle.capi.specs.declared.ReadOutcome.{ReadOutcome}
-use Rattle.capi.specs.Outcomes.{readOut, Small, hasReadOut, leftByWrite, leftByRead}
-
-pub write-out : {a : Answer} (told : Written) {bytes : List ℕ} {left : Verdict × List ℕ} → a ≡ answered (verdict told) 0 → _≡_ {A = Verdict × List ℕ} (verdict told, bytes) left → _≡_ {A = Answer × List ℕ} (a, bytes) (leftByWrite left)
-write-out {a} told {bytes} {left} e f = ap (λ (x : Answer). (x, bytes)) e ∙ ap leftByWrite f
+use Rattle.capi.specs.Outcomes.{readInNumbers, Small, leftByRead, readOut}
 
 module _ (kinds makes : List ℕ) (params : List ℤ) (firsts counts vars : List ℕ) (coefs starts : List ℤ) where
   abbrev rows : Tables
   rows = lent 0 0 0 kinds makes params firsts counts vars coefs
 
-  pub read-out : {r : ReadOutcome} (told : Reading) {left : Verdict × (Tables × List ℤ)} → r ≡ readOut told → hasRead told rows starts ≡ left → hasReadOut r rows starts ≡ leftByRead left
-  read-out {r} told {left} e f = ap (λ (x : ReadOutcome). hasReadOut x rows starts) e ∙ same told ∙ ap leftByRead f
+  pub read-out : {r : ReadOutcome} (told : Reading) {left : Verdict × (Tables × List ℤ)} → r ≡ readInNumbers told → hasRead told rows starts ≡ left → leftByRead r rows starts ≡ readOut left
+  read-out {r} told {left} e f = ap (λ (x : ReadOutcome). leftByRead x rows starts) e ∙ same told ∙ ap readOut f
     where
-      same : (told : Reading) → hasReadOut (readOut told) rows starts ≡ leftByRead (hasRead told rows starts)
+      same : (told : Reading) → leftByRead (readInNumbers told) rows starts ≡ readOut (hasRead told rows starts)
       same (Accepted n m e) = refl
       same (Refused number place) = refl
 

@@ -1,8 +1,8 @@
 // Build across the C boundary.
 ghost use mathlib.Core.Path.{_≡_};
 ghost use Rattle.paper.specs.Calls.{build as built};
-ghost use Rattle.engine.specs.Lent.{toBuild};
-ghost use Rattle.capi.specs.Outcomes.{leftByBuild};
+ghost use Rattle.judges.specs.Lent.{toBuild};
+ghost use Rattle.capi.specs.Outcomes.{leftByBuild, builtOut};
 use crate::Ended;
 use crate::Outcome;
 use crate::answers::in_numbers;
@@ -27,7 +27,7 @@ pub fn build_ended(
     order: &mut [u16],
     stored: &mut [i32],
 ) -> Ended
-    ensures { λ r. ⌜ leftByBuild r (now (numbers .exit)) (now (order .exit)) (now (stored .exit)) ≡ built (toBuild (session .kept) (session .evaluations) n m e (now (kinds .entry)) (now (makes .entry)) (now (params .entry)) (now (firsts .entry)) (now (counts .entry)) (now (vars .entry)) (now (coefs .entry)) (now (starts .entry)) (now (numbers .entry)) (now (order .entry)) (now (stored .entry))) ⌝ }
+    ensures { λ r. ⌜ leftByBuild r (now (numbers .exit)) (now (order .exit)) (now (stored .exit)) ≡ builtOut (built (toBuild (session .kept) (session .evaluations) n m e (now (kinds .entry)) (now (makes .entry)) (now (params .entry)) (now (firsts .entry)) (now (counts .entry)) (now (vars .entry)) (now (coefs .entry)) (now (starts .entry)) (now (numbers .entry)) (now (order .entry)) (now (stored .entry)))) ⌝ }
 {
     let done = build_core(
         session,
@@ -73,7 +73,7 @@ pub extern "C" fn lukhandro_build(
     order: &mut [u16],
     stored: &mut [i32],
 ) -> Outcome
-    ensures { λ r. ⌜ leftByBuild (record { answer = r; session = now (session .exit) }) (now (numbers .exit)) (now (order .exit)) (now (stored .exit)) ≡ built (toBuild (now (session .entry) .kept) (now (session .entry) .evaluations) n m e (now (kinds .entry)) (now (makes .entry)) (now (params .entry)) (now (firsts .entry)) (now (counts .entry)) (now (vars .entry)) (now (coefs .entry)) (now (starts .entry)) (now (numbers .entry)) (now (order .entry)) (now (stored .entry))) ⌝ }
+    ensures { λ r. ⌜ leftByBuild (record { answer = r; session = now (session .exit) }) (now (numbers .exit)) (now (order .exit)) (now (stored .exit)) ≡ builtOut (built (toBuild (now (session .entry) .kept) (now (session .entry) .evaluations) n m e (now (kinds .entry)) (now (makes .entry)) (now (params .entry)) (now (firsts .entry)) (now (counts .entry)) (now (vars .entry)) (now (coefs .entry)) (now (starts .entry)) (now (numbers .entry)) (now (order .entry)) (now (stored .entry)))) ⌝ }
 {
     let done = build_ended(
         *session,

@@ -3,7 +3,7 @@ ghost use mathlib.Core.Path.{_≡_};
 ghost use Rattle.paper.specs.Tables.{lent};
 ghost use Rattle.paper.specs.File as File;
 ghost use Rattle.files.specs.Answers.{verdict};
-ghost use Rattle.capi.specs.Outcomes.{answerOut, readOut, Small, hasReadOut, leftByWrite, leftByRead};
+ghost use Rattle.capi.specs.Outcomes.{inNumbers, readInNumbers, Small, leftByRead, writtenOut, readOut};
 ghost use Rattle.paper.specs.Calls.{answered};
 use crate::Outcome;
 use crate::ReadOutcome;
@@ -14,7 +14,7 @@ use files::write;
 
 // What `write` answers, as three numbers.
 fn written_numbers(told: Written) -> Outcome
-    ensures { λ r. ⌜ answerOut r ≡ answered (verdict told) 0 ⌝ }
+    ensures { λ r. ⌜ r ≡ inNumbers (answered (verdict told) 0) ⌝ }
 {
     match told {
         Written::Accepted => Outcome {
@@ -33,7 +33,7 @@ fn written_numbers(told: Written) -> Outcome
 // What `read` answers, as five numbers.
 fn read_numbers(told: Reading) -> ReadOutcome
     requires { ⌜ Small told ⌝ }
-    ensures { λ r. ⌜ r ≡ readOut told ⌝ }
+    ensures { λ r. ⌜ r ≡ readInNumbers told ⌝ }
 {
     match told {
         Reading::Accepted { n, m, e } => ReadOutcome {
@@ -70,8 +70,8 @@ pub extern "C" fn lukhandro_write(
     bytes: &mut [u8],
 ) -> Outcome
     ensures { λ r. ⌜
-        (answerOut r, now (bytes .exit))
-        ≡ leftByWrite (File.write
+        (r, now (bytes .exit))
+        ≡ writtenOut (File.write
         (lent n m e (now (kinds .entry)) (now (makes .entry)) (now (params .entry)) (now (firsts .entry)) (now (counts .entry)) (now (vars .entry)) (now (coefs .entry)))
         (now (starts .entry)) (now (bytes .entry)))
         ⌝ }
@@ -107,10 +107,10 @@ pub extern "C" fn lukhandro_read(
     coefs: &mut [i16],
 ) -> ReadOutcome
     ensures { λ r. ⌜
-        hasReadOut r
+        leftByRead r
         (lent 0 0 0 (now (kinds .exit)) (now (makes .exit)) (now (params .exit)) (now (firsts .exit)) (now (counts .exit)) (now (vars .exit)) (now (coefs .exit)))
         (now (starts .exit))
-        ≡ leftByRead (File.read (now (bytes .entry))
+        ≡ readOut (File.read (now (bytes .entry))
         (lent 0 0 0 (now (kinds .entry)) (now (makes .entry)) (now (params .entry)) (now (firsts .entry)) (now (counts .entry)) (now (vars .entry)) (now (coefs .entry)))
         (now (starts .entry)))
         ⌝ }

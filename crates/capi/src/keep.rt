@@ -1,9 +1,9 @@
 // Keep across the C boundary.
 ghost use mathlib.Core.Path.{_≡_};
 ghost use Rattle.paper.specs.Calls.{keep as kept};
-ghost use Rattle.engine.specs.Lent.{toModel, toKeep};
+ghost use Rattle.judges.specs.Lent.{toModel, toKeep};
 ghost use Rattle.engine.specs.Left.{recordIn};
-ghost use Rattle.capi.specs.Outcomes.{leftByKeep};
+ghost use Rattle.capi.specs.Outcomes.{leftByKeep, keptOut};
 use crate::Ended;
 use crate::Outcome;
 use crate::answers::in_numbers;
@@ -31,7 +31,7 @@ pub fn keep_ended(
     move_values: &[i32],
     flags: &mut [u8],
 ) -> Ended
-    ensures { λ r. ⌜ leftByKeep r (now (stored .exit)) (now (flags .exit)) ≡ kept (recordIn session) (toModel n m e (now (kinds .entry)) (now (makes .entry)) (now (params .entry)) (now (firsts .entry)) (now (counts .entry)) (now (vars .entry)) (now (coefs .entry)) (now (numbers .entry)) (now (order .entry)) (now (stored .entry))) (toKeep pairs (now («move_vars» .entry)) (now («move_values» .entry)) (now (flags .entry))) ⌝ }
+    ensures { λ r. ⌜ leftByKeep r (now (stored .exit)) (now (flags .exit)) ≡ keptOut (kept (recordIn session) (toModel n m e (now (kinds .entry)) (now (makes .entry)) (now (params .entry)) (now (firsts .entry)) (now (counts .entry)) (now (vars .entry)) (now (coefs .entry)) (now (numbers .entry)) (now (order .entry)) (now (stored .entry))) (toKeep pairs (now («move_vars» .entry)) (now («move_values» .entry)) (now (flags .entry)))) ⌝ }
 {
     let done = keep_core(
         session,
@@ -83,7 +83,7 @@ pub extern "C" fn lukhandro_keep(
     move_values: &[i32],
     flags: &mut [u8],
 ) -> Outcome
-    ensures { λ r. ⌜ leftByKeep (record { answer = r; session = now (session .exit) }) (now (stored .exit)) (now (flags .exit)) ≡ kept (recordIn (now (session .entry))) (toModel n m e (now (kinds .entry)) (now (makes .entry)) (now (params .entry)) (now (firsts .entry)) (now (counts .entry)) (now (vars .entry)) (now (coefs .entry)) (now (numbers .entry)) (now (order .entry)) (now (stored .entry))) (toKeep pairs (now («move_vars» .entry)) (now («move_values» .entry)) (now (flags .entry))) ⌝ }
+    ensures { λ r. ⌜ leftByKeep (record { answer = r; session = now (session .exit) }) (now (stored .exit)) (now (flags .exit)) ≡ keptOut (kept (recordIn (now (session .entry))) (toModel n m e (now (kinds .entry)) (now (makes .entry)) (now (params .entry)) (now (firsts .entry)) (now (counts .entry)) (now (vars .entry)) (now (coefs .entry)) (now (numbers .entry)) (now (order .entry)) (now (stored .entry))) (toKeep pairs (now («move_vars» .entry)) (now («move_values» .entry)) (now (flags .entry)))) ⌝ }
 {
     let done = keep_ended(
         *session,

@@ -1,9 +1,9 @@
 // Trial across the C boundary.
 ghost use mathlib.Core.Path.{_≡_};
 ghost use Rattle.paper.specs.Calls.{trial as tried};
-ghost use Rattle.engine.specs.Lent.{toModel, toTry};
+ghost use Rattle.judges.specs.Lent.{toModel, toTry};
 ghost use Rattle.engine.specs.Left.{recordIn};
-ghost use Rattle.capi.specs.Outcomes.{leftByTrial};
+ghost use Rattle.capi.specs.Outcomes.{leftByTrial, triedOut};
 use crate::Ended;
 use crate::Outcome;
 use crate::answers::in_numbers;
@@ -36,7 +36,7 @@ pub fn trial_ended(
     trial: &mut [i32],
     flags: &mut [u8],
 ) -> Ended
-    ensures { λ r. ⌜ leftByTrial r (now (results .exit)) (now (trial .exit)) (now (flags .exit)) ≡ tried (recordIn session) (toModel n m e (now (kinds .entry)) (now (makes .entry)) (now (params .entry)) (now (firsts .entry)) (now (counts .entry)) (now (vars .entry)) (now (coefs .entry)) (now (numbers .entry)) (now (order .entry)) (now (stored .entry))) (toTry pairs (now («move_vars» .entry)) (now («move_values» .entry)) asked (now («asked_vars» .entry)) route (now (results .entry)) (now (trial .entry)) (now (flags .entry))) ⌝ }
+    ensures { λ r. ⌜ leftByTrial r (now (results .exit)) (now (trial .exit)) (now (flags .exit)) ≡ triedOut (tried (recordIn session) (toModel n m e (now (kinds .entry)) (now (makes .entry)) (now (params .entry)) (now (firsts .entry)) (now (counts .entry)) (now (vars .entry)) (now (coefs .entry)) (now (numbers .entry)) (now (order .entry)) (now (stored .entry))) (toTry pairs (now («move_vars» .entry)) (now («move_values» .entry)) asked (now («asked_vars» .entry)) route (now (results .entry)) (now (trial .entry)) (now (flags .entry)))) ⌝ }
 {
     let done = trial_core(
         session,
@@ -98,7 +98,7 @@ pub extern "C" fn lukhandro_trial(
     trial: &mut [i32],
     flags: &mut [u8],
 ) -> Outcome
-    ensures { λ r. ⌜ leftByTrial (record { answer = r; session = now (session .exit) }) (now (results .exit)) (now (trial .exit)) (now (flags .exit)) ≡ tried (recordIn (now (session .entry))) (toModel n m e (now (kinds .entry)) (now (makes .entry)) (now (params .entry)) (now (firsts .entry)) (now (counts .entry)) (now (vars .entry)) (now (coefs .entry)) (now (numbers .entry)) (now (order .entry)) (now (stored .entry))) (toTry pairs (now («move_vars» .entry)) (now («move_values» .entry)) asked (now («asked_vars» .entry)) route (now (results .entry)) (now (trial .entry)) (now (flags .entry))) ⌝ }
+    ensures { λ r. ⌜ leftByTrial (record { answer = r; session = now (session .exit) }) (now (results .exit)) (now (trial .exit)) (now (flags .exit)) ≡ triedOut (tried (recordIn (now (session .entry))) (toModel n m e (now (kinds .entry)) (now (makes .entry)) (now (params .entry)) (now (firsts .entry)) (now (counts .entry)) (now (vars .entry)) (now (coefs .entry)) (now (numbers .entry)) (now (order .entry)) (now (stored .entry))) (toTry pairs (now («move_vars» .entry)) (now («move_values» .entry)) asked (now («asked_vars» .entry)) route (now (results .entry)) (now (trial .entry)) (now (flags .entry)))) ⌝ }
 {
     let done = trial_ended(
         *session,

@@ -8,7 +8,7 @@ use lib.Dec.{ltb}
 use borrow.Author.Tests.{ltb-true, ltb-false}
 use Rattle.paper.specs.Lists.{firstFail, all}
 use Rattle.paper.specs.Checks.{Verdict, accepted, refused, check, require}
-use Rattle.paper.specs.Calls.{Answer, answered}
+use Rattle.paper.specs.Calls.{Answer, numberOf, placeOf, answered}
 use Rattle.paper.proofs.Lists.{and-left, and-right}
 use Rattle.paper.proofs.Least.{firstFail-fails, firstFail-before, firstFail-is}
 use Rattle.paper.proofs.Verdicts.{andThen, then-then, check-then, check-next, check-stops, require-next, require-stops}
@@ -60,23 +60,23 @@ says-judged (places number bound good ∷ rest) (refused k q) (later p s) = chec
 says-judged (whole number place good ∷ rest) (refused k q) (later p s) = require-next number place good _ p ∙ says-judged rest (refused k q) s
 
 -- ── an answer by a table whose numbers are not 0 ──
-abbrev pub numberOf : Line → ℕ
-numberOf (places number bound good) = number
-numberOf (whole number place good) = number
+abbrev pub lineNumber : Line → ℕ
+lineNumber (places number bound good) = number
+lineNumber (whole number place good) = number
 
 abbrev pub numbersSome : List Line → Bool
-numbersSome = all (λ line. ltb 0 (numberOf line))
+numbersSome = all (λ line. ltb 0 (lineNumber line))
 
 gives-some : (table : List Line) (k p : ℕ) → numbersSome table ≡ true → Gives k p table → k ≡ 0 → ⊥
 gives-some (places number bound good ∷ rest) k p e (here f) z = let low = ltb-true 0 number (and-left (ltb 0 number) _ e) in let h = f .0 in omega arith
 gives-some (whole number place good ∷ rest) k p e (here f) z = let low = ltb-true 0 number (and-left (ltb 0 number) _ e) in let h = f .0 in omega arith
-gives-some (line ∷ rest) k p e (later q s) z = gives-some rest k p (and-right (ltb 0 (numberOf line)) _ e) s z
+gives-some (line ∷ rest) k p e (later q s) z = gives-some rest k p (and-right (ltb 0 (lineNumber line)) _ e) s z
 
 pub exactly : (table : List Line) (v : Verdict) (count : ℕ) → numbersSome table ≡ true → v ≡ judged table → Exactly table (answered v count)
 exactly table v count some e = record {
-  accepted-if = λ s. let q = is accepted s in (ap (λ u. answered u count .number) q, ap (λ u. answered u count .place) q);
+  accepted-if = λ s. (count, ap (λ u. answered u count) (is accepted s));
   accepted-only = λ z. only v says z;
-  refused-if = λ k p s. let q = is (refused k p) s in (ap (λ u. answered u count .number) q, ap (λ u. answered u count .place) q);
+  refused-if = λ k p s. ap (λ u. answered u count) (is (refused k p) s);
   refused-only = λ wrong. given v says wrong;
 }
   where
@@ -86,17 +86,17 @@ exactly table v count some e = record {
     says : Says table v
     says = rw e (judged-says table)
 
-    only : (u : Verdict) → Says table u → answered u count .number ≡ 0 → Passes table
+    only : (u : Verdict) → Says table u → numberOf (answered u count) ≡ 0 → Passes table
     only accepted s z = s
     only (refused k p) s z = absurd (gives-some table k p some s z)
 
-    given : (u : Verdict) → Says table u → (answered u count .number ≡ 0 → ⊥) → Gives (answered u count .number) (answered u count .place) table
+    given : (u : Verdict) → Says table u → (numberOf (answered u count) ≡ 0 → ⊥) → Gives (numberOf (answered u count)) (placeOf (answered u count)) table
     given accepted s wrong = absurd (wrong refl)
     given (refused k p) s wrong = s
 
 -- ── a call: by its verdict, what it leaves where it refuses, and its contract ──
 pub works : {Left : Type 0} (table : List Line) (answer : Left → Answer) (asWas : Left → Left) (x y : Left) (v : Verdict) (count : ℕ)
-    → numbersSome table ≡ true → v ≡ judged table → answer x ≡ answered v count → ((answer x .number ≡ 0 → ⊥) → x ≡ asWas x) → y ≡ x
+    → numbersSome table ≡ true → v ≡ judged table → answer x ≡ answered v count → ((numberOf (answer x) ≡ 0 → ⊥) → x ≡ asWas x) → y ≡ x
     → Works table answer asWas y
 works table answer asWas x y v count some e a same stated =
     subst⁻¹ (Works table answer asWas) stated (record { exactly = subst⁻¹ (Exactly table) a (exactly table v count some e); unchanged = same })

@@ -9,7 +9,7 @@ use Rattle.paper.specs.Formula.{formula, looked}
 use Rattle.paper.specs.Net.{runs}
 use Rattle.paper.specs.Tables.{rowOf}
 use Rattle.paper.specs.Checks.{Move}
-use Rattle.paper.specs.Calls.{Answer, BuildLent, BuildLeft, buildVerdict, build, Model, Tried, TrialLeft, trialVerdict, trial, Kept, KeepLeft, keepVerdict, keep}
+use Rattle.paper.specs.Calls.{Accepted, numberOf, BuildLent, BuildLeft, buildVerdict, build, Model, Tried, TrialLeft, trialVerdict, trial, Kept, KeepLeft, keepVerdict, keep}
 use Rattle.paper.specs.Demands.{Call, State, modelOf, old, renewed}
 use Rattle.paper.specs.Runs.{building, modelA, startA, zeros, zerosZ}
 use Rattle.paper.proofs.Buffers.{over-at}
@@ -32,27 +32,24 @@ askFive = record { move = endMoved; asked = 1; askedVars = 5 ∷ []; route = 3; 
 abbrev keepEnd : Kept
 keepEnd = record { move = endMoved; flags = zeros 6 }
 
-abbrev accepts : ℕ → Answer
-accepts count = record { number = 0; place = 0; evaluations = count }
-
 abbrev modelLeft : BuildLeft → Model
 modelLeft x = record { tables = modelA; numbers = x .numbers; order = x .order; stored = x .stored }
 
 module _ (start : BuildOutcome A) where
-  pub build-of-A : leftBuilt start .answer ≡ accepts 3
+  pub build-of-A : leftBuilt start .answer ≡ Accepted 3
   unfolding every formula looked runs rowOf buildVerdict build
   build-of-A = ap (λ (x : BuildLeft). x .answer) (start .stated)
 
-  pub trial-of-A : (o : TrialOutcome (leftBuilt start .session) (modelLeft (leftBuilt start)) askFive) → leftTried o .answer ≡ accepts 2
+  pub trial-of-A : (o : TrialOutcome (leftBuilt start .session) (modelLeft (leftBuilt start)) askFive) → leftTried o .answer ≡ Accepted 2
   unfolding every formula looked runs rowOf buildVerdict build trialVerdict trial
   trial-of-A o = ap (λ (x : TrialLeft). x .answer) (o .stated ∙ ap (λ (x : BuildLeft). trial (x .session) (modelLeft x) askFive) (start .stated))
 
-  pub keep-of-A : (o : KeepOutcome (leftBuilt start .session) (modelLeft (leftBuilt start)) keepEnd) → leftKept o .answer ≡ accepts 2
+  pub keep-of-A : (o : KeepOutcome (leftBuilt start .session) (modelLeft (leftBuilt start)) keepEnd) → leftKept o .answer ≡ Accepted 2
   unfolding every formula looked runs rowOf buildVerdict build keepVerdict keep
   keep-of-A o = ap (λ (x : KeepLeft). x .answer) (o .stated ∙ ap (λ (x : BuildLeft). keep (x .session) (modelLeft x) keepEnd) (start .stated))
 
 -- ── after any run ──
-module _ {b : BuildLent} (start : BuildOutcome b) (ok : leftBuilt start .answer .number ≡ 0) (cs : List Call) (now : State) (r : Run start cs now) where
+module _ {b : BuildLent} (start : BuildOutcome b) (ok : numberOf (leftBuilt start .answer) ≡ 0) (cs : List Call) (now : State) (r : Run start cs now) where
   right : RunRight start cs now
   right = demand3 b start ok cs now r
 
@@ -60,27 +57,27 @@ module _ {b : BuildLent} (start : BuildOutcome b) (ok : leftBuilt start .answer 
   stored-at v low = ap (λ row. getD row v (pos 0)) (right .stored) ∙ over-at (old b cs) (b .tables .n) (b .stored) v (pos 0) low
 
   -- a keep that does nothing, at the first keep or at any later one, where its move changes the fresh value of some v
-  pub idle-keep : (c : Kept) (o : KeepOutcome (now .session) (modelOf now (ownOf start)) c) → leftKept o .answer .number ≡ 0
+  pub idle-keep : (c : Kept) (o : KeepOutcome (now .session) (modelOf now (ownOf start)) c) → numberOf (leftKept o .answer) ≡ 0
       → (v : ℕ) → v < b .tables .n → (renewed b cs (c .move) v ≡ old b cs v → ⊥) → o .stored ≡ now .stored → ⊥
   idle-keep c o z v low moves same = moves (
       sym (ap (λ row. getD row v (pos 0)) (right .keep-accepted c o z .stored) ∙ over-at (renewed b cs (c .move)) (b .tables .n) (b .stored) v (pos 0) low)
       ∙ ap (λ row. getD row v (pos 0)) same ∙ stored-at v low)
 
   -- an accepted trial's value at a place asked
-  result-at : (c : Tried) (o : TrialOutcome (now .session) (modelOf now (ownOf start)) c) → leftTried o .answer .number ≡ 0
+  result-at : (c : Tried) (o : TrialOutcome (now .session) (modelOf now (ownOf start)) c) → numberOf (leftTried o .answer) ≡ 0
       → (i : ℕ) → i < c .asked → getD (o .results) i (pos 0) ≡ renewed b cs (c .move) (nat (c .askedVars) i)
   result-at c o z i k =
       ap (λ row. getD row i (pos 0)) (right .trial-accepted c o z .results)
       ∙ over-at (λ j. renewed b cs (c .move) (nat (c .askedVars) j)) (c .asked) (c .results) i (pos 0) k
 
   -- a trial that gives the stored values, where its move changes the fresh value of what is asked
-  pub stored-trial : (c : Tried) (o : TrialOutcome (now .session) (modelOf now (ownOf start)) c) → leftTried o .answer .number ≡ 0
+  pub stored-trial : (c : Tried) (o : TrialOutcome (now .session) (modelOf now (ownOf start)) c) → numberOf (leftTried o .answer) ≡ 0
       → (i v : ℕ) → i < c .asked → nat (c .askedVars) i ≡ v → v < b .tables .n
       → (renewed b cs (c .move) v ≡ old b cs v → ⊥) → getD (o .results) i (pos 0) ≡ getD (now .stored) v (pos 0) → ⊥
   stored-trial c o z i v k is low moves same = moves (ap (renewed b cs (c .move)) (sym is) ∙ sym (result-at c o z i k) ∙ same ∙ stored-at v low)
 
   -- a trial that always gives the same values, where the fresh ones of two moves differ
   pub same-trial : (c c′ : Tried) (o : TrialOutcome (now .session) (modelOf now (ownOf start)) c) (o′ : TrialOutcome (now .session) (modelOf now (ownOf start)) c′)
-      → leftTried o .answer .number ≡ 0 → leftTried o′ .answer .number ≡ 0 → (i : ℕ) → i < c .asked → i < c′ .asked
+      → numberOf (leftTried o .answer) ≡ 0 → numberOf (leftTried o′ .answer) ≡ 0 → (i : ℕ) → i < c .asked → i < c′ .asked
       → (renewed b cs (c .move) (nat (c .askedVars) i) ≡ renewed b cs (c′ .move) (nat (c′ .askedVars) i) → ⊥) → o .results ≡ o′ .results → ⊥
   same-trial c c′ o o′ z z′ i k k′ moves same = moves (sym (result-at c o z i k) ∙ ap (λ row. getD row i (pos 0)) same ∙ result-at c′ o′ z′ i k′)

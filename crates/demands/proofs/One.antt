@@ -1,18 +1,18 @@
 -- Demand 1, each call by the law of its table: the verdict is the table's chain of checks, the paper says what a refusal leaves, and the
 -- contract carries both to the outcome. Assumes nothing.
-use Prim.Native.Nat.{ℕ, zero, suc}
+use Prim.Native.Nat.{ℕ}
 use mathlib.Core.List.{List, [], _∷_, map}
 use mathlib.Core.Path.{_≡_, refl, ap, sym, _∙_}
 use lib.IntN.{ℤ}
 use Rattle.paper.specs.Tables.{Tables}
 use Rattle.paper.specs.Checks.{Verdict, accepted, refused}
-use Rattle.paper.specs.Calls.{Session, Answer, answered, BuildLent, BuildLeft, build, buildVerdict, Model, Tried, TrialLeft, trial, trialVerdict, Kept, KeepLeft, keep, keepVerdict}
+use Rattle.paper.specs.Calls.{Session, Answer, Accepted, Refused, numberOf, answered, BuildLent, BuildLeft, build, buildVerdict, Model, Tried, TrialLeft, trial, trialVerdict, Kept, KeepLeft, keep, keepVerdict}
 use Rattle.paper.specs.File.{write, writeVerdict, read, readVerdict, header, counted}
 use Rattle.paper.specs.Demands.{buildAsWas, trialAsWas, keepAsWas}
 use Rattle.paper.proofs.Outcomes.{build-judged, trial-judged, keep-judged}
 use Rattle.paper.proofs.Demands as paper
-use Rattle.tables.specs.declared.Answer as code
-use Rattle.tables.specs.declared.Answer.the-variants.{Accepted, Refused}
+use Rattle.tables.specs.declared.Answer as code-answer
+use Rattle.tables.specs.declared.Answer.the-variants as code
 use Rattle.engine.specs.Left.{answerIn}
 use Rattle.files.specs.Answers.{verdict, hasRead}
 use Rattle.files.specs.declared.Written.{Written}
@@ -22,16 +22,16 @@ use Rattle.files.specs.declared.Reading.the-variants as reading
 use Rattle.demands.specs.Stated.{BuildOutcome, leftBuilt, TrialOutcome, leftTried, KeepOutcome, leftKept, WriteOutcome, leftWritten, ReadOutcome, leftRead}
 use Rattle.demands.specs.Refusals.{buildTable, trialTable, keepTable, writeTable, headerLines, roomLines, readTable}
 use Rattle.demands.specs.Demands.{BuildWorks, TrialWorks, KeepWorks, WriteWorks, ReadWorks, Demand1}
-use Rattle.demands.proofs.Judged.{judged, judged-then, numberOf, works}
+use Rattle.demands.proofs.Judged.{judged, judged-then, lineNumber, works}
 
 -- ── which numbers each call gives, in which order ──
-pub build-numbers : (l : BuildLent) → map numberOf (buildTable l) ≡ 1 ∷ 2 ∷ 3 ∷ 3 ∷ 4 ∷ 5 ∷ 6 ∷ 7 ∷ []
+pub build-numbers : (l : BuildLent) → map lineNumber (buildTable l) ≡ 1 ∷ 2 ∷ 3 ∷ 3 ∷ 4 ∷ 5 ∷ 6 ∷ 7 ∷ []
 build-numbers l = refl
 
-pub trial-numbers : (w : Model) (c : Tried) → map numberOf (trialTable w c) ≡ 1 ∷ 2 ∷ 3 ∷ 3 ∷ 4 ∷ 5 ∷ 8 ∷ 7 ∷ 9 ∷ 10 ∷ 11 ∷ 12 ∷ 13 ∷ []
+pub trial-numbers : (w : Model) (c : Tried) → map lineNumber (trialTable w c) ≡ 1 ∷ 2 ∷ 3 ∷ 3 ∷ 4 ∷ 5 ∷ 8 ∷ 7 ∷ 9 ∷ 10 ∷ 11 ∷ 12 ∷ 13 ∷ []
 trial-numbers w c = refl
 
-pub keep-numbers : (w : Model) (c : Kept) → map numberOf (keepTable w c) ≡ 1 ∷ 2 ∷ 3 ∷ 3 ∷ 4 ∷ 5 ∷ 8 ∷ 7 ∷ 10 ∷ 11 ∷ 12 ∷ []
+pub keep-numbers : (w : Model) (c : Kept) → map lineNumber (keepTable w c) ≡ 1 ∷ 2 ∷ 3 ∷ 3 ∷ 4 ∷ 5 ∷ 8 ∷ 7 ∷ 10 ∷ 11 ∷ 12 ∷ []
 keep-numbers w c = refl
 
 -- ── each verdict is its table's ──
@@ -73,8 +73,8 @@ module _ (s : Session) (w : Model) where
       (ap (λ (x : KeepLeft). x .answer) (keep-judged s w c .is (keepVerdict w c) refl)) (paper.demand1 .keep-refused s w c) (o .stated)
 
 -- ── files: a verdict that is not acceptance has a number ──
-some-number : (v : Verdict) → (answered v 0 .number ≡ 0 → ⊥) → v ≡ accepted → ⊥
-some-number v wrong e = wrong (ap (λ u. answered u 0 .number) e)
+some-number : (v : Verdict) → (numberOf (answered v 0) ≡ 0 → ⊥) → v ≡ accepted → ⊥
+some-number v wrong e = wrong (ap (λ u. numberOf (answered u 0)) e)
 
 pub write-works : (t : Tables) (starts : List ℤ) (lent : List ℕ) (o : WriteOutcome t starts lent) → WriteWorks t starts lent (leftWritten o)
 write-works t starts lent o =
@@ -89,18 +89,16 @@ read-works bytes lent starts o =
     (λ wrong. ap (λ z. (x .0, z)) (paper.demand1 .read-refused bytes t starts (some-number (x .0) wrong))) (o .stated)
 
 -- ── the code's answer from what is left ──
-abbrev answerBy : ℕ → ℕ → ℕ → code.Answer
-answerBy zero zero count = Accepted count
-answerBy zero (suc place) count = Refused zero place
-answerBy (suc number) place count = Refused (suc number) place
+abbrev answerBy : Answer → code-answer.Answer
+answerBy (Accepted evaluations) = code.Accepted evaluations
+answerBy (Refused number place) = code.Refused number place
 
-answer-is : (r : code.Answer) → let a = answerIn r in answerBy (a .number) (a .place) (a .evaluations) ≡ r
-answer-is (Accepted count) = refl
-answer-is (Refused zero place) = refl
-answer-is (Refused (suc number) place) = refl
+answer-is : (r : code-answer.Answer) → answerBy (answerIn r) ≡ r
+answer-is (code.Accepted evaluations) = refl
+answer-is (code.Refused number place) = refl
 
-one-answer : {r r′ : code.Answer} → answerIn r ≡ answerIn r′ → r ≡ r′
-one-answer {r} {r′} e = sym (answer-is r) ∙ ap (λ (a : Answer). answerBy (a .number) (a .place) (a .evaluations)) e ∙ answer-is r′
+one-answer : {r r′ : code-answer.Answer} → answerIn r ≡ answerIn r′ → r ≡ r′
+one-answer {r} {r′} e = sym (answer-is r) ∙ ap answerBy e ∙ answer-is r′
 
 abbrev writtenBy : Verdict → Written
 writtenBy accepted = written.Accepted

@@ -3,7 +3,7 @@
 use mathlib.Core.List.{List, []}
 use mathlib.Core.Path.{_≡_, refl, ap, sym, _∙_, subst⁻¹}
 use Rattle.paper.specs.Net.{input-to-output}
-use Rattle.paper.specs.Calls.{BuildLent, BuildLeft, Tried, TrialLeft, trial, Kept, KeepLeft, keep}
+use Rattle.paper.specs.Calls.{numberOf, evaluationsOf, BuildLent, BuildLeft, Tried, TrialLeft, trial, Kept, KeepLeft, keep}
 use Rattle.paper.specs.Demands.{own, Lends, Call, tries, keeps, State, rowAfter, modelOf, step, ownModel, after, Proper, triedSet, evaluatedBy, Told, tried, kept, Demand3 as PaperDemand3}
 use Rattle.paper.proofs.Outcomes.{trial-judged, keep-judged}
 use Rattle.paper.proofs.Demands as paper
@@ -35,44 +35,44 @@ module _ {b : BuildLent} (start : BuildOutcome b) where
   pub run-proper : {cs : List Call} {now : State} → Run start cs now → Proper b cs
   run-proper built = tt
   run-proper (then-trial {cs} {now} r l c o p) = (
-    λ good. p (ap (λ (x : TrialLeft). x .answer .number) (trial-is cs now (run-after r) l c o) ∙ trial-judged (after b cs .session) (modelOf (after b cs) l) c .zero good) ∙ own-is,
+    λ good. p (ap (λ (x : TrialLeft). numberOf (x .answer)) (trial-is cs now (run-after r) l c o) ∙ trial-judged (after b cs .session) (modelOf (after b cs) l) c .zero good) ∙ own-is,
     run-proper r,
   )
   run-proper (then-keep {cs} {now} r l c o p) = (
-    λ good. p (ap (λ (x : KeepLeft). x .answer .number) (keep-is cs now (run-after r) l c o) ∙ keep-judged (after b cs .session) (modelOf (after b cs) l) c .zero good) ∙ own-is,
+    λ good. p (ap (λ (x : KeepLeft). numberOf (x .answer)) (keep-is cs now (run-after r) l c o) ∙ keep-judged (after b cs .session) (modelOf (after b cs) l) c .zero good) ∙ own-is,
     run-proper r,
   )
 
   -- ── what holds after it ──
-  run-right : leftBuilt start .answer .number ≡ 0 → (cs : List Call) (now : State) → Run start cs now → RunRight start cs now
+  run-right : numberOf (leftBuilt start .answer) ≡ 0 → (cs : List Call) (now : State) → Run start cs now → RunRight start cs now
   run-right ok cs now r = record {
     is = e;
     stored = ap (λ (s : State). s .stored) e ∙ d .stored;
     moves = ap (λ (s : State). s .session .kept) e ∙ d .moves;
     trial-accepted = λ c o z.
         let q = trial-is cs now e (ownOf start) c o ∙ ap (λ l. tried b cs l c) own-is in
-        let right = d .trial-accepted c (sym (ap (λ (x : TrialLeft). x .answer .number) q) ∙ z) in
+        let right = d .trial-accepted c (sym (ap (λ (x : TrialLeft). numberOf (x .answer)) q) ∙ z) in
         record {
           results = ap (λ (x : TrialLeft). x .results) q ∙ right .results;
-          told = subst⁻¹ (λ (x : TrialLeft). Told b cs (triedSet b cs (ownModel b) c) (x .answer .evaluations) (x .flags) (c .flags)) q (right .told);
+          told = subst⁻¹ (λ (x : TrialLeft). Told b cs (triedSet b cs (ownModel b) c) (evaluationsOf (x .answer)) (x .flags) (c .flags)) q (right .told);
           is = q;
           right = right;
         };
     keep-accepted = λ c o z.
         let q = keep-is cs now e (ownOf start) c o ∙ ap (λ l. kept b cs l c) own-is in
-        let right = d .keep-accepted c (sym (ap (λ (x : KeepLeft). x .answer .number) q) ∙ z) in
+        let right = d .keep-accepted c (sym (ap (λ (x : KeepLeft). numberOf (x .answer)) q) ∙ z) in
         record {
           stored = ap (λ (x : KeepLeft). x .stored) q ∙ right .stored;
-          told = subst⁻¹ (λ (x : KeepLeft). Told b cs (evaluatedBy b cs input-to-output (c .move) []) (x .answer .evaluations) (x .flags) (c .flags)) q (right .told);
+          told = subst⁻¹ (λ (x : KeepLeft). Told b cs (evaluatedBy b cs input-to-output (c .move) []) (evaluationsOf (x .answer)) (x .flags) (c .flags)) q (right .told);
           is = q;
           right = right;
         };
     trial-stored = λ l c o. refl;
     trial-refused = λ l c o wrong.
         run-after (then-trial r l c o (λ z. absurd (wrong z)))
-        ∙ d .trial-refused l c (λ z. wrong (ap (λ (x : TrialLeft). x .answer .number) (trial-is cs now e l c o) ∙ z)) .1 ∙ sym e;
+        ∙ d .trial-refused l c (λ z. wrong (ap (λ (x : TrialLeft). numberOf (x .answer)) (trial-is cs now e l c o) ∙ z)) .1 ∙ sym e;
     keep-refused = λ l c o wrong.
-        let left = d .keep-refused l c (λ z. wrong (ap (λ (x : KeepLeft). x .answer .number) (keep-is cs now e l c o) ∙ z)) in
+        let left = d .keep-refused l c (λ z. wrong (ap (λ (x : KeepLeft). numberOf (x .answer)) (keep-is cs now e l c o) ∙ z)) in
         (run-after (then-keep r l c o (λ z. absurd (wrong z))) ∙ left .1 ∙ sym e, left .2);
   }
     where
@@ -80,7 +80,7 @@ module _ {b : BuildLent} (start : BuildOutcome b) where
       e = run-after r
 
       d : PaperDemand3 b cs
-      d = paper.demand3 b (sym (ap (λ (x : BuildLeft). x .answer .number) (start .stated)) ∙ ok) cs (run-proper r)
+      d = paper.demand3 b (sym (ap (λ (x : BuildLeft). numberOf (x .answer)) (start .stated)) ∙ ok) cs (run-proper r)
 
 -- ── the demand ──
 pub demand3 : Demand3

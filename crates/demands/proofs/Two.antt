@@ -9,7 +9,7 @@ use Rattle.paper.specs.Lists.{nat, greatest}
 use Rattle.paper.specs.Net.{Values, number, afresh}
 use Rattle.paper.specs.Tables.{Tables, net, isMade, inputsOf, valuesIn}
 use Rattle.paper.specs.Checks.{accepted, Sound}
-use Rattle.paper.specs.Calls.{BuildLent, BuildLeft, startValues, build}
+use Rattle.paper.specs.Calls.{numberOf, BuildLent, BuildLeft, startValues, build}
 use Rattle.paper.specs.File.{endsAt, counted, write, read}
 use Rattle.paper.specs.Demands.{BuildRight, cut}
 use Rattle.paper.proofs.Lists.{map-same}
@@ -27,7 +27,7 @@ module _ {l : BuildLent} (o : BuildOutcome l) where
   abbrev t : Tables
   t = l .tables
 
-  pub built-right : leftBuilt o .answer .number ≡ 0 → BuiltRight o
+  pub built-right : numberOf (leftBuilt o .answer) ≡ 0 → BuiltRight o
   built-right ok = record {
     not-circular = right .not-circular;
     numbers = λ v low.
@@ -41,8 +41,8 @@ module _ {l : BuildLent} (o : BuildOutcome l) where
         (lawful t .looks v values (valuesIn t (o .stored)) (λ i m. sym (value-at i (inputs-below t sound v i (lawful t .asks-in v values i m)))));
   }
     where
-      zero-is : build l .answer .number ≡ 0
-      zero-is = sym (ap (λ (x : BuildLeft). x .answer .number) (o .stated)) ∙ ok
+      zero-is : numberOf (build l .answer) ≡ 0
+      zero-is = sym (ap (λ (x : BuildLeft). numberOf (x .answer)) (o .stated)) ∙ ok
 
       right : BuildRight l
       right = paper.demand2 .build-accepted l zero-is

@@ -10,7 +10,7 @@ use Rattle.paper.specs.Lists.{nat, over}
 use Rattle.paper.specs.Net.{valuation, numbering, input-to-output}
 use Rattle.paper.specs.Tables.{Tables, net, valuesIn, order}
 use Rattle.paper.specs.Checks.{Verdict, accepted}
-use Rattle.paper.specs.Calls.{Session, Answer, answered, BuildLent, BuildLeft, startValues, Model, Tried, TrialLeft, Kept, KeepLeft}
+use Rattle.paper.specs.Calls.{Session, Answer, Accepted, Refused, numberOf, placeOf, evaluationsOf, answered, BuildLent, BuildLeft, startValues, Model, Tried, TrialLeft, Kept, KeepLeft}
 use Rattle.paper.specs.File.{endsAt, held, counted}
 use Rattle.paper.specs.Demands.{buildAsWas, trialAsWas, keepAsWas, Circular, FivePassed, LeastUnnumbered, Fitting, cut, Lends, Call, keeps, State, modelOf, ownModel, after, history, old, renewed, evaluatedBy, Told, tried, triedSet, TrialRight, kept, KeepRight}
 use Rattle.demands.specs.Stated.{BuildOutcome, leftBuilt, TrialOutcome, leftTried, KeepOutcome, leftKept, WriteOutcome, leftWritten, ReadOutcome, leftRead}
@@ -19,15 +19,15 @@ use Rattle.demands.specs.Runs.{ownOf, afterTrial, afterKeep, Run}
 
 -- ── demand 1: a call works, or refuses with the paper's number and place exactly where the table gives them, and then changes nothing ──
 pub record Exactly (table : List Line) (a : Answer) : Type 0 where
-  pub accepted-if : Passes table → (a .number ≡ 0) × (a .place ≡ 0)
-  pub accepted-only : a .number ≡ 0 → Passes table
-  pub refused-if : (k p : ℕ) → Gives k p table → (a .number ≡ k) × (a .place ≡ p)
-  pub refused-only : (a .number ≡ 0 → ⊥) → Gives (a .number) (a .place) table
+  pub accepted-if : Passes table → (count : ℕ) × (a ≡ Accepted count)
+  pub accepted-only : numberOf a ≡ 0 → Passes table
+  pub refused-if : (k p : ℕ) → Gives k p table → a ≡ Refused k p
+  pub refused-only : (numberOf a ≡ 0 → ⊥) → Gives (numberOf a) (placeOf a) table
 
 -- x is what a call leaves; `asWas` puts all but the answer as it was lent
 pub record Works {Left : Type 0} (table : List Line) (answer : Left → Answer) (asWas : Left → Left) (x : Left) : Type 0 where
   pub exactly : Exactly table (answer x)
-  pub unchanged : (answer x .number ≡ 0 → ⊥) → x ≡ asWas x
+  pub unchanged : (numberOf (answer x) ≡ 0 → ⊥) → x ≡ asWas x
 
 abbrev pub BuildWorks : (l : BuildLent) → BuildLeft → Type 0
 BuildWorks l = Works (buildTable l) (λ x. x .answer) (λ x. buildAsWas l (x .answer))
@@ -71,12 +71,12 @@ pub record BuiltRight {l : BuildLent} (o : BuildOutcome l) : Type 0 where
 
 -- circular exactly if some variable depends on itself, at the least variable that can have no topological number
 pub record CircularExactly (l : BuildLent) (a : Answer) : Type 0 where
-  pub given : FivePassed l → Circular l → a .number ≡ 6
-  pub only : a .number ≡ 6 → FivePassed l × Circular l
-  pub place : a .number ≡ 6 → LeastUnnumbered (l .tables) (a .place)
+  pub given : FivePassed l → Circular l → numberOf a ≡ 6
+  pub only : numberOf a ≡ 6 → FivePassed l × Circular l
+  pub place : numberOf a ≡ 6 → LeastUnnumbered (l .tables) (placeOf a)
 
 pub record Demand2 : Type 0 where
-  pub build-accepted : (l : BuildLent) (o : BuildOutcome l) → leftBuilt o .answer .number ≡ 0 → BuiltRight o
+  pub build-accepted : (l : BuildLent) (o : BuildOutcome l) → numberOf (leftBuilt o .answer) ≡ 0 → BuiltRight o
   pub build-circular : (l : BuildLent) (o : BuildOutcome l) → CircularExactly l (leftBuilt o .answer)
   -- what was written is read back to the same tables, by lent rows that hold them
   pub read-back : (t : Tables) (starts : List ℤ) (lent : List ℕ) (w : WriteOutcome t starts lent) → Fitting t starts → leftWritten w .0 ≡ accepted
@@ -92,7 +92,7 @@ module _ {b : BuildLent} (start : BuildOutcome b) (cs : List Call) (now : State)
   -- an accepted trial, by any route: the values worked out afresh, and the evaluations are the size of the route's set
   pub record TrialFresh (c : Tried) (o : TrialOutcome (now .session) (modelOf now (ownOf start)) c) : Type 0 where
     pub results : o .results ≡ over (c .asked) (λ i. renewed b cs (c .move) (nat (c .askedVars) i)) (c .results)
-    pub told : Told b cs (triedSet b cs (ownModel b) c) (leftTried o .answer .evaluations) (o .flags) (c .flags)
+    pub told : Told b cs (triedSet b cs (ownModel b) c) (evaluationsOf (leftTried o .answer)) (o .flags) (c .flags)
     -- it is the paper's trial, and that is right in all else
     pub is : leftTried o ≡ tried b cs (ownModel b) c
     pub right : TrialRight b cs (ownModel b) c
@@ -100,7 +100,7 @@ module _ {b : BuildLent} (start : BuildOutcome b) (cs : List Call) (now : State)
   -- an accepted keep: it leaves exactly the fresh values
   pub record KeepFresh (c : Kept) (o : KeepOutcome (now .session) (modelOf now (ownOf start)) c) : Type 0 where
     pub stored : o .stored ≡ over (b .tables .n) (renewed b cs (c .move)) (b .stored)
-    pub told : Told b cs (evaluatedBy b cs input-to-output (c .move) []) (leftKept o .answer .evaluations) (o .flags) (c .flags)
+    pub told : Told b cs (evaluatedBy b cs input-to-output (c .move) []) (evaluationsOf (leftKept o .answer)) (o .flags) (c .flags)
     pub is : leftKept o ≡ kept b cs (ownModel b) c
     pub right : KeepRight b cs (ownModel b) c
 
@@ -110,14 +110,14 @@ module _ {b : BuildLent} (start : BuildOutcome b) (cs : List Call) (now : State)
     pub stored : now .stored ≡ over (b .tables .n) (old b cs) (b .stored)
     pub moves : now .session .kept ≡ min (length (history b cs)) 4294967295
     -- the next call, if it is accepted and was lent the model's own
-    pub trial-accepted : (c : Tried) (o : TrialOutcome (now .session) (modelOf now (ownOf start)) c) → leftTried o .answer .number ≡ 0 → TrialFresh c o
-    pub keep-accepted : (c : Kept) (o : KeepOutcome (now .session) (modelOf now (ownOf start)) c) → leftKept o .answer .number ≡ 0 → KeepFresh c o
+    pub trial-accepted : (c : Tried) (o : TrialOutcome (now .session) (modelOf now (ownOf start)) c) → numberOf (leftTried o .answer) ≡ 0 → TrialFresh c o
+    pub keep-accepted : (c : Kept) (o : KeepOutcome (now .session) (modelOf now (ownOf start)) c) → numberOf (leftKept o .answer) ≡ 0 → KeepFresh c o
     -- no trial alters a stored value, and a refused call leaves the state, whatever it was lent
     pub trial-stored : (l : Lends) (c : Tried) (o : TrialOutcome (now .session) (modelOf now l) c) → afterTrial now (o .done) .stored ≡ now .stored
-    pub trial-refused : (l : Lends) (c : Tried) (o : TrialOutcome (now .session) (modelOf now l) c) → (leftTried o .answer .number ≡ 0 → ⊥)
+    pub trial-refused : (l : Lends) (c : Tried) (o : TrialOutcome (now .session) (modelOf now l) c) → (numberOf (leftTried o .answer) ≡ 0 → ⊥)
         → afterTrial now (o .done) ≡ now
-    pub keep-refused : (l : Lends) (c : Kept) (o : KeepOutcome (now .session) (modelOf now l) c) → (leftKept o .answer .number ≡ 0 → ⊥)
+    pub keep-refused : (l : Lends) (c : Kept) (o : KeepOutcome (now .session) (modelOf now l) c) → (numberOf (leftKept o .answer) ≡ 0 → ⊥)
         → (afterKeep now (l .stored) (o .done) (o .stored) ≡ now) × (history b (keeps l c ∷ cs) ≡ history b cs)
 
 abbrev pub Demand3 : Type 0
-Demand3 = (b : BuildLent) (start : BuildOutcome b) → leftBuilt start .answer .number ≡ 0 → (cs : List Call) (now : State) → Run start cs now → RunRight start cs now
+Demand3 = (b : BuildLent) (start : BuildOutcome b) → numberOf (leftBuilt start .answer) ≡ 0 → (cs : List Call) (now : State) → Run start cs now → RunRight start cs now

@@ -3,7 +3,7 @@
 use mathlib.Core.List.{List, [], _∷_}
 use mathlib.Core.Path.{_≡_}
 use lib.IntN.{ℤ}
-use Rattle.paper.specs.Calls.{BuildLent, Tried, Kept}
+use Rattle.paper.specs.Calls.{numberOf, BuildLent, Tried, Kept}
 use Rattle.paper.specs.Demands.{Row, own, Lends, Call, tries, keeps, State, rowAfter, modelOf}
 use Rattle.engine.specs.Left.{recordIn}
 use Rattle.engine.specs.declared.Done.{Done}
@@ -30,6 +30,6 @@ module _ {b : BuildLent} (start : BuildOutcome b) where
   pub data Run : List Call → State → Type 0 where
     built : Run [] (afterBuild (start .done) (start .stored))
     then-trial : {cs : List Call} {now : State} → Run cs now → (l : Lends) (c : Tried) (o : TrialOutcome (now .session) (modelOf now l) c)
-        → (leftTried o .answer .number ≡ 0 → l ≡ ownOf) → Run (tries l c ∷ cs) (afterTrial now (o .done))
+        → (numberOf (leftTried o .answer) ≡ 0 → l ≡ ownOf) → Run (tries l c ∷ cs) (afterTrial now (o .done))
     then-keep : {cs : List Call} {now : State} → Run cs now → (l : Lends) (c : Kept) (o : KeepOutcome (now .session) (modelOf now l) c)
-        → (leftKept o .answer .number ≡ 0 → l ≡ ownOf) → Run (keeps l c ∷ cs) (afterKeep now (l .stored) (o .done) (o .stored))
+        → (numberOf (leftKept o .answer) ≡ 0 → l ≡ ownOf) → Run (keeps l c ∷ cs) (afterKeep now (l .stored) (o .done) (o .stored))

@@ -10,12 +10,12 @@ use lib.ListN.{length, take}
 use borrow.Author.Tests.{leb-true, lt-ltb}
 use Rattle.paper.specs.Lists.{all, nat}
 use Rattle.paper.specs.Checks.{accepted}
-use Rattle.paper.specs.Calls.{Session, Model, Tried, trialFits, trialVerdict, trial, Kept, keepFits, keepVerdict, keep}
+use Rattle.paper.specs.Calls.{Session, Accepted, Model, Tried, trialFits, trialVerdict, trial, Kept, keepFits, keepVerdict, keep}
 use Rattle.paper.proofs.Lists.{each}
 use Rattle.paper.proofs.Verdicts.{require-held}
 use Rattle.paper.proofs.Outcomes.{trial-meets, keep-meets}
 use Rattle.paper.proofs.Known.{ModelKnown, MoveKnown, trial-known, keep-known}
-use Rattle.engine.specs.Accepted.{Keeping, Trying, TrialFilled, KeepFilled}
+use Rattle.fills.specs.Accepted.{Keeping, Trying, TrialFilled, KeepFilled}
 
 -- the first k entries, each below n
 all-low : (n k : ℕ) (l : List ℕ) → k ≤ length l → ((i : ℕ) → i < k → nat l i < n) → all (λ v. ltb v n) (take k l) ≡ true
@@ -54,14 +54,14 @@ trying-of w c e =
 -- ── the call's equation ──
 pub trial-met : (s : Session) (w : Model) (c : Tried) (count : ℕ) (results trial′ : List ℤ) (flags : List ℕ) → trialVerdict w c ≡ accepted
     → TrialFilled (w .tables) (w .stored) c count results trial′ flags
-    → record { answer = record { number = 0; place = 0; evaluations = count }; session = record { kept = s .kept; evaluations = count }; results = results; trial = trial′; flags = flags } ≡ trial s w c
+    → record { answer = Accepted count; session = record { kept = s .kept; evaluations = count }; results = results; trial = trial′; flags = flags } ≡ trial s w c
 trial-met s w c count results trial′ flags v f =
-    trial-meets s w c _ accepted v (ap (λ n. record { number = 0; place = 0; evaluations = n }) (f .count-is)) (ap (λ n. record { kept = s .kept; evaluations = n }) (f .count-is))
+    trial-meets s w c _ accepted v (ap Accepted (f .count-is)) (ap (λ n. record { kept = s .kept; evaluations = n }) (f .count-is))
     (f .results-are) (f .trial-is) (f .flags-are)
 
 pub keep-met : (s : Session) (w : Model) (c : Kept) (count kept : ℕ) (stored : List ℤ) (flags : List ℕ) → keepVerdict w c ≡ accepted
     → KeepFilled (w .tables) (w .stored) c count stored flags → kept ≡ min (suc (s .kept)) 4294967295
-    → record { answer = record { number = 0; place = 0; evaluations = count }; session = record { kept = kept; evaluations = count }; stored = stored; flags = flags } ≡ keep s w c
+    → record { answer = Accepted count; session = record { kept = kept; evaluations = count }; stored = stored; flags = flags } ≡ keep s w c
 keep-met s w c count kept stored flags v f e =
-    keep-meets s w c _ accepted v (ap (λ n. record { number = 0; place = 0; evaluations = n }) (f .count-is)) (ap₂ (λ n k. record { kept = k; evaluations = n }) (f .count-is) e)
+    keep-meets s w c _ accepted v (ap Accepted (f .count-is)) (ap₂ (λ n k. record { kept = k; evaluations = n }) (f .count-is) e)
     (f .stored-is) (f .flags-are)

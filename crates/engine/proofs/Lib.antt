@@ -1,10 +1,4 @@
-pub mod Lengths
-pub mod Answers
-pub mod Judging
-pub mod JudgingMoves
-pub mod Fills
-pub mod Settled
-pub mod Ran
 pub mod Accepts
-pub mod Writes
 pub mod Record
+pub mod Setting
+pub mod Spelled

@@ -1,18 +1,17 @@
 -- What a call leaves to its caller, in the paper's records. Assumes nothing.
-use Prim.Native.Nat.{ℕ, zero, suc}
+use Prim.Native.Nat.{ℕ}
 use mathlib.Core.List.{List}
 use lib.IntN.{ℤ}
-use Rattle.paper.specs.Calls.{Answer, Session, BuildLeft, TrialLeft, KeepLeft}
-use Rattle.tables.specs.declared.Answer as code
-use Rattle.tables.specs.declared.Answer.the-variants.{Accepted, Refused}
+use Rattle.paper.specs.Calls.{Answer, Accepted, Refused, Session, BuildLeft, TrialLeft, KeepLeft}
+use Rattle.tables.specs.declared.Answer as code-answer
+use Rattle.tables.specs.declared.Answer.the-variants as code
 use Rattle.engine.specs.declared.Session as code-session
 use Rattle.engine.specs.declared.Done.{Done}
 
--- an answer of the code as the paper's, each as one of its own: a refusal without a number, which no call gives, is not an acceptance
-abbrev pub answerIn : code.Answer → Answer
-answerIn (Accepted count) = record { number = 0; place = 0; evaluations = count }
-answerIn (Refused zero place) = record { number = 0; place = suc place; evaluations = 0 }
-answerIn (Refused (suc number) place) = record { number = suc number; place = place; evaluations = 0 }
+-- the answer of the code as the paper's
+abbrev pub answerIn : code-answer.Answer → Answer
+answerIn (code.Accepted evaluations) = Accepted evaluations
+answerIn (code.Refused number place) = Refused number place
 
 -- the session record of the code as the paper's
 abbrev pub recordIn : code-session.Session → Session

@@ -1,11 +1,12 @@
 // The calls over a lent session record, and for callers that hold none.
 ghost use mathlib.Core.Path.{_≡_};
 ghost use Rattle.paper.specs.Calls.{build as built, trial as tried, keep as kept};
-ghost use Rattle.engine.specs.Lent.{toBuild, toModel, toTry, toKeep};
+ghost use Rattle.judges.specs.Lent.{toBuild, toModel, toTry, toKeep};
 ghost use Rattle.engine.specs.Left.{recordIn, leftByBuild, leftByTrial, leftByKeep};
 use crate::Done;
 use crate::Session;
 use crate::building::build_core;
+use crate::counters::set_counts;
 use crate::keeping::keep_core;
 use crate::trying::trial_core;
 use tables::Answer;
@@ -47,7 +48,7 @@ pub fn build(
         order,
         stored,
     );
-    *session = done.session;
+    set_counts(session, done.session.kept, done.session.evaluations);
     done.answer
 }
 
@@ -150,7 +151,7 @@ pub fn trial(
         trial,
         flags,
     );
-    *session = done.session;
+    set_counts(session, done.session.kept, done.session.evaluations);
     done.answer
 }
 
@@ -197,6 +198,6 @@ pub fn keep(
         move_values,
         flags,
     );
-    *session = done.session;
+    set_counts(session, done.session.kept, done.session.evaluations);
     done.answer
 }

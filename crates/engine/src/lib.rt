@@ -3,11 +3,8 @@ use tables::Answer;
 
 mod building;
 mod calls;
-mod fits;
-mod judge;
-mod judge_moves;
+mod counters;
 mod keeping;
-mod model;
 mod trying;
 
 pub use building::build_core;

@@ -7,7 +7,7 @@ use mathlib.Core.Path.{_≡_, refl, ap, sym, _∙_, subst}
 use Rattle.paper.specs.Lists.{firstFail}
 use Rattle.paper.specs.Tables.{Tables, net, inputsOf, ends}
 use Rattle.paper.specs.Checks.{Verdict, accepted, refused, check, sized, startGood, Sound}
-use Rattle.paper.specs.Calls.{BuildLent, BuildLeft, buildFits, startValues, buildVerdict, buildLeaves, build}
+use Rattle.paper.specs.Calls.{numberOf, placeOf, BuildLent, BuildLeft, buildFits, startValues, buildVerdict, buildLeaves, build}
 use Rattle.paper.specs.Demands.{Circular, FivePassed, LeastUnnumbered, CircularExactly, BuildRight}
 use Rattle.paper.proofs.Lists.{clash, and-left}
 use Rattle.paper.proofs.Least.{firstFail-before, firstFail-fails}
@@ -30,7 +30,7 @@ module _ (b : BuildLent) where
   least = firstFail (ends t) (t .n)
 
   -- ── an accepted build ──
-  pub build-right : build b .answer .number ≡ 0 → BuildRight b
+  pub build-right : numberOf (build b .answer) ≡ 0 → BuildRight b
   build-right ok = record {
     not-circular = λ c. circle-unable (inputsOf t) (t .n) (c .0) (c .1) (known .chains (c .0));
     numbers = ap (λ (x : BuildLeft). x .numbers) left;
@@ -39,7 +39,7 @@ module _ (b : BuildLent) where
     stored = ap (λ (x : BuildLeft). x .stored) left;
     stored-meet = afresh-equation (net t) (lawful t) (t .n) (known .chains) (startValues b);
     session = ap (λ (x : BuildLeft). x .session) left;
-    count = ap (λ (x : BuildLeft). x .answer .evaluations) left;
+    answer = ap (λ (x : BuildLeft). x .answer) left;
   }
     where
       known : BuildKnown b
@@ -87,15 +87,15 @@ module _ (b : BuildLent) where
       later h = refused-not (sym (check-other 7 (t .n) (startGood t (startValues b)) accepted 6 p (λ q. omega arith) h .1))
 
   -- the answer's number and place are the verdict's
-  answer-six : build b .answer .number ≡ 6 → Six (build b .answer .place)
+  answer-six : numberOf (build b .answer) ≡ 6 → Six (placeOf (build b .answer))
   answer-six h = go (buildVerdict b) refl
     where
-      go : (v : Verdict) → buildVerdict b ≡ v → Six (build b .answer .place)
-      go accepted e = let q = ap (λ (x : BuildLeft). x .answer .number) (build-judged b .is accepted e) in absurd (omega arith)
+      go : (v : Verdict) → buildVerdict b ≡ v → Six (placeOf (build b .answer))
+      go accepted e = let q = ap (λ (x : BuildLeft). numberOf (x .answer)) (build-judged b .is accepted e) in absurd (omega arith)
       go (refused c p) e =
           let q = build-judged b .is (refused c p) e in
-          let is-six : c ≡ 6 = sym (ap (λ (x : BuildLeft). x .answer .number) q) ∙ h in
-          subst Six (sym (ap (λ (x : BuildLeft). x .answer .place) q)) (six p (e ∙ ap (λ z. refused z p) is-six))
+          let is-six : c ≡ 6 = sym (ap (λ (x : BuildLeft). numberOf (x .answer)) q) ∙ h in
+          subst Six (sym (ap (λ (x : BuildLeft). placeOf (x .answer)) q)) (six p (e ∙ ap (λ z. refused z p) is-six))
 
   least-unnumbered : Five → least < t .n → LeastUnnumbered t least
   least-unnumbered f low = record {
@@ -106,7 +106,7 @@ module _ (b : BuildLent) where
 
   pub circular-exactly : CircularExactly b
   circular-exactly = record {
-    given = λ e c. ap (λ (x : BuildLeft). x .answer .number) (build-judged b .is (refused 6 least) (circular-six (five e) c));
+    given = λ e c. ap (λ (x : BuildLeft). numberOf (x .answer)) (build-judged b .is (refused 6 least) (circular-six (five e) c));
     only = λ h. let k = answer-six h in let s = k .five .sound in
         (five-passed (k .five), fails-circle (net t) (lawful t) (t .n) (inputs-below t s) (made-below t s) (sized-facts t (s .sized) .n-some) (k .low));
     place = λ h. let k = answer-six h in subst (LeastUnnumbered t) (k .place) (least-unnumbered (k .five) (k .low));

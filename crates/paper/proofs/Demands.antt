@@ -1,7 +1,7 @@
 -- The three demands, each from the page that proves it. Assumes nothing.
 use mathlib.Core.List.{List}
 use mathlib.Core.Path.{_≡_}
-use Rattle.paper.specs.Calls.{BuildLent, build}
+use Rattle.paper.specs.Calls.{numberOf, BuildLent, build}
 use Rattle.paper.specs.Demands.{Call, Proper, Demand1, Demand2, Demand3}
 use Rattle.paper.proofs.Outcomes.{build-judged, trial-judged, keep-judged}
 use Rattle.paper.proofs.Build.{build-right, circular-exactly}
@@ -26,5 +26,5 @@ pub demand2 : Demand2
 demand2 = record { build-accepted = build-right; build-circular = circular-exactly; read-back = read-back; written-back = written-back }
 
 -- over any run of trials and keeps after an accepted build
-pub demand3 : (b : BuildLent) → build b .answer .number ≡ 0 → (cs : List Call) → Proper b cs → Demand3 b cs
+pub demand3 : (b : BuildLent) → numberOf (build b .answer) ≡ 0 → (cs : List Call) → Proper b cs → Demand3 b cs
 demand3 b ok cs p = session b ok cs p

@@ -9,7 +9,7 @@ use lib.ListN.{take}
 use Rattle.paper.specs.Lists.{between, total, nat, firstFail}
 use Rattle.paper.specs.Tables.{Tables, ends}
 use Rattle.paper.specs.Checks.{Verdict, accepted, refused, check, require, kindGood, shapeGood, numberGood, madeOnce, tableChecks, startGood, storedGood, numbered, Move, movable, namedOnce, hasValue, moveChecks}
-use Rattle.paper.specs.Calls.{Session, Answer, BuildLent, BuildLeft, buildFits, startValues, buildVerdict, buildLeaves, build, Model, storedValues, modelChecks, Tried, TrialLeft, trialFits, trialVerdict, trialLeaves, trial, Kept, KeepLeft, keepFits, keepVerdict, keepLeaves, keep}
+use Rattle.paper.specs.Calls.{Session, Answer, numberOf, BuildLent, BuildLeft, buildFits, startValues, buildVerdict, buildLeaves, build, Model, storedValues, modelChecks, Tried, TrialLeft, trialFits, trialVerdict, trialLeaves, trial, Kept, KeepLeft, keepFits, keepVerdict, keepLeaves, keep}
 use Rattle.paper.specs.Demands.{buildAsWas, trialAsWas, keepAsWas}
 use Rattle.paper.proofs.Verdicts.{refused-not}
 
@@ -75,14 +75,14 @@ pub record Judged {Left : Type 0} (answer : Left → Answer) (left : Verdict →
   -- the verdict says what it leaves
   pub is : (u : Verdict) → v ≡ u → x ≡ left u
   -- 0 is given exactly if it is acceptance, and only numbers of the call's own
-  pub good : answer x .number ≡ 0 → v ≡ accepted
-  pub zero : v ≡ accepted → answer x .number ≡ 0
-  pub given : ok (answer x .number) ≡ true
+  pub good : numberOf (answer x) ≡ 0 → v ≡ accepted
+  pub zero : v ≡ accepted → numberOf (answer x) ≡ 0
+  pub given : ok (numberOf (answer x)) ≡ true
   -- refused: everything is as it was
-  pub as-was : (answer x .number ≡ 0 → ⊥) → x ≡ asWas (answer x)
+  pub as-was : (numberOf (answer x) ≡ 0 → ⊥) → x ≡ asWas (answer x)
 
 judge : {Left : Type 0} (answer : Left → Answer) (left : Verdict → Left) (asWas : Answer → Left) (ok : ℕ → Bool) (v : Verdict) → ok 0 ≡ true → Gives ok v
-    → answer (left accepted) .number ≡ 0 → ((code place : ℕ) → answer (left (refused code place)) .number ≡ code)
+    → numberOf (answer (left accepted)) ≡ 0 → ((code place : ℕ) → numberOf (answer (left (refused code place))) ≡ code)
     → ((code place : ℕ) → left (refused code place) ≡ asWas (answer (left (refused code place)))) → Judged answer left asWas ok v (left v)
 judge answer left asWas ok accepted o₀ passed zero number same = record {
   is = λ u e. ap left e;

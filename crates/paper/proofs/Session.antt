@@ -14,7 +14,7 @@ use Rattle.paper.specs.Lists.{tally, nat, size, below, over}
 use Rattle.paper.specs.Net.{Net, Values, Route, input-to-output, afresh, new, moved, names, evaluated}
 use Rattle.paper.specs.Tables.{Tables, net, isMade, valuesIn}
 use Rattle.paper.specs.Checks.{Verdict, accepted, refused, leaves, movePairs}
-use Rattle.paper.specs.Calls.{Session, newValues, evaluates, BuildLent, BuildLeft, startValues, build, Model, Tried, TrialLeft, askedList, routeOf, trialVerdict, trialLeaves, trial, Kept, KeepLeft, keepVerdict, keepLeaves, keep}
+use Rattle.paper.specs.Calls.{Session, numberOf, evaluationsOf, newValues, evaluates, BuildLent, BuildLeft, startValues, build, Model, Tried, TrialLeft, askedList, routeOf, trialVerdict, trialLeaves, trial, Kept, KeepLeft, keepVerdict, keepLeaves, keep}
 use Rattle.paper.specs.Demands.{evaluatedBy, Row, own, another, Lends, Call, tries, keeps, State, rowLent, rowAfter, modelOf, verdictOf, lendsOf, step, keptBy, applied, ownModel, fresh, after, history, Proper, old, renewed, tried, triedSet, TrialRight, kept, KeepRight, Told, Demand3}
 use Rattle.paper.proofs.Buffers.{length-below, getD-below, over-front, over-over, ones-below}
 use Rattle.paper.proofs.Lawful.{lawful}
@@ -29,7 +29,7 @@ own-row : (r : Row) (left mine : List ℤ) → left ≡ rowLent r mine → rowAf
 own-row own left mine e = e
 own-row (another row) left mine e = refl
 
-module _ (b : BuildLent) (ok : build b .answer .number ≡ 0) where
+module _ (b : BuildLent) (ok : numberOf (build b .answer) ≡ 0) where
   abbrev t : Tables
   t = b .tables
 
@@ -163,7 +163,7 @@ module _ (b : BuildLent) (ok : build b .answer .number ≡ 0) where
           ones = is ∙ sym (ap (λ l. tally (eqb 1) (take (t .n) l)) are ∙ ap (tally (eqb 1)) (over-front (λ v. cond (set v) 1 0) (t .n) before) ∙ ones-below set (t .n));
         }
 
-    pub trial-right : (c : Tried) → tried b cs (ownModel b) c .answer .number ≡ 0 → TrialRight b cs (ownModel b) c
+    pub trial-right : (c : Tried) → numberOf (tried b cs (ownModel b) c .answer) ≡ 0 → TrialRight b cs (ownModel b) c
     trial-right c h = record {
       results = ap (λ (x : TrialLeft). x .results) left ∙ ap (λ (f : Values). over (c .asked) (λ i. f (nat (c .askedVars) i)) (c .results)) (new-is r mv asked);
       row =
@@ -171,8 +171,8 @@ module _ (b : BuildLent) (ok : build b .answer .number ≡ 0) where
           ∙ ap (λ (f : Values). over (t .n) (λ v. cond (names mv v || evaluates t stored r mv asked v) (f v) (stored v)) (c .trial)) (new-is r mv asked)
           ∙ ap (λ (q : ℕ → Bool). over (t .n) (λ v. cond (names mv v || q v) (renewed b cs (c .move) v) (stored v)) (c .trial)) (set-is r mv asked)
           ∙ ap (λ (f : Values). over (t .n) (λ v. cond (names mv v || triedSet b cs (ownModel b) c v) (renewed b cs (c .move) v) (f v)) (c .trial)) old-is;
-      told = told-by (triedSet b cs (ownModel b) c) (c .flags) (set-is r mv asked) (ap (λ (x : TrialLeft). x .answer .evaluations) left) (ap (λ (x : TrialLeft). x .flags) left);
-      session = ap (λ (x : TrialLeft). x .session) left ∙ sym (ap (λ (x : TrialLeft). record { kept = now .session .kept; evaluations = x .answer .evaluations }) left);
+      told = told-by (triedSet b cs (ownModel b) c) (c .flags) (set-is r mv asked) (ap (λ (x : TrialLeft). evaluationsOf (x .answer)) left) (ap (λ (x : TrialLeft). x .flags) left);
+      session = ap (λ (x : TrialLeft). x .session) left ∙ sym (ap (λ (x : TrialLeft). record { kept = now .session .kept; evaluations = evaluationsOf (x .answer) }) left);
     }
       where
         r : Route
@@ -190,14 +190,14 @@ module _ (b : BuildLent) (ok : build b .answer .number ≡ 0) where
         left : tried b cs (ownModel b) c ≡ trialLeaves w c (after b cs .session) accepted
         left = trial-judged (after b cs .session) w c .is accepted (trial-judged (after b cs .session) w c .good h)
 
-    pub keep-right : (c : Kept) → kept b cs (ownModel b) c .answer .number ≡ 0 → KeepRight b cs (ownModel b) c
+    pub keep-right : (c : Kept) → numberOf (kept b cs (ownModel b) c .answer) ≡ 0 → KeepRight b cs (ownModel b) c
     keep-right c h = record {
       move = ap (λ v. leaves v (movePairs (c .move) ∷ history b cs) (history b cs)) good;
       stored = keep-holds now c (applied (startValues b) (history b cs)) (holds cs p) good .row-is;
       told =
           told-by (evaluatedBy b cs input-to-output (c .move) []) (c .flags) (set-is input-to-output (movePairs (c .move)) [])
-          (ap (λ (x : KeepLeft). x .answer .evaluations) left) (ap (λ (x : KeepLeft). x .flags) left);
-      session = ap (λ (x : KeepLeft). x .session) left ∙ sym (ap (λ (x : KeepLeft). record { kept = min (suc (now .session .kept)) 4294967295; evaluations = x .answer .evaluations }) left);
+          (ap (λ (x : KeepLeft). evaluationsOf (x .answer)) left) (ap (λ (x : KeepLeft). x .flags) left);
+      session = ap (λ (x : KeepLeft). x .session) left ∙ sym (ap (λ (x : KeepLeft). record { kept = min (suc (now .session .kept)) 4294967295; evaluations = evaluationsOf (x .answer) }) left);
     }
       where
         good : keepVerdict w c ≡ accepted
@@ -208,7 +208,7 @@ module _ (b : BuildLent) (ok : build b .answer .number ≡ 0) where
 
   -- ── demand 3 ──
   -- a refused keep leaves the state and the history
-  keep-leaves : (cs : List Call) (l : Lends) (c : Kept) → (kept b cs l c .answer .number ≡ 0 → ⊥)
+  keep-leaves : (cs : List Call) (l : Lends) (c : Kept) → (numberOf (kept b cs l c .answer) ≡ 0 → ⊥)
       → (after b (keeps l c ∷ cs) ≡ after b cs) × (history b (keeps l c ∷ cs) ≡ history b cs)
   keep-leaves cs l c wrong = go (keepVerdict (modelOf (after b cs) l) c) refl
     where

@@ -17,15 +17,28 @@ pub record Session : Type 0 where
   pub kept : ℕ
   pub evaluations : ℕ
 
--- 0 and place 0 if accepted; no evaluations if refused
-pub record Answer : Type 0 where
-  pub number : ℕ
-  pub place : ℕ
-  pub evaluations : ℕ
+-- what a call answers
+pub data Answer : Type 0 where
+  Accepted : (evaluations : ℕ) → Answer
+  Refused : (number place : ℕ) → Answer
 
+-- the paper's numbers for it: 0 and place 0 if accepted, no evaluations if refused
+abbrev pub numberOf : Answer → ℕ
+numberOf (Accepted evaluations) = 0
+numberOf (Refused number place) = number
+
+abbrev pub placeOf : Answer → ℕ
+placeOf (Accepted evaluations) = 0
+placeOf (Refused number place) = place
+
+abbrev pub evaluationsOf : Answer → ℕ
+evaluationsOf (Accepted evaluations) = evaluations
+evaluationsOf (Refused number place) = 0
+
+-- the answer by a verdict, with the evaluations of an accepted call
 abbrev pub answered : Verdict → ℕ → Answer
-answered accepted count = record { number = 0; place = 0; evaluations = count }
-answered (refused number place) count = record { number = number; place = place; evaluations = 0 }
+answered accepted count = Accepted count
+answered (refused number place) count = Refused number place
 
 -- ── what a move does by a route, over stored values `old` ──
 module _ (t : Tables) (old : Values) (r : Route) (mv : List (ℕ × ℤ)) (asked : List ℕ) where

@@ -12,7 +12,7 @@ use Rattle.paper.specs.Lists.{nat, size, tally, over}
 use Rattle.paper.specs.Net.{Net, Values, Route, Depends, numbering, number, valuation, afresh, moved, names, evaluated, input-to-output}
 use Rattle.paper.specs.Tables.{Tables, lent, net, inputsOf, order}
 use Rattle.paper.specs.Checks.{Verdict, accepted, refused, require, leaves, tableChecks, Move, movePairs}
-use Rattle.paper.specs.Calls.{Session, Answer, BuildLent, BuildLeft, startValues, buildFits, build, Model, Tried, TrialLeft, askedList, routeOf, trial, trialVerdict, Kept, KeepLeft, keep, keepVerdict}
+use Rattle.paper.specs.Calls.{Session, Answer, Accepted, numberOf, placeOf, evaluationsOf, BuildLent, BuildLeft, startValues, buildFits, build, Model, Tried, TrialLeft, askedList, routeOf, trial, trialVerdict, Kept, KeepLeft, keep, keepVerdict}
 use Rattle.paper.specs.File.{endsAt, held, write, counted, read}
 
 -- ── demand 1: a call works, or refuses with a number of its own and changes nothing ──
@@ -28,12 +28,12 @@ keepAsWas s w c answer = record { answer = answer; session = s; stored = w .stor
 
 -- build gives 1 to 7; trial all of 1 to 13 but 6; keep the same except 9 and 13
 pub record Demand1 : Type 0 where
-  pub build-number : (l : BuildLent) → leb (build l .answer .number) 7 ≡ true
-  pub build-refused : (l : BuildLent) → (build l .answer .number ≡ 0 → ⊥) → build l ≡ buildAsWas l (build l .answer)
-  pub trial-number : (s : Session) (w : Model) (c : Tried) → let k = trial s w c .answer .number in (leb k 13 && not (eqb k 6)) ≡ true
-  pub trial-refused : (s : Session) (w : Model) (c : Tried) → (trial s w c .answer .number ≡ 0 → ⊥) → trial s w c ≡ trialAsWas s c (trial s w c .answer)
-  pub keep-number : (s : Session) (w : Model) (c : Kept) → let k = keep s w c .answer .number in (leb k 13 && not (eqb k 6) && not (eqb k 9) && not (eqb k 13)) ≡ true
-  pub keep-refused : (s : Session) (w : Model) (c : Kept) → (keep s w c .answer .number ≡ 0 → ⊥) → keep s w c ≡ keepAsWas s w c (keep s w c .answer)
+  pub build-number : (l : BuildLent) → leb (numberOf (build l .answer)) 7 ≡ true
+  pub build-refused : (l : BuildLent) → (numberOf (build l .answer) ≡ 0 → ⊥) → build l ≡ buildAsWas l (build l .answer)
+  pub trial-number : (s : Session) (w : Model) (c : Tried) → let k = numberOf (trial s w c .answer) in (leb k 13 && not (eqb k 6)) ≡ true
+  pub trial-refused : (s : Session) (w : Model) (c : Tried) → (numberOf (trial s w c .answer) ≡ 0 → ⊥) → trial s w c ≡ trialAsWas s c (trial s w c .answer)
+  pub keep-number : (s : Session) (w : Model) (c : Kept) → let k = numberOf (keep s w c .answer) in (leb k 13 && not (eqb k 6) && not (eqb k 9) && not (eqb k 13)) ≡ true
+  pub keep-refused : (s : Session) (w : Model) (c : Kept) → (numberOf (keep s w c .answer) ≡ 0 → ⊥) → keep s w c ≡ keepAsWas s w c (keep s w c .answer)
   pub write-refused : (t : Tables) (starts : List ℤ) (bytes : List ℕ) → (write t starts bytes .0 ≡ accepted → ⊥) → write t starts bytes ≡ (refused 1 0, bytes)
   pub read-refused : (bytes : List ℕ) (t : Tables) (starts : List ℤ) → (read bytes t starts .0 ≡ accepted → ⊥) → read bytes t starts .1 ≡ (counted 0 0 0 t, starts)
 
@@ -67,9 +67,9 @@ module _ (b : BuildLent) where
   FivePassed = require 1 0 (buildFits b) (tableChecks t accepted) ≡ accepted
 
   pub record CircularExactly : Type 0 where
-    pub given : FivePassed → Circular → build b .answer .number ≡ 6
-    pub only : build b .answer .number ≡ 6 → FivePassed × Circular
-    pub place : build b .answer .number ≡ 6 → LeastUnnumbered t (build b .answer .place)
+    pub given : FivePassed → Circular → numberOf (build b .answer) ≡ 6
+    pub only : numberOf (build b .answer) ≡ 6 → FivePassed × Circular
+    pub place : numberOf (build b .answer) ≡ 6 → LeastUnnumbered t (placeOf (build b .answer))
 
   pub record BuildRight : Type 0 where
     pub not-circular : Circular → ⊥
@@ -81,7 +81,7 @@ module _ (b : BuildLent) where
     pub stored : build b .stored ≡ over (t .n) (afresh (net t) (startValues b) (t .n)) (b .stored)
     pub stored-meet : (v : ℕ) → afresh (net t) (startValues b) (t .n) v ≡ valuation (net t) (startValues b) (afresh (net t) (startValues b) (t .n)) v
     pub session : build b .session ≡ record { kept = 0; evaluations = t .m }
-    pub count : build b .answer .evaluations ≡ t .m
+    pub answer : build b .answer ≡ Accepted (t .m)
 
 -- each number is one of its field, as it is in lent rows of those widths
 pub record Fitting (t : Tables) (s : List ℤ) : Type 0 where
@@ -110,7 +110,7 @@ WrittenBack =
     → write (read bytes t₀ starts₀ .1 .0) (read bytes t₀ starts₀ .1 .1) buffer ≡ (accepted, bytes ++ drop (length bytes) buffer)
 
 pub record Demand2 : Type 0 where
-  pub build-accepted : (b : BuildLent) → build b .answer .number ≡ 0 → BuildRight b
+  pub build-accepted : (b : BuildLent) → numberOf (build b .answer) ≡ 0 → BuildRight b
   pub build-circular : (b : BuildLent) → CircularExactly b
   pub read-back : ReadBack
   pub written-back : WrittenBack
@@ -231,8 +231,8 @@ module _ (b : BuildLent) (cs : List Call) where
       pub results : tried .results ≡ over (c .asked) (λ i. renewed (c .move) (nat (c .askedVars) i)) (c .results)
       -- the trial buffer: new where moved or evaluated, old elsewhere
       pub row : tried .trial ≡ over (b .tables .n) (λ v. cond (names (movePairs (c .move)) v || triedSet v) (renewed (c .move) v) (old v)) (c .trial)
-      pub told : Told triedSet (tried .answer .evaluations) (tried .flags) (c .flags)
-      pub session : tried .session ≡ record { kept = after b cs .session .kept; evaluations = tried .answer .evaluations }
+      pub told : Told triedSet (evaluationsOf (tried .answer)) (tried .flags) (c .flags)
+      pub session : tried .session ≡ record { kept = after b cs .session .kept; evaluations = evaluationsOf (tried .answer) }
 
   -- an accepted keep after the run
   module _ (l : Lends) (c : Kept) where
@@ -243,8 +243,8 @@ module _ (b : BuildLent) (cs : List Call) where
       -- its move heads the history, and the stored values are the fresh ones of that
       pub move : history b (keeps l c ∷ cs) ≡ movePairs (c .move) ∷ history b cs
       pub stored : kept .stored ≡ over (b .tables .n) (renewed (c .move)) (b .stored)
-      pub told : Told (evaluatedBy input-to-output (c .move) []) (kept .answer .evaluations) (kept .flags) (c .flags)
-      pub session : kept .session ≡ record { kept = min (suc (after b cs .session .kept)) 4294967295; evaluations = kept .answer .evaluations }
+      pub told : Told (evaluatedBy input-to-output (c .move) []) (evaluationsOf (kept .answer)) (kept .flags) (c .flags)
+      pub session : kept .session ≡ record { kept = min (suc (after b cs .session .kept)) 4294967295; evaluations = evaluationsOf (kept .answer) }
 
   pub record Demand3 : Type 0 where
     -- after every run the stored values are the fresh ones of the moves kept, and what lies beyond is as it was before the build
@@ -252,12 +252,12 @@ module _ (b : BuildLent) (cs : List Call) where
     -- the record has the number of moves kept, up to its ceiling
     pub moves : after b cs .session .kept ≡ min (length (history b cs)) 4294967295
     -- the next call, if it is accepted and was lent the model's own
-    pub trial-accepted : (c : Tried) → tried (ownModel b) c .answer .number ≡ 0 → TrialRight (ownModel b) c
-    pub keep-accepted : (c : Kept) → kept (ownModel b) c .answer .number ≡ 0 → KeepRight (ownModel b) c
+    pub trial-accepted : (c : Tried) → numberOf (tried (ownModel b) c .answer) ≡ 0 → TrialRight (ownModel b) c
+    pub keep-accepted : (c : Kept) → numberOf (kept (ownModel b) c .answer) ≡ 0 → KeepRight (ownModel b) c
     -- no trial alters a stored value, and a refused call changes nothing, whatever it was lent
     pub trial-stored : (l : Lends) (c : Tried) → after b (tries l c ∷ cs) .stored ≡ after b cs .stored
-    pub trial-refused : (l : Lends) (c : Tried) → (tried l c .answer .number ≡ 0 → ⊥)
+    pub trial-refused : (l : Lends) (c : Tried) → (numberOf (tried l c .answer) ≡ 0 → ⊥)
         → (tried l c ≡ trialAsWas (after b cs .session) c (tried l c .answer)) × (after b (tries l c ∷ cs) ≡ after b cs)
-    pub keep-refused : (l : Lends) (c : Kept) → (kept l c .answer .number ≡ 0 → ⊥)
+    pub keep-refused : (l : Lends) (c : Kept) → (numberOf (kept l c .answer) ≡ 0 → ⊥)
         → (kept l c ≡ keepAsWas (after b cs .session) (modelOf (after b cs) l) c (kept l c .answer)) × (after b (keeps l c ∷ cs) ≡ after b cs)
         × (history b (keeps l c ∷ cs) ≡ history b cs)

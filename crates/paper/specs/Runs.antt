@@ -11,7 +11,7 @@ use Rattle.paper.specs.Lists.{all}
 use Rattle.paper.specs.Formula.{blank}
 use Rattle.paper.specs.Tables.{Tables, lent}
 use Rattle.paper.specs.Checks.{Move}
-use Rattle.paper.specs.Calls.{Answer, BuildLent, build, Model, trial}
+use Rattle.paper.specs.Calls.{Answer, Accepted, Refused, BuildLent, build, Model, trial}
 
 -- a run: the tables and start values, and what is to come of it
 pub data Run : Type 0 where
@@ -47,15 +47,19 @@ building t s = record {
   stored = zerosZ (t .n);
 }
 
-abbrev pub answers : Answer → ℕ → ℕ → ℕ → Bool
-answers a number place count = eqb (a .number) number && eqb (a .place) place && eqb (a .evaluations) count
+-- the same answer
+abbrev pub answers : Answer → Answer → Bool
+answers (Accepted a) (Accepted b) = eqb a b
+answers (Accepted a) (Refused number place) = false
+answers (Refused k p) (Accepted b) = false
+answers (Refused k p) (Refused number place) = eqb k number && eqb p place
 
 unfoldable pub comesOut : Run → Bool
 comesOut (builds t s nums vals) =
     let left = build (building t s) in
-    answers (left .answer) 0 0 (t .m) && same eqb (left .numbers) nums && same eqZ (left .stored) vals
+    answers (left .answer) (Accepted (t .m)) && same eqb (left .numbers) nums && same eqZ (left .stored) vals
     && eqb (left .session .kept) 0 && eqb (left .session .evaluations) (t .m)
-comesOut (refuses t number place) = answers (build (building t []) .answer) number place 0
+comesOut (refuses t number place) = answers (build (building t []) .answer) (Refused number place)
 comesOut (tries t s mv asked route vals count) =
     let built = build (building t s) in
     let own : Model = record { tables = t; numbers = built .numbers; order = built .order; stored = built .stored } in
@@ -69,7 +73,7 @@ comesOut (tries t s mv asked route vals count) =
       trial = zerosZ (t .n);
       flags = zeros (t .n);
     }) in
-    answers (left .answer) 0 0 count && same eqZ (left .results) vals && eqb (left .session .kept) 0 && eqb (left .session .evaluations) count
+    answers (left .answer) (Accepted count) && same eqZ (left .results) vals && eqb (left .session .kept) 0 && eqb (left .session .evaluations) count
 
 -- ── models ──
 abbrev pub ones : ℕ → List ℤ

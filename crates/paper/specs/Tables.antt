@@ -26,12 +26,11 @@ abbrev pub lent : ℕ → ℕ → ℕ → List ℕ → List ℕ → List ℤ →
 lent n m e kinds makes params firsts counts vars coefs =
     record { n = n; m = m; e = e; kinds = kinds; makes = makes; params = params; firsts = firsts; counts = counts; vars = vars; coefs = coefs }
 
--- the input variables of a row, for a caller who asks: none if there is no such row or its part ends after e
-abbrev pub inputsAsked : ℕ → ℕ → List ℕ → List ℕ → List ℕ → ℕ → List ℕ
-inputsAsked m e firsts counts vars row =
+-- the part of a row, for a caller who asks: its first entry and how many it has; 0 and 0 if there is no such row or its part ends after e
+abbrev pub partAsked : ℕ → ℕ → List ℕ → List ℕ → List ℕ → ℕ → ℕ × ℕ
+partAsked m e firsts counts vars row =
     let end = nat firsts row + nat counts row in
-    cond (every (ltb row m ∷ ltb row (length firsts) ∷ ltb row (length counts) ∷ leb end e ∷ leb end (length vars) ∷ []))
-    (take (nat counts row) (drop (nat firsts row) vars)) []
+    cond (every (ltb row m ∷ ltb row (length firsts) ∷ ltb row (length counts) ∷ leb end e ∷ leb end (length vars) ∷ [])) (nat firsts row, nat counts row) (0, 0)
 
 module _ (t : Tables) where
   -- the part of an entry list that row r names

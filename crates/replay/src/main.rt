@@ -2,16 +2,22 @@
 // model file and the number of calls (4 bytes each), the model file, and the calls. The model is read into rows for 16 variables and rows and 64
 // entries, and built; then the calls are made one after another on what the call before left.
 mod calls;
-mod fields;
+mod change;
+mod model;
 mod print;
-mod put;
 
-use crate::fields::after;
-use crate::fields::least;
-use crate::fields::part;
-use crate::fields::word;
+use crate::model::plan;
+use crate::model::put_built;
+use crate::model::put_tables;
+use engine::Done;
 use engine::Session;
 use files::Reading;
+use pools::calls::build_planned;
+use pools::fields::after;
+use pools::fields::least;
+use pools::fields::part;
+use pools::fields::word;
+use pools::given::read_argument;
 use tables::Answer;
 
 // Makes the calls of a session one after another.
@@ -21,15 +27,9 @@ fn make_calls(
     n: usize,
     m: usize,
     e: usize,
-    kinds: &mut [u16],
-    makes: &mut [u16],
+    pool: &mut [u16],
     params: &mut [i32],
-    firsts: &mut [u16],
-    counts: &mut [u16],
-    vars: &mut [u16],
     coefs: &mut [i16],
-    numbers: &mut [u16],
-    order: &mut [u16],
     stored: &mut [i32],
 ) {
     let mut session = begun;
@@ -41,15 +41,9 @@ fn make_calls(
             n,
             m,
             e,
-            kinds,
-            makes,
+            pool,
             params,
-            firsts,
-            counts,
-            vars,
             coefs,
-            numbers,
-            order,
             stored,
         );
         at = after(at, 48);
@@ -64,26 +58,21 @@ fn calls_after(told: Answer, calls: &[u8]) -> &[u8] {
     calls
 }
 
-// Builds a model that was read, prints what comes back, and makes the calls if it is accepted. The record before it is not all 0, so that what
-// build makes of it shows.
-fn build_and_call(
-    calls: &[u8],
+// Builds a model that was read and prints what comes back; numbers and order go into the pool. The record before it is not all 0, so that what build
+// makes of it shows.
+fn build(
     n: usize,
     m: usize,
     e: usize,
-    kinds: &mut [u16],
-    makes: &mut [u16],
-    params: &mut [i32],
-    firsts: &mut [u16],
-    counts: &mut [u16],
-    vars: &mut [u16],
-    coefs: &mut [i16],
+    pool: &mut [u16],
+    params: &[i32],
+    coefs: &[i16],
     starts: &[i32],
-) {
+    stored: &mut [i32],
+) -> Done {
     let mut numbers = [0u16; 16];
     let mut order = [0u16; 16];
-    let mut stored = [0i32; 16];
-    let done = engine::build_core(
+    let done = build_planned(
         Session {
             kept: 7,
             evaluations: 9,
@@ -91,77 +80,72 @@ fn build_and_call(
         n,
         m,
         e,
-        kinds,
-        makes,
+        &plan(),
+        pool,
         params,
-        firsts,
-        counts,
-        vars,
         coefs,
         starts,
         &mut numbers,
         &mut order,
-        &mut stored,
+        stored,
     );
+    print::built(done, n, m, &numbers, &order, stored);
+    put_built(pool, &numbers, &order);
+    done
+}
+
+// Reads a model file, and prints what comes back.
+fn read(
+    file: &[u8],
+    pool: &mut [u16],
+    params: &mut [i32],
+    coefs: &mut [i16],
+    starts: &mut [i32],
+) -> Reading {
+    let mut kinds = [0u16; 16];
+    let mut makes = [0u16; 16];
+    let mut firsts = [0u16; 16];
+    let mut counts = [0u16; 16];
+    let mut vars = [0u16; 64];
+    let told = files::read(
+        file,
+        starts,
+        &mut kinds,
+        &mut makes,
+        params,
+        &mut firsts,
+        &mut counts,
+        &mut vars,
+        coefs,
+    );
+    print::reading(told);
+    put_tables(pool, &kinds, &makes, &firsts, &counts, &vars);
+    told
+}
+
+// Reads a model file, builds the model if that is accepted, and makes the calls if that is too.
+fn read_and_go_on(file: &[u8], calls: &[u8]) {
+    let mut pool = [0u16; 160];
+    let mut params = [0i32; 16];
+    let mut coefs = [0i16; 64];
+    let mut starts = [0i32; 16];
+    let mut stored = [0i32; 16];
+    let told = read(file, &mut pool, &mut params, &mut coefs, &mut starts);
+    let Reading::Accepted { n, m, e } = told else {
+        return;
+    };
+    let done = build(n, m, e, &mut pool, &params, &coefs, &starts, &mut stored);
     let answer = done.answer;
-    print::built(answer, done.session, n, m, &numbers, &order, &stored);
     make_calls(
         done.session,
         calls_after(answer, calls),
         n,
         m,
         e,
-        kinds,
-        makes,
-        params,
-        firsts,
-        counts,
-        vars,
-        coefs,
-        &mut numbers,
-        &mut order,
+        &mut pool,
+        &mut params,
+        &mut coefs,
         &mut stored,
-    );
-}
-
-// Reads a model file, prints what comes back, and goes on if it is accepted.
-fn read_and_go_on(file: &[u8], calls: &[u8]) {
-    let mut starts = [0i32; 16];
-    let mut kinds = [0u16; 16];
-    let mut makes = [0u16; 16];
-    let mut params = [0i32; 16];
-    let mut firsts = [0u16; 16];
-    let mut counts = [0u16; 16];
-    let mut vars = [0u16; 64];
-    let mut coefs = [0i16; 64];
-    let told = files::read(
-        file,
-        &mut starts,
-        &mut kinds,
-        &mut makes,
-        &mut params,
-        &mut firsts,
-        &mut counts,
-        &mut vars,
-        &mut coefs,
-    );
-    print::reading(told);
-    let Reading::Accepted { n, m, e } = told else {
-        return;
-    };
-    build_and_call(
-        calls,
-        n,
-        m,
-        e,
-        &mut kinds,
-        &mut makes,
-        &mut params,
-        &mut firsts,
-        &mut counts,
-        &mut vars,
-        &mut coefs,
-        &starts,
     );
 }
 
@@ -190,32 +174,15 @@ fn sessions(bytes: &[u8]) {
     }
 }
 
-// Replays the sessions of the file that a name names.
-fn replay(name: &[u8]) {
-    let fd = os::open_read(name);
-    if fd < 0 {
-        os::fail(name);
-        return;
-    }
-    let mut file = [0u8; 32768];
-    let got = io::read_full(fd, &mut file);
-    libc::close(fd);
-    sessions(&file[..got]);
-}
-
 // Replays the sessions of the file that argument i names.
-fn replay_argument(i: usize) {
-    let mut name = [0u8; 256];
-    let k = os::arg(i, &mut name);
-    if os::errno() != 0 {
-        os::fail(b"argument");
-        return;
-    }
-    replay(&name[..k]);
+fn replay(i: usize) {
+    let mut file = [0u8; 8192];
+    let got = read_argument(i, &mut file);
+    sessions(&file[..got]);
 }
 
 fn main() {
     for i in 1..os::arg_count() {
-        replay_argument(i);
+        replay(i);
     }
 }

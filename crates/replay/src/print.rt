@@ -1,50 +1,29 @@
-// What is printed of an answer, of the record, and of the rows that a call leaves.
-use crate::fields::least;
-use crate::fields::wide;
-use engine::Session;
+// The lines of a session: what a read, a build, a trial, a keep and a change print. Behind the answer and the record stand the rows that an accepted
+// call leaves, a bar before each.
+use engine::Done;
 use files::Reading;
-use formulas::blanks::is_blank;
-use libc::STDOUT_FILENO;
+use pools::print::answer;
+use pools::print::flags;
+use pools::print::number;
+use pools::print::numbers;
+use pools::print::record;
+use pools::print::text;
+use pools::print::three;
+use pools::print::values;
 use tables::Answer;
 
-// Prints text as it is.
-pub fn text(bytes: &[u8]) {
-    io::write_all(STDOUT_FILENO, bytes);
-}
-
-// Prints a number behind a blank.
-pub fn number(n: u64) {
-    text(b" ");
-    io::print_decimal(STDOUT_FILENO, n);
-}
-
-// Prints a value behind a blank, `-` if there is none.
-fn value(v: i32) {
-    if is_blank(v) {
-        text(b" -");
-        return;
-    }
-    let bits = integers::bits32(v) as u64;
-    if v < 0 {
-        text(b" -");
-        io::print_decimal(STDOUT_FILENO, 4294967296 - bits);
-    } else {
-        number(bits);
-    }
-}
-
-// Prints what a read answers: number, place, n, m and e.
+// Prints the line of a read: number, place, n, m and e.
 pub fn reading(told: Reading) {
     text(b"read");
     match told {
-        Reading::Accepted { n, m, e } => counts(n as u64, m as u64, e as u64),
+        Reading::Accepted { n, m, e } => accepted_file(n as u64, m as u64, e as u64),
         Reading::Refused { number, place } => refused_file(number, place),
     }
     text(b"\n");
 }
 
 // Prints an accepted read.
-fn counts(n: u64, m: u64, e: u64) {
+fn accepted_file(n: u64, m: u64, e: u64) {
     text(b" 0 0");
     number(n);
     number(m);
@@ -58,101 +37,68 @@ fn refused_file(code: u32, place: u32) {
     text(b" 0 0 0");
 }
 
-// Prints what a call answers: number, place and evaluations.
-pub fn answer(told: Answer) {
-    match told {
-        Answer::Accepted { evaluations } => three(0, 0, evaluations),
-        Answer::Refused { number, place } => three(number, place, 0),
-    }
-}
-
-// Prints three numbers.
-fn three(a: u32, b: u32, c: u32) {
-    number(a as u64);
-    number(b as u64);
-    number(c as u64);
-}
-
-// Prints the record: moves kept, and evaluations of the last accepted call.
-pub fn record(session: Session) {
-    number(session.kept as u64);
-    number(session.evaluations as u64);
-}
-
-// Prints the first n values of a row, behind a bar.
-fn values(n: usize, row: &[i32]) {
-    text(b" |");
-    for i in 0..least(n, row.len()) {
-        value(row[i]);
-    }
-}
-
-// Prints the first n numbers of a row, behind a bar.
-fn numbers(n: usize, row: &[u16]) {
-    text(b" |");
-    for i in 0..least(n, row.len()) {
-        number(integers::wide(row[i]) as u64);
-    }
-}
-
-// Prints the first n flags of a row, behind a bar.
-fn flags(n: usize, row: &[u8]) {
-    text(b" |");
-    for i in 0..least(n, row.len()) {
-        number(wide(row[i]));
-    }
-}
-
-// Prints what a build answers, the record, and if it is accepted the numbers, the order and the stored values.
-pub fn built(
-    told: Answer,
-    session: Session,
-    n: usize,
-    m: usize,
-    row: &[u16],
-    order: &[u16],
-    stored: &[i32],
-) {
-    text(b"build");
+// Prints which call it is, its answer and the record after it.
+fn come_to(call: &[u8], done: Done) {
+    let told = done.answer;
+    text(call);
     answer(told);
-    record(session);
+    record(done.session);
+}
+
+// Prints the first n values of a row that an accepted call leaves.
+fn left_values(told: Answer, n: usize, row: &[i32]) {
     let Answer::Accepted { .. } = told else {
-        text(b"\n");
         return;
     };
-    numbers(n, row);
-    numbers(m, order);
-    values(n, stored);
+    values(b" |", n, row, b" -", b"");
+}
+
+// Prints the first n numbers of a row that an accepted call leaves.
+fn left_numbers(told: Answer, n: usize, row: &[u16]) {
+    let Answer::Accepted { .. } = told else {
+        return;
+    };
+    numbers(b" |", n, row);
+}
+
+// Prints the first n flags that an accepted call leaves.
+fn left_flags(told: Answer, n: usize, row: &[u8]) {
+    let Answer::Accepted { .. } = told else {
+        return;
+    };
+    flags(b" |", n, row);
+}
+
+// Prints the line of a build.
+pub fn built(done: Done, n: usize, m: usize, row: &[u16], order: &[u16], stored: &[i32]) {
+    let told = done.answer;
+    come_to(b"build", done);
+    left_numbers(told, n, row);
+    left_numbers(told, m, order);
+    left_values(told, n, stored);
     text(b"\n");
 }
 
-// Prints what an accepted trial leaves: the results, the trial row and the flags.
-pub fn left_by_trial(
-    told: Answer,
-    asked: usize,
-    results: &[i32],
-    n: usize,
-    trial: &[i32],
-    evaluated: &[u8],
-) {
-    let Answer::Accepted { .. } = told else {
-        return;
-    };
-    values(asked, results);
-    values(n, trial);
-    flags(n, evaluated);
+// Prints the line of a trial.
+pub fn tried(done: Done, asked: usize, results: &[i32], n: usize, trial: &[i32], evaluated: &[u8]) {
+    let told = done.answer;
+    come_to(b"trial", done);
+    left_values(told, asked, results);
+    left_values(told, n, trial);
+    left_flags(told, n, evaluated);
+    text(b"\n");
 }
 
-// Prints what an accepted keep leaves: the stored values and the flags.
-pub fn left_by_keep(told: Answer, n: usize, stored: &[i32], evaluated: &[u8]) {
-    let Answer::Accepted { .. } = told else {
-        return;
-    };
-    values(n, stored);
-    flags(n, evaluated);
+// Prints the line of a keep.
+pub fn kept(done: Done, n: usize, stored: &[i32], evaluated: &[u8]) {
+    let told = done.answer;
+    come_to(b"keep", done);
+    left_values(told, n, stored);
+    left_flags(told, n, evaluated);
+    text(b"\n");
 }
 
-// Prints a change: the number of the row, the place, and the bits of the new field.
+// Prints the line of a change: the number of the row, the place, and the bits of the new field.
 pub fn change(row: u32, place: u32, field: u32) {
     text(b"change");
     three(row, place, field);

@@ -1,33 +1,43 @@
--- What is printed, by the case of an answer. Assumes nothing.
-use Prim.Native.Nat.{ℕ, _≤_}
-use mathlib.Core.List.{List, []}
-use mathlib.Core.Path.{_≡_, refl, ap, sym, subst, _∙_}
-use lib.IntN.{ℤ}
-use lib.ListN.{length}
-use lib.Seq.{take-nil}
+-- What is printed, by the case of an answer, and that a buffer of 98,304 bytes shows it whole. Assumes nothing.
+use Prim.Native.Nat.{ℕ, _≤_, _<_}
+use native.Mathlib.Omega.{arith}
+use mathlib.Core.List.{List, [], _++_}
+use mathlib.Core.Path.{_≡_, refl, ap, ap₂, sym, subst, _∙_}
+use borrow.Author.Tests.{lt-ltb, le-ltb}
+use lib.IntN.{ℤ, pos}
+use lib.ListN.{length, take, drop, replicate, take-append-drop}
+use lib.Seq.{take-nil, take-all}
+use Rattle.io.specs.Counts.{Counts}
 use Rattle.paper.specs.Tables.{Tables}
-use Rattle.paper.specs.Calls.{build}
-use Rattle.paper.specs.File.{counted}
+use Rattle.paper.specs.Calls.{BuildLeft}
+use Rattle.paper.specs.File.{counted, read}
 use Rattle.files.specs.Answers.{hasRead}
 use Rattle.files.specs.declared.Reading.{Reading}
 use Rattle.files.specs.declared.Reading.the-variants as reading
 use Rattle.tables.specs.declared.Answer.{Answer}
 use Rattle.tables.specs.declared.Answer.the-variants.{Accepted, Refused}
 use Rattle.engine.specs.declared.Done.{Done}
-use Rattle.engine.specs.Left.{leftByBuild}
+use Rattle.engine.specs.Left.{answerIn, leftByBuild}
 use Rattle.text.specs.Buffer.{Shows}
 use Rattle.text.specs.Lines.{list, refusal}
-use Rattle.report.specs.Printed.{said, fresh, refusalIn, refusalOf, fileRead, ShowsBuilt, ShowsFile, not-read, is-built}
+use Rattle.report.specs.Printed.{said, ofTables, ofRead, empty, printed, refusalIn, refusalOf}
+use Rattle.report.proofs.Bounds.{printed-length}
 
-module _ {t : Tables} {starts : List ℤ} {before after : List ℕ} {count : ℕ} (done : Done) (numbers order : List ℕ) (stored : List ℤ)
-    (e : leftByBuild done numbers order stored ≡ build (fresh t starts)) where
-  pub built-list : (evaluations : ℕ) → done .answer ≡ Accepted evaluations → Shows (list (t .n) numbers stored) before after count → ShowsBuilt t starts before after count
-  built-list evaluations a s =
-      record { done = done; numbers = numbers; order = order; stored = stored; left = e; shows = subst (λ x. Shows (said x (t .n) numbers stored) before after count) (sym a) s }
+-- a buffer shows what is said of what build left
+abbrev Told : ℕ → BuildLeft → List ℕ → List ℕ → ℕ → Type 0
+Told n left before after count = Shows (said (left .answer) n (left .numbers) (left .stored)) before after count
 
-  pub built-refusal : (number place : ℕ) → done .answer ≡ Refused number place → Shows (refusalIn (done .answer)) before after count → ShowsBuilt t starts before after count
-  built-refusal number place a s =
-      record { done = done; numbers = numbers; order = order; stored = stored; left = e; shows = subst (λ x. Shows (said x (t .n) numbers stored) before after count) (sym a) (subst (λ x. Shows (refusalIn x) before after count) a s) }
+-- by the case of the call's answer
+module _ {before after : List ℕ} {count : ℕ} (done : Done) (numbers order : List ℕ) (stored : List ℤ) (n : ℕ) (left : BuildLeft)
+    (e : leftByBuild done numbers order stored ≡ left) where
+  told : (a : Answer) → done .answer ≡ a → Shows (said (answerIn a) n numbers stored) before after count → Told n left before after count
+  told a q s = subst (λ x. Told n x before after count) e (subst (λ x. Shows (said (answerIn x) n numbers stored) before after count) (sym q) s)
+
+  pub told-list : (evaluations : ℕ) → done .answer ≡ Accepted evaluations → Shows (list n numbers stored) before after count → Told n left before after count
+  told-list evaluations q s = told (Accepted evaluations) q s
+
+  pub told-refusal : (number place : ℕ) → done .answer ≡ Refused number place → Shows (refusalIn (answerIn (done .answer))) before after count → Told n left before after count
+  told-refusal number place q s = told (Refused number place) q (subst (λ x. Shows (refusalIn (answerIn x)) before after count) q s)
 
 -- nothing is shown by no bytes
 pub shows-nothing : (l : List ℕ) → Shows [] l l 0
@@ -35,11 +45,11 @@ shows-nothing l = record { shown = sym (take-nil (length l)); rest = refl }
 
 -- the line of an answer, by its case
 module _ {before after : List ℕ} {count : ℕ} where
-  pub answer-line : {a : Answer} (number place : ℕ) → a ≡ Refused number place → Shows (refusal number place) before after count → Shows (refusalIn a) before after count
-  answer-line number place e s = subst (λ x. Shows (refusalIn x) before after count) (sym e) s
+  pub answer-line : {a : Answer} (number place : ℕ) → a ≡ Refused number place → Shows (refusal number place) before after count → Shows (refusalIn (answerIn a)) before after count
+  answer-line number place e s = subst (λ x. Shows (refusalIn (answerIn x)) before after count) (sym e) s
 
-  pub answer-none : {a : Answer} (evaluations : ℕ) → a ≡ Accepted evaluations → Shows [] before after count → Shows (refusalIn a) before after count
-  answer-none evaluations e s = subst (λ x. Shows (refusalIn x) before after count) (sym e) s
+  pub answer-none : {a : Answer} (evaluations : ℕ) → a ≡ Accepted evaluations → Shows [] before after count → Shows (refusalIn (answerIn a)) before after count
+  answer-none evaluations e s = subst (λ x. Shows (refusalIn (answerIn x)) before after count) (sym e) s
 
   pub reading-line : {a : Reading} (number place : ℕ) → a ≡ reading.Refused number place → Shows (refusal number place) before after count → Shows (refusalOf a) before after count
   reading-line number place e s = subst (λ x. Shows (refusalOf x) before after count) (sym e) s
@@ -47,11 +57,27 @@ module _ {before after : List ℕ} {count : ℕ} where
   pub reading-none : {a : Reading} (n m e : ℕ) → a ≡ reading.Accepted n m e → Shows [] before after count → Shows (refusalOf a) before after count
   reading-none n m e q s = subst (λ x. Shows (refusalOf x) before after count) (sym q) s
 
-  -- a file, by the answer of the call that read it
-  module _ (file : List ℕ) (r : Reading) (t : Tables) (starts : List ℤ) (q : hasRead r t starts ≡ fileRead file) (h : length file ≤ 65536) where
-    pub file-unread : (number place : ℕ) → r ≡ reading.Refused number place → Shows (refusalOf r) before after count → ShowsFile file before after count
-    file-unread number place e s =
-        not-read number place h (ap (λ x. x .0) (sym q) ∙ ap (λ x. hasRead x t starts .0) e) (subst (λ x. Shows (refusalOf x) before after count) e s)
+-- ── the text for a file ──
+pub printed-long : (file : List ℕ) → 65536 < length file → refusal 1 0 ≡ printed file
+unfolding printed
+printed-long file h = rw (lt-ltb 65536 (length file) h)
 
-    pub file-built : (n m e : ℕ) → r ≡ reading.Accepted n m e → ShowsBuilt (counted n m e t) starts before after count → ShowsFile file before after count
-    file-built n m e a s = is-built (counted n m e t) starts h (sym q ∙ ap (λ x. hasRead x t starts) a) s
+module _ (file : List ℕ) (r : Reading) (t : Tables) (starts : List ℤ) (q : hasRead r t starts ≡ read file empty (replicate 4096 (pos 0))) (h : length file ≤ 65536) where
+  -- by the answer of the call that read it
+  printed-read : ofRead (hasRead r t starts) ≡ printed file
+  unfolding printed
+  printed-read = rw (le-ltb 65536 (length file) h) (ap ofRead q)
+
+  pub printed-unread : (number place : ℕ) → r ≡ reading.Refused number place → refusalOf r ≡ printed file
+  printed-unread number place e = ap refusalOf e ∙ sym (ap (λ x. ofRead (hasRead x t starts)) e) ∙ printed-read
+
+  pub printed-built : (n m e : ℕ) → r ≡ reading.Accepted n m e → ofTables (counted n m e t) starts ≡ printed file
+  printed-built n m e a = sym (ap (λ x. ofRead (hasRead x t starts)) a) ∙ printed-read
+
+-- every text fits in 98,304 bytes, so a buffer of so many shows it whole
+pub whole : {before after text : List ℕ} {count : ℕ} (file : List ℕ) → 98304 ≤ length before → text ≡ printed file → Counts count after → Shows text before after count
+    → (count ≡ length (printed file)) × (after ≡ printed file ++ drop count before)
+whole {before} {after} {text} {count} file room e c s =
+    let fits = printed-length file in
+    let front : take count after ≡ printed file = s .shown ∙ ap (take (length before)) e ∙ take-all (length before) (printed file) (omega arith) in
+    (c .1 ∙ ap length front, sym (take-append-drop count after) ∙ ap₂ _++_ front (s .rest))

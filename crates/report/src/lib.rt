@@ -1,7 +1,11 @@
 // What the program prints for a model file: the refusal line if it is refused, and otherwise the list of its variables.
+ghost use mathlib.Core.List.{_++_};
+ghost use mathlib.Core.Path.{_≡_};
+ghost use lib.ListN.{length, drop};
 ghost use Rattle.io.specs.Counts.{Counts};
 ghost use Rattle.paper.specs.Tables.{lent};
-ghost use Rattle.report.specs.Printed.{refusalIn, refusalOf, ShowsBuilt, ShowsFile};
+ghost use Rattle.engine.specs.Left.{answerIn};
+ghost use Rattle.report.specs.Printed.{ofTables, printed, refusalIn, refusalOf};
 ghost use Rattle.text.specs.Buffer.{Shows};
 use files::Reading;
 use tables::Answer;
@@ -20,7 +24,7 @@ fn show_unread(told: Reading, out: &mut [u8]) -> usize
 // The refusal line of build's answer; an accepted one has none.
 fn show_refused(answer: Answer, out: &mut [u8]) -> usize
     ensures { λ r. ⌜ Counts r (now (out .exit)) ⌝ }
-    ensures { λ r. ⌜ Shows (refusalIn answer) (now (out .entry)) (now (out .exit)) r ⌝ }
+    ensures { λ r. ⌜ Shows (refusalIn (answerIn answer)) (now (out .entry)) (now (out .exit)) r ⌝ }
 {
     let Answer::Refused { number, place } = answer else {
         return 0;
@@ -28,11 +32,12 @@ fn show_refused(answer: Answer, out: &mut [u8]) -> usize
     text::refusal(number, place, out)
 }
 
-// The text for a file: it stands in front of the buffer, and the answer is how many bytes it has. A file of more than 65,536 bytes is refused
-// before any other check.
-pub fn show(file: &[u8], out: &mut [u8]) -> usize
+// The text for a file: it stands whole in front of the buffer, which holds every text, and the answer is how many bytes it has. A file of more
+// than 65,536 bytes is refused before any other check.
+pub fn show(file: &[u8], out: &mut [u8; 98304]) -> usize
     ensures { λ r. ⌜ Counts r (now (out .exit)) ⌝ }
-    ensures { λ r. ⌜ ShowsFile (now (file .entry)) (now (out .entry)) (now (out .exit)) r ⌝ }
+    ensures { λ r. ⌜ r ≡ length (printed (now (file .entry))) ⌝ }
+    ensures { λ r. ⌜ now (out .exit) ≡ printed (now (file .entry)) ++ drop r (now (out .entry)) ⌝ }
 {
     if 65536 < file.len() {
         return text::refusal(1, 0, out);
@@ -91,7 +96,7 @@ fn list_built(
     out: &mut [u8],
 ) -> usize
     ensures { λ r. ⌜ Counts r (now (out .exit)) ⌝ }
-    ensures { λ r. ⌜ ShowsBuilt (lent n m e (now (kinds .entry)) (now (makes .entry)) (now (params .entry)) (now (firsts .entry)) (now (counts .entry)) (now (vars .entry)) (now (coefs .entry))) (now (starts .entry)) (now (out .entry)) (now (out .exit)) r ⌝ }
+    ensures { λ r. ⌜ Shows (ofTables (lent n m e (now (kinds .entry)) (now (makes .entry)) (now (params .entry)) (now (firsts .entry)) (now (counts .entry)) (now (vars .entry)) (now (coefs .entry))) (now (starts .entry))) (now (out .entry)) (now (out .exit)) r ⌝ }
 {
     let mut numbers = [0u16; 4096];
     let mut order = [0u16; 4096];

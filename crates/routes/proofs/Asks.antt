@@ -2,7 +2,7 @@
 -- their values, and where ELEMENT does not look any value will do. Assumes nothing.
 use Prim.Native.Nat.{ℕ, zero, suc, _≤_, _<_}
 use native.Mathlib.Omega.{arith}
-use mathlib.Core.Bool.{Bool, true, false, cond, true≢false}
+use mathlib.Core.Bool.{Bool, true, false, not, cond, true≢false}
 use mathlib.Core.List.{List, [], map, List·Memᴰ}
 use mathlib.Core.Logic.{_⊎_, inl, inr}
 use mathlib.Core.Path.{_≡_, refl, ap, sym, _∙_, subst}
@@ -10,7 +10,7 @@ use lib.Dec.{eqb, ltb}
 use lib.IntN.{ℤ, pos}
 use lib.ListN.{length, getD, set, length-set, List·getD-eq-default}
 use lib.Seq.{getD-set-same, getD-set-other}
-use borrow.Author.Tests.{eqb-true, eqb-false, ltb-true, ltb-false}
+use borrow.Author.Tests.{eqb-true, eqb-false, ltb-true, ltb-false, not-false}
 use Rattle.paper.specs.Lists.{all, nat}
 use Rattle.paper.specs.Formula.{formula, looked}
 use Rattle.paper.specs.Net.{Values, number, afresh}
@@ -21,8 +21,8 @@ use Rattle.paper.proofs.Numbers.{lower-input, number-right}
 use Rattle.paper.proofs.Fresh.{afresh-alike, afresh-equation}
 use Rattle.routes.specs.Rows.{valuesOf}
 use Rattle.routes.specs.Reach.{Closed, Either, Reached, Reaching}
-use Rattle.routes.specs.Work.{byRow, workNet, depth, worksOut, Workable, workedOut, asksOut, Holds, Ready, Asked, Asking}
-use Rattle.routes.proofs.Reach.{reached-idle, reached-again, reaching-start, reaching-step, reached-own}
+use Rattle.routes.specs.Work.{byRow, workNet, waiting, depth, worksOut, Workable, workedOut, asksOut, Holds, Ready, Asked, Asking}
+use Rattle.routes.proofs.Reach.{reached-still, reaching-start, reaching-step, reached-own}
 
 module _ (t : Tables) (work : List ℕ) where
   -- ── the model of what is to be worked out ──
@@ -85,6 +85,33 @@ module _ (t : Tables) (work : List ℕ) where
     unfolding workNet
     row-ins = ap (byRow [] (λ q. part t q (t .vars))) e
 
+  -- ── nothing to do ──
+  module _ (v : ℕ) (flags : List ℕ) where
+    waiting-is : {b : Bool} → eqb (nat work v) 0 ≡ b → waiting work flags v ≡ cond b false (not (eqb (nat flags v) 1))
+    waiting-is q = ap (λ b. cond b false (not (eqb (nat flags v) 1))) q
+
+    done : waiting work flags v ≡ false → worksOut t work v ≡ true → nat flags v ≡ 1
+    done e w = go (eqb (nat work v) 0) refl
+      where
+        go : (b : Bool) → eqb (nat work v) 0 ≡ b → nat flags v ≡ 1
+        go true q = clash w (idle v (eqb-true (nat work v) 0 q))
+        go false q = eqb-true (nat flags v) 1 (not-false (eqb (nat flags v) 1) (sym (waiting-is q) ∙ e))
+
+    pub waits-work : waiting work flags v ≡ true → 0 < nat work v
+    waits-work e = go (eqb (nat work v) 0) refl
+      where
+        go : (b : Bool) → eqb (nat work v) 0 ≡ b → 0 < nat work v
+        go true q = absurd (true≢false (sym e ∙ waiting-is q))
+        go false q = omega (arith, eqb-false (nat work v) 0 q)
+
+    pub asked-still : (trial : List ℤ) → waiting work flags v ≡ false → Ready t work trial flags → Asked t work v trial flags trial flags
+    asked-still trial e r =
+        record { reached = reached-still (worksOut t work) (asksOut t work trial) v flags (r .closed) (done e); holds = r .holds; still = λ u h. refl; long = refl }
+
+  -- what has been asked has its value
+  pub asked-value : (v : ℕ) (trial : List ℤ) (flags : List ℕ) (trial′ : List ℤ) (flags′ : List ℕ) → Asked t work v trial flags trial′ flags′ → valuesOf trial′ v ≡ workedOut t work trial v
+  asked-value v trial flags trial′ flags′ a = a .holds .at v (a .reached .here)
+
   module _ (w : Workable t work) where
     pub worked-idle : (trial : List ℤ) (v : ℕ) → worksOut t work v ≡ false → workedOut t work trial v ≡ valuesOf trial v
     unfolding workedOut
@@ -106,19 +133,6 @@ module _ (t : Tables) (work : List ℕ) where
           lower-input (workNet t work) lawful-work (number (workNet t work) (length work)) v i (number-right (workNet t work) lawful-work (length work) (w .chains) v) k,
           ltb-true i (length work) (all-in (λ u. ltb u (length work)) (part t r (t .vars)) (w .inputs v r e) (subst (List·Memᴰ i) (row-ins v r e) k)),
         )
-
-    -- ── nothing to do ──
-    pub asked-idle : (v : ℕ) (trial : List ℤ) (flags : List ℕ) → nat work v ≡ 0 → Ready t work trial flags → (valuesOf trial v ≡ workedOut t work trial v) × Asked t work v trial flags trial flags
-    asked-idle v trial flags e r = (
-      sym (worked-idle trial v (idle v e)),
-      record { reached = reached-idle (worksOut t work) (asksOut t work trial) v flags (r .closed) (idle v e); holds = r .holds; still = λ u h. refl; long = refl },
-    )
-
-    pub asked-again : (v : ℕ) (trial : List ℤ) (flags : List ℕ) → nat flags v ≡ 1 → Ready t work trial flags → (valuesOf trial v ≡ workedOut t work trial v) × Asked t work v trial flags trial flags
-    asked-again v trial flags e r = (
-      r .holds .at v (λ h. e),
-      record { reached = reached-again (worksOut t work) (asksOut t work trial) v flags (r .closed) e; holds = r .holds; still = λ u h. refl; long = refl },
-    )
 
     -- ── one goal after another ──
     pub asking-start : (goal : ℕ → Type 0) (trial : List ℤ) (flags : List ℕ) → Ready t work trial flags → Asking t work goal goal trial flags trial flags

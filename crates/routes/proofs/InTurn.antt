@@ -15,12 +15,12 @@ use Rattle.paper.specs.Formula.{looked}
 use Rattle.paper.specs.Net.{Values}
 use Rattle.paper.specs.Tables.{Tables}
 use Rattle.paper.proofs.Scan.{next}
-use Rattle.routes.specs.Rows.{RowFits, rowGives}
+use Rattle.routes.specs.Rows.{valuesOf, RowFits, rowGives}
 use Rattle.routes.specs.Work.{depth, Workable, workedOut, asksOut, Ready, Asked, Asking, AllAsked, worksOut, chosenPlace, nextPlace, askedFrom}
 use Rattle.routes.proofs.Walks.{at-place}
 use Rattle.routes.proofs.Reach.{reaching-skip}
 use Rattle.routes.proofs.Places.{asked-start, asked-end, asked-next}
-use Rattle.routes.proofs.Asks.{row-asks, asks-below, asking-start, asking-same, asking-ready, asking-step, asked-row, busy-below}
+use Rattle.routes.proofs.Asks.{row-asks, asks-below, asked-value, asking-start, asking-same, asking-ready, asking-step, asked-row, busy-below}
 
 -- the first of a list, or one of the others
 split : (u x : ℕ) (rest : List ℕ) → List·Memᴰ u (x ∷ rest) → (u ≡ x) ⊎ List·Memᴰ u rest
@@ -112,7 +112,7 @@ module _ (t : Tables) (work : List ℕ) (v r : ℕ) where
             let k = asks-below t work w v r e (workedOut t work trial) u asked-here in
             (k .0, k .1, asking-ready t work w (Goal trial) (From trial first last i) trial flags trial′ flags′ (g .asking) ready)
 
-        pub turn-next : (x : ℤ) (j : ℕ) (trial″ : List ℤ) (flags″ : List ℕ) → x ≡ workedOut t work trial′ u → j ≡ nextPlace (nat (t .kinds) r) x i first last
+        pub turn-next : (x : ℤ) (j : ℕ) (trial″ : List ℤ) (flags″ : List ℕ) → x ≡ valuesOf trial″ u → j ≡ nextPlace (nat (t .kinds) r) x i first last
             → Asked t work u trial′ flags′ trial″ flags″ → InTurn first last j trial flags trial″ flags″
         turn-next x j trial″ flags″ p q a = rw q (record {
           first-is = g .first-is;
@@ -125,7 +125,7 @@ module _ (t : Tables) (work : List ℕ) (v r : ℕ) where
         })
           where
             value : x ≡ workedOut t work trial u
-            value = p ∙ ap (λ (f : Values). f u) (asking-same t work w (Goal trial) (From trial first last i) trial flags trial′ flags′ (g .asking))
+            value = p ∙ asked-value t work u trial′ flags′ trial″ flags″ a ∙ ap (λ (f : Values). f u) (asking-same t work w (Goal trial) (From trial first last i) trial flags trial′ flags′ (g .asking))
 
       pub turn-end : last ≤ i → (y : ℤ) → y ≡ rowGives r (t .kinds) (t .params) (t .firsts) (t .counts) (t .vars) (t .coefs) trial′
           → (y ≡ workedOut t work trial v) × Asked t work v trial flags (set trial′ v y) (set flags′ v 1)

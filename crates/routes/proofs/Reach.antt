@@ -10,16 +10,12 @@ use lib.ListN.{length, set, length-set}
 use lib.Seq.{getD-set-same, getD-set-other}
 use borrow.Author.Tests.{eqb-true, eqb-false}
 use Rattle.paper.specs.Lists.{nat}
-use Rattle.paper.proofs.Lists.{clash}
-use Rattle.routes.specs.Reach.{Closed, Follows, Either, Reached, Reaching}
+use Rattle.routes.specs.Reach.{Closed, Either, Reached, Reaching}
 
 module _ (works : ℕ → Bool) (to : ℕ → List ℕ) where
   -- ── nothing to do ──
-  pub reached-idle : (v : ℕ) (marks : List ℕ) → Closed works to marks → works v ≡ false → Reached works to v marks marks
-  reached-idle v marks c e = record { long = refl; kept = λ u h. h; here = λ w. clash w e; closed = c; only = λ test f h u. inl refl }
-
-  pub reached-again : (v : ℕ) (marks : List ℕ) → Closed works to marks → nat marks v ≡ 1 → Reached works to v marks marks
-  reached-again v marks c e = record { long = refl; kept = λ u h. h; here = λ w. e; closed = c; only = λ test f h u. inl refl }
+  pub reached-still : (v : ℕ) (marks : List ℕ) → Closed works to marks → (works v ≡ true → nat marks v ≡ 1) → Reached works to v marks marks
+  reached-still v marks c e = record { long = refl; kept = λ u h. h; here = e; closed = c; only = λ test f h u. inl refl }
 
   -- ── one goal after another ──
   pub reaching-start : (goal : ℕ → Type 0) (marks : List ℕ) → Closed works to marks → Reaching works to goal goal marks marks

@@ -5,10 +5,11 @@ use mathlib.Core.List.{List}
 use mathlib.Core.Path.{_≡_}
 use lib.IntN.{ℤ}
 use lib.ListN.{length, set}
-use Rattle.paper.specs.Lists.{nat, any, over}
-use Rattle.paper.specs.Net.{Values, Route, differs, new, evaluated}
+use Rattle.paper.specs.Lists.{nat, over}
+use Rattle.paper.specs.Net.{Values, Route, new, evaluated}
 use Rattle.paper.specs.Tables.{Tables, net, isMade, valuesIn, part}
-use Rattle.routes.specs.Rows.{valuesOf, rowGives}
+use Rattle.routes.specs.Rows.{rowGives}
+pub use Rattle.steps.specs.Changes.{changes}
 
 -- the rows are long enough, the trial row begins as the stored one with the move in, which names no made variable, and no flag is set
 pub record Begun (t : Tables) (stored trial : List ℤ) (flags : List ℕ) : Type 0 where
@@ -32,10 +33,6 @@ pub record Routed (t : Tables) (route : Route) (stored trial : List ℤ) (flags 
   pub flagged : flags′ ≡ over (t .n) (λ v. cond (evaluatedOf t route stored trial asked v) 1 0) flags
 
 -- ── one row of route 1 ──
--- some variable of the list has another value in the trial row than in the stored one
-abbrev pub changes : List ℤ → List ℤ → List ℕ → Bool
-changes stored trial = any (differs (valuesOf trial) (valuesOf stored))
-
 -- its value and a 1 where some input changed, else all as it was
 pub record Turned (t : Tables) (r : ℕ) (stored trial : List ℤ) (flags : List ℕ) (trial′ : List ℤ) (flags′ : List ℕ) : Type 0 where
   pub values : trial′ ≡ cond (changes stored trial (part t r (t .vars)))

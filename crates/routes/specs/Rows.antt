@@ -7,14 +7,11 @@ use lib.IntN.{ℤ, pos}
 use lib.ListN.{length, getD, take}
 use Rattle.paper.specs.Lists.{nat}
 use Rattle.paper.specs.Formula.{formula}
-use Rattle.paper.specs.Net.{Values, able}
+use Rattle.paper.specs.Net.{able}
 use Rattle.paper.specs.Tables.{Tables, inputsOf, order}
 use Rattle.paper.specs.Checks.{Sound}
 use Rattle.formulas.specs.Row.{partOf, inputs, PartFits}
-
--- the values that a row holds
-abbrev pub valuesOf : List ℤ → Values
-valuesOf l v = getD l v (pos 0)
+pub use Rattle.steps.specs.Changes.{valuesOf}
 
 -- the tables are sound, and their chains of inputs end
 pub record Ended (t : Tables) : Type 0 where

@@ -1,7 +1,7 @@
 -- Routes 2 and 3 as one walk over a row of work: 1 plus the row that makes a variable where the route works it out, and 0 where its value
 -- stands already. Assumes nothing.
 use Prim.Native.Nat.{ℕ, zero, suc, _+_, _-_, _≤_, _<_}
-use mathlib.Core.Bool.{Bool, true, false, cond}
+use mathlib.Core.Bool.{Bool, true, false, not, cond}
 use mathlib.Core.List.{List, [], map, List·Memᴰ}
 use mathlib.Core.Path.{_≡_}
 use lib.Dec.{eqb, ltb}
@@ -32,6 +32,10 @@ workNet t work = record {
   form = λ v f. byRow (pos 0) (λ r. formula (nat (t .kinds) r) (getD (t .params) r (pos 0)) (part t r (t .coefs)) (map f (part t r (t .vars)))) (nat work v);
   asks = λ v f. byRow [] (λ r. looked (nat (t .kinds) r) f (part t r (t .vars))) (nat work v);
 }
+
+-- there is work to do for v that is not done yet
+abbrev pub waiting : List ℕ → List ℕ → ℕ → Bool
+waiting work flags v = cond (eqb (nat work v) 0) false (not (eqb (nat flags v) 1))
 
 module _ (t : Tables) (work : List ℕ) where
   -- the topological number of v in it, which falls from call to call

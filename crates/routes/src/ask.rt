@@ -5,7 +5,7 @@ ghost use Prim.Native.Nat.{suc, _<_};
 ghost use lib.Dec.{ltb};
 ghost use lib.ListN.{length};
 ghost use Rattle.paper.specs.Lists.{all, nat};
-ghost use Rattle.routes.specs.Work.{rows, Workable, workedOut, Ready, Asked, AllAsked, nextPlace};
+ghost use Rattle.routes.specs.Work.{rows, Workable, waiting, workedOut, Ready, Asked, AllAsked, nextPlace};
 use crate::row::row_value;
 use integers::wide;
 
@@ -30,34 +30,41 @@ fn next_place(kind: u16, x: i32, i: usize, first: usize, last: usize) -> usize
     last
 }
 
+// There is work to do for variable v that is not done yet.
+fn waits(v: usize, work: &[u16], flags: &[u8]) -> bool
+    requires { ⌜ (v < length (now work)) × (v < length (now flags)) ⌝ }
+    ensures { λ r. ⌜ r ≡ waiting (now (work .entry)) (now (flags .entry)) v ⌝ }
+{
+    if work[v] == 0 {
+        return false;
+    }
+    flags[v] != 1
+}
+
 // The value of variable v: as it stands, or, where there is work to do for v that is not done yet, the value of its row.
 fn value_of_variable(
     v: usize,
-    work: &[u16],
-    kinds: &[u16],
-    params: &[i32],
-    firsts: &[u16],
-    counts: &[u16],
-    vars: &[u16],
-    coefs: &[i16],
+    work: &&[u16],
+    kinds: &&[u16],
+    params: &&[i32],
+    firsts: &&[u16],
+    counts: &&[u16],
+    vars: &&[u16],
+    coefs: &&[i16],
     trial: &mut [i32],
     flags: &mut [u8],
 ) -> i32
-    requires workable { ⌜ Workable (rows (now kinds) (now params) (now firsts) (now counts) (now vars) (now coefs)) (now work) ⌝ }
-    requires there { ⌜ v < length (now work) ⌝ }
-    requires ready { ⌜ Ready (rows (now kinds) (now params) (now firsts) (now counts) (now vars) (now coefs)) (now work) (now trial) (now flags) ⌝ }
-    ensures value { λ x. ⌜ x ≡ workedOut (rows (now (kinds .entry)) (now (params .entry)) (now (firsts .entry)) (now (counts .entry)) (now (vars .entry)) (now (coefs .entry))) (now (work .entry)) (now (trial .entry)) v ⌝ }
-    ensures asked { λ _. ⌜ Asked (rows (now (kinds .entry)) (now (params .entry)) (now (firsts .entry)) (now (counts .entry)) (now (vars .entry)) (now (coefs .entry))) (now (work .entry)) v (now (trial .entry)) (now (flags .entry)) (now (trial .exit)) (now (flags .exit)) ⌝ }
+    requires workable { ⌜ Workable (rows (now (now kinds)) (now (now params)) (now (now firsts)) (now (now counts)) (now (now vars)) (now (now coefs))) (now (now work)) ⌝ }
+    requires there { ⌜ (v < length (now (now work))) × (v < 65536) ⌝ }
+    requires ready { ⌜ Ready (rows (now (now kinds)) (now (now params)) (now (now firsts)) (now (now counts)) (now (now vars)) (now (now coefs))) (now (now work)) (now trial) (now flags) ⌝ }
+    ensures value { λ x. ⌜ x ≡ workedOut (rows (now (now (kinds .entry))) (now (now (params .entry))) (now (now (firsts .entry))) (now (now (counts .entry))) (now (now (vars .entry))) (now (now (coefs .entry)))) (now (now (work .entry))) (now (trial .entry)) v ⌝ }
+    ensures asked { λ _. ⌜ Asked (rows (now (now (kinds .entry))) (now (now (params .entry))) (now (now (firsts .entry))) (now (now (counts .entry))) (now (now (vars .entry))) (now (now (coefs .entry)))) (now (now (work .entry))) v (now (trial .entry)) (now (flags .entry)) (now (trial .exit)) (now (flags .exit)) ⌝ }
 {
-    let row = wide(work[v]);
-    if row == 0 {
-        return trial[v];
-    }
-    if flags[v] == 1 {
+    if !waits(v, *work, flags) {
         return trial[v];
     }
     value_of_row(
-        row - 1,
+        wide(work[v]) - 1,
         v,
         work,
         kinds,
@@ -75,42 +82,45 @@ fn value_of_variable(
 fn value_of_row(
     r: usize,
     v: usize,
-    work: &[u16],
-    kinds: &[u16],
-    params: &[i32],
-    firsts: &[u16],
-    counts: &[u16],
-    vars: &[u16],
-    coefs: &[i16],
+    work: &&[u16],
+    kinds: &&[u16],
+    params: &&[i32],
+    firsts: &&[u16],
+    counts: &&[u16],
+    vars: &&[u16],
+    coefs: &&[i16],
     trial: &mut [i32],
     flags: &mut [u8],
 ) -> i32
-    requires workable { ⌜ Workable (rows (now kinds) (now params) (now firsts) (now counts) (now vars) (now coefs)) (now work) ⌝ }
-    requires row { ⌜ nat (now work) v ≡ suc r ⌝ }
-    requires ready { ⌜ Ready (rows (now kinds) (now params) (now firsts) (now counts) (now vars) (now coefs)) (now work) (now trial) (now flags) ⌝ }
-    ensures value { λ x. ⌜ x ≡ workedOut (rows (now (kinds .entry)) (now (params .entry)) (now (firsts .entry)) (now (counts .entry)) (now (vars .entry)) (now (coefs .entry))) (now (work .entry)) (now (trial .entry)) v ⌝ }
-    ensures asked { λ _. ⌜ Asked (rows (now (kinds .entry)) (now (params .entry)) (now (firsts .entry)) (now (counts .entry)) (now (vars .entry)) (now (coefs .entry))) (now (work .entry)) v (now (trial .entry)) (now (flags .entry)) (now (trial .exit)) (now (flags .exit)) ⌝ }
+    requires workable { ⌜ Workable (rows (now (now kinds)) (now (now params)) (now (now firsts)) (now (now counts)) (now (now vars)) (now (now coefs))) (now (now work)) ⌝ }
+    requires row { ⌜ (nat (now (now work)) v ≡ suc r) × (r < 65536) ⌝ }
+    requires ready { ⌜ Ready (rows (now (now kinds)) (now (now params)) (now (now firsts)) (now (now counts)) (now (now vars)) (now (now coefs))) (now (now work)) (now trial) (now flags) ⌝ }
+    ensures value { λ x. ⌜ x ≡ workedOut (rows (now (now (kinds .entry))) (now (now (params .entry))) (now (now (firsts .entry))) (now (now (counts .entry))) (now (now (vars .entry))) (now (now (coefs .entry)))) (now (now (work .entry))) (now (trial .entry)) v ⌝ }
+    ensures asked { λ _. ⌜ Asked (rows (now (now (kinds .entry))) (now (now (params .entry))) (now (now (firsts .entry))) (now (now (counts .entry))) (now (now (vars .entry))) (now (now (coefs .entry)))) (now (now (work .entry))) v (now (trial .entry)) (now (flags .entry)) (now (trial .exit)) (now (flags .exit)) ⌝ }
 {
     let kind = kinds[r];
     let first = wide(firsts[r]);
     let last = first + wide(counts[r]);
     let mut i = first;
     while i < last {
-        let x = value_of_variable(
-            wide(vars[i]),
-            work,
-            kinds,
-            params,
-            firsts,
-            counts,
-            vars,
-            coefs,
-            trial,
-            flags,
-        );
-        i = next_place(kind, x, i, first, last);
+        let u = wide(vars[i]);
+        if waits(u, *work, flags) {
+            value_of_variable(
+                u,
+                work,
+                kinds,
+                params,
+                firsts,
+                counts,
+                vars,
+                coefs,
+                trial,
+                flags,
+            );
+        }
+        i = next_place(kind, trial[u], i, first, last);
     }
-    let y = row_value(r, kinds, params, firsts, counts, vars, coefs, trial);
+    let y = row_value(r, *kinds, *params, *firsts, *counts, *vars, *coefs, trial);
     trial[v] = y;
     flags[v] = 1;
     y
@@ -137,13 +147,13 @@ pub fn ask_all(
     for j in 0..asked.len() {
         value_of_variable(
             wide(asked[j]),
-            work,
-            kinds,
-            params,
-            firsts,
-            counts,
-            vars,
-            coefs,
+            &work,
+            &kinds,
+            &params,
+            &firsts,
+            &counts,
+            &vars,
+            &coefs,
             trial,
             flags,
         );

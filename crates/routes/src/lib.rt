@@ -1,17 +1,13 @@
 // Values worked out: of one row, of all rows along the order, and by each of the three routes.
 mod afresh;
 mod ask;
-mod change;
-mod count;
 mod made;
 mod mark;
 mod output;
-mod plan;
 mod row;
 mod sweep;
 
 pub use afresh::work_out;
-pub use count::evaluations;
 pub use output::mark_guided;
 pub use output::output_to_input;
 pub use row::row_value;

@@ -8,10 +8,10 @@ ghost use Rattle.order.specs.Formed.{bare, Formed};
 ghost use Rattle.routes.specs.Reach.{Reached, Reaching};
 ghost use Rattle.routes.specs.Routed.{Begun};
 ghost use Rattle.routes.specs.Readers.{readers, Upward, Markable, Moved, none, Readable, markOf};
-use crate::change::moved;
 use crate::made::write_made;
 use integers::wide;
 use order::thread;
+use steps::moved;
 
 // Marks the readers of v, and after them v itself.
 fn mark(v: usize, heads: &[u16], links: &[u16], made: &[u16], marks: &mut [u8])
@@ -25,7 +25,10 @@ fn mark(v: usize, heads: &[u16], links: &[u16], made: &[u16], marks: &mut [u8])
     }
     let mut link = wide(heads[v]);
     while 0 < link {
-        mark(wide(made[link - 1]), heads, links, made, marks);
+        let u = wide(made[link - 1]);
+        if marks[u] != 1 {
+            mark(u, heads, links, made, marks);
+        }
         link = wide(links[link - 1]);
     }
     marks[v] = 1;

@@ -7,9 +7,9 @@ ghost use Rattle.paper.specs.Tables.{lent};
 ghost use Rattle.paper.specs.Checks.{Sound};
 ghost use Rattle.routes.specs.Rows.{Along};
 ghost use Rattle.routes.specs.Routed.{Begun, Routed, Turned};
-use crate::change::changed;
 use crate::row::row_value;
 use integers::wide;
+use steps::changed;
 
 // If an input of row r changed, the variable that it makes has its value over the new inputs, and a flag.
 fn turn(

@@ -1,21 +1,27 @@
--- The chain of checks 2 to 5: a caller may go on from its answer with any check that comes next, and where it accepts the tables are sound.
--- Assumes nothing.
-use Prim.Native.Nat.{ℕ, pred}
+-- The chain of checks 2 to 5: past check 3 the parts lie within e; a caller may go on from the answer with any check that comes next, and where it
+-- accepts the tables are sound. Assumes nothing.
+use Prim.Native.Nat.{ℕ, pred, _-_, _≤_, _<_}
 use native.Mathlib.Nat.{lt-irrefl}
 use native.Mathlib.Omega.{arith}
 use mathlib.Core.Bool.{Bool, true, _&&_}
-use mathlib.Core.Path.{_≡_, refl, sym, _∙_}
+use mathlib.Core.Path.{_≡_, refl, sym, ap, _∙_}
 use lib.Dec.{eqb}
-use lib.ListN.{take}
-use Rattle.paper.specs.Lists.{total}
-use Rattle.paper.specs.Tables.{Tables}
+use lib.IntN.{pos}
+use lib.ListN.{getD, take, drop}
+use borrow.Author.Tests.{leb-true}
+use Rattle.paper.specs.Lists.{total, nat, firstFail}
+use Rattle.paper.specs.Tables.{Tables, part}
 use Rattle.paper.specs.Checks.{Verdict, accepted, refused, check, require, sized, shapeGood, numberGood, madeOnce, tableChecks, Sound}
-use Rattle.paper.proofs.Lists.{and-left}
+use Rattle.paper.proofs.Lists.{and-left, each}
+use Rattle.paper.proofs.Least.{firstFail-before}
+use Rattle.paper.proofs.Scan.{firstFail-same}
 use Rattle.paper.proofs.Sizes.{Sized, sized-of, sized-facts}
 use Rattle.paper.proofs.Accept.{tables-passed}
+use Rattle.tables.specs.Rows.{numberRows, coefsGood, paramGood}
 use Rattle.tables.specs.Answers.{answerOf}
 use Rattle.tables.specs.declared.Answer.{Answer}
 use Rattle.tables.specs.declared.Answer.the-variants.{Accepted, Refused}
+use Rattle.tables.proofs.Whole.{front, part-front}
 
 -- ── the chain from each check on ──
 module _ (t : Tables) (next : Verdict) where
@@ -30,6 +36,23 @@ module _ (t : Tables) (next : Verdict) where
 
   abbrev pub fromThree : Verdict
   fromThree = check 3 (t .m) (shapeGood t) fromTotal
+
+-- ── check 4 after check 3 ──
+-- the parts lie within e, so the first e coefficients are as good as all
+pub numbers-front : (t : Tables) (bad row : ℕ) → bad ≡ firstFail (shapeGood t) (t .m) → t .m ≤ bad
+    → row ≡ firstFail (numberGood (numberRows (t .kinds) (t .params) (t .firsts) (t .counts) (take (t .e - 0) (drop 0 (t .coefs))))) (t .m)
+    → row ≡ firstFail (numberGood t) (t .m)
+numbers-front t bad row q h e =
+    e ∙ firstFail-same _ _ (t .m) (λ r low. ap (λ own. coefsGood (kind r) own && paramGood (kind r) (getD (t .params) r (pos 0))) (same r low))
+  where
+    kind : ℕ → ℕ
+    kind r = nat (t .kinds) r
+
+    same : (r : ℕ) → r < t .m → part t r (take (t .e - 0) (drop 0 (t .coefs))) ≡ part t r (t .coefs)
+    same r low =
+        let good = firstFail-before (shapeGood t) (t .m) r (omega arith) in
+        ap (part t r) (front (t .e) (t .coefs))
+        ∙ part-front (nat (t .firsts) r) (nat (t .counts) r) (t .e) (t .coefs) (leb-true _ _ (each _ good .1 .1 .1 .1 .0))
 
 -- ── an answer, and the verdict that it stands for ──
 pub accepted-is : (k j : ℕ) (v : Verdict) → answerOf k v ≡ Accepted j → v ≡ accepted

@@ -1,4 +1,5 @@
 pub mod Tests
+pub mod Whole
 pub mod Parts
 pub mod Shapes
 pub mod Numbers

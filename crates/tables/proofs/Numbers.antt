@@ -1,25 +1,41 @@
--- Check 4: a number within a bound by two tests, and the coefficients of a part by one test each. Assumes nothing.
+-- Check 4: a number within a bound by two tests, and the coefficients of a part where all coefficients are known to be good. Assumes nothing.
 use Prim.Native.Nat.{ℕ, suc}
-use mathlib.Core.Bool.{Bool, true, false, cond, _&&_, and-true}
+use mathlib.Core.Bool.{Bool, true, false, cond, _&&_, _||_, and-true, false≢true}
 use mathlib.Core.List.{List}
-use mathlib.Core.Path.{_≡_, refl, sym, _∙_}
+use mathlib.Core.Path.{_≡_, refl, sym, ap, _∙_}
 use lib.Dec.{eqb, leb, leb·suc-suc}
 use lib.IntN.{ℤ, pos, negsuc, natAbs}
+use lib.ListN.{take, drop}
 use lib.Signed.{leZ}
 use Rattle.integers.specs.Integers.{eqZ}
-use Rattle.paper.specs.Lists.{all}
-use Rattle.tables.specs.Rows.{coefGood}
+use Rattle.integers.proofs.Order.{eqZ-yes}
+use Rattle.paper.proofs.Lists.{all-in, all-of}
+use Rattle.tables.specs.Rows.{allSmall, allOne, coefsGood}
+use Rattle.tables.proofs.Whole.{all-part, known-or}
 
 -- not below the bound's negative, and not above the bound
 pub within : (z : ℤ) (b : ℕ) → (leZ (negsuc b) z && leZ z (pos (suc b))) ≡ leb (natAbs z) (suc b)
 within (pos n) b = refl
 within (negsuc n) b = and-true (leb n b) ∙ sym (leb·suc-suc n b)
 
--- the kind picks the test of the part, or of each entry
-pub coefs-one-by-one : (kind : ℕ) (part : List ℤ)
-    → all (coefGood kind) part ≡ cond (eqb kind 1) (all (λ c. leb (natAbs c) 1000) part) (all (λ c. eqZ c (pos 1)) part)
-coefs-one-by-one kind part = go (eqb kind 1)
+one-small : (l : List ℤ) → allOne l ≡ true → allSmall l ≡ true
+one-small l h = all-of (λ c. leb (natAbs c) 1000) l (λ c m. rw (eqZ-yes c (pos 1) (all-in (λ x. eqZ x (pos 1)) l h m)))
+
+-- if all are 1, or the kind is LINEAR and all are small, a part need not be looked at
+pub coefs-known : (kind first count : ℕ) (l own : List ℤ) (ones linear : Bool) → ones ≡ allOne l → linear ≡ (ones || allSmall l) → own ≡ take count (drop first l)
+    → ((ones || (linear && eqb kind 1)) || coefsGood kind own) ≡ coefsGood kind (take count (drop first l))
+coefs-known kind first count l own ones linear o s e =
+    ap (λ x. (ones || (linear && eqb kind 1)) || coefsGood kind x) e ∙ known-or _ (coefsGood kind cut) (go ones linear o s (eqb kind 1))
   where
-    go : (b : Bool) → all (λ c. cond b (leb (natAbs c) 1000) (eqZ c (pos 1))) part ≡ cond b (all (λ c. leb (natAbs c) 1000) part) (all (λ c. eqZ c (pos 1)) part)
-    go true = refl
-    go false = refl
+    cut : List ℤ
+    cut = take count (drop first l)
+
+    small : allSmall l ≡ true → allSmall cut ≡ true
+    small h = all-part (λ c. leb (natAbs c) 1000) first count l h
+
+    go : (a b : Bool) → a ≡ allOne l → b ≡ (a || allSmall l) → (k : Bool) → (a || (b && k)) ≡ true → cond k (allSmall cut) (allOne cut) ≡ true
+    go true b p q true h = small (one-small l (sym p))
+    go true b p q false h = all-part (λ c. eqZ c (pos 1)) first count l (sym p)
+    go false true p q true h = small (sym q)
+    go false true p q false h = absurd (false≢true h)
+    go false false p q k h = absurd (false≢true h)

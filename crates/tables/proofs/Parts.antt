@@ -8,21 +8,17 @@ use mathlib.Core.Path.{_≡_, refl, sym, ap, ap₂, _∙_}
 use lib.Dec.{leb, ltb}
 use lib.ListN.{length, take, drop, length-drop, drop-of-length-le}
 use lib.Seq.{take-all}
+use denote.Ref.{RefT, now}
 use borrow.Author.Tests.{ltb-true, leb-true, leb-false}
 use Rattle.paper.specs.Lists.{nat}
-use Rattle.paper.specs.Tables.{inputsAsked}
+use Rattle.paper.specs.Tables.{partAsked}
 use Rattle.paper.proofs.Lists.{and-left, and-right}
-use Rattle.paper.proofs.Scan.{part-length, part-same}
+use Rattle.tables.specs.Given.{liesAt}
 use Rattle.tables.proofs.Tests.{in-two}
 
 -- by its two ends
 abbrev pub cut : {A : Type 0} → ℕ → ℕ → List A → List A
 cut first count l = take ((first + count) - first) (drop first l)
-
-pub cut-length : {A : Type 0} (first count : ℕ) (l : List A) → first + count ≤ length l → length (cut first count l) ≡ count
-cut-length first count l h =
-    let same : (first + count) - first ≡ count = omega arith in
-    ap (λ k. length (take k (drop first l))) same ∙ part-length l first count h
 
 -- as far as the list goes, where the part may pass its end
 drop-within : {A : Type 0} (l : List A) (first start : ℕ) → start ≡ min first (length l) → drop start l ≡ drop first l
@@ -62,10 +58,18 @@ module _ (m e : ℕ) (firsts counts vars : List ℕ) (row : ℕ) where
   part-inside end h = leb-true _ _ (and-right (leb end e) (leb end (length vars)) h)
 
   pub asked : (first count : ℕ) → first ≡ nat firsts row → count ≡ nat counts row → (a b : Bool) → there ≡ a → inside (first + count) ≡ b
-      → cond (a && b) (cut first count vars) [] ≡ inputsAsked m e firsts counts vars row
+      → cond (a && b) (first, count) (0, 0) ≡ partAsked m e firsts counts vars row
   asked first count p q a b t i =
       let end = nat firsts row + nat counts row in
-      ap₂ (λ x y. cond (x && y) (cut first count vars) []) (sym t) (sym i)
-      ∙ ap₂ (λ k l. cond (there && inside k) l []) (ap₂ _+_ p q) (part-same vars first count (nat firsts row) (nat counts row) p q)
-      ∙ ap (λ x. cond x (take (nat counts row) (drop (nat firsts row) vars)) [])
+      ap₂ (λ x y. cond (x && y) (first, count) (0, 0)) (sym t) (sym i) ∙ ap₂ (λ f k. cond (there && inside (f + k)) (f, k) (0, 0)) p q
+      ∙ ap (λ x. cond x (nat firsts row, nat counts row) (0, 0))
       (sym (in-two (ltb row m) (ltb row (length firsts) ∷ ltb row (length counts) ∷ []) (leb end e) (leb end (length vars) ∷ [])))
+
+-- a part cut out by its two ends, where it lies, is that very part
+pub very : (whole : RefT (List ℕ)) (first count : ℕ) (part : ℕ × ℕ) → (first, count) ≡ part
+    → (cut first count (now whole) ≡ take (part .1) (drop (part .0) (now whole))) × (liesAt whole first ≡ liesAt whole (part .0))
+very whole first count part s =
+    let same : (first + count) - first ≡ count = omega arith in (
+      ap (λ k. take k (drop first (now whole))) same ∙ ap (λ (p : ℕ × ℕ). take (p .1) (drop (p .0) (now whole))) s,
+      ap (λ (p : ℕ × ℕ). liesAt whole (p .0)) s,
+    )

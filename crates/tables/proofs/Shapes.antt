@@ -1,21 +1,24 @@
--- Check 3: how many inputs each kind takes, kind by kind; a part whose variables are all below n; a row by its five tests. Assumes nothing.
-use Prim.Native.Nat.{ℕ, suc, _+_, _≤_, _<_}
+-- Check 3: how many inputs each kind takes, kind by kind; lists whose variables are all below n; a row by its five tests, and by what is known of all
+-- rows and all entries. Assumes nothing.
+use Prim.Native.Nat.{ℕ, suc, _+_, _-_, _≤_, _<_}
 use native.Mathlib.Omega.{arith}
 use mathlib.Core.Logic.{_≢_}
-use mathlib.Core.Bool.{Bool, true, false, not, _&&_, and-true, and-false}
+use mathlib.Core.Bool.{Bool, true, false, _&&_, _||_, and-true, and-false}
 use mathlib.Core.List.{List, [], _∷_}
 use mathlib.Core.Path.{_≡_, refl, sym, ap, ap₂, _∙_}
 use lib.Dec.{eqb, leb, ltb}
 use lib.ListN.{length, take}
-use borrow.Author.Tests.{ltb-true, ltb-false, leb-true, eqb-true, eqb-false, ne-eqb}
-use Rattle.paper.specs.Lists.{all, between, total, nat, firstFail}
+use lib.Seq.{length-take-le, getD-take}
+use borrow.Author.Tests.{ltb-true, leb-true, leb-false, eqb-true, eqb-false, ne-eqb, lt-ltb}
+use Rattle.paper.specs.Lists.{all, between, greatest, total, nat, firstFail, allBelow}
 use Rattle.paper.specs.Tables.{Tables}
 use Rattle.paper.specs.Checks.{arity, shapeGood}
 use Rattle.paper.proofs.Lists.{clash, and-left, and-right, all-at}
-use Rattle.paper.proofs.Least.{firstFail-fails, firstFail-before}
+use Rattle.paper.proofs.Least.{firstFail-fails, firstFail-before, allBelow-at}
 use Rattle.paper.proofs.Scan.{part-same}
 use Rattle.tables.proofs.Tests.{second-last}
-use Rattle.tables.proofs.Parts.{cut, cut-length}
+use Rattle.tables.proofs.Parts.{cut}
+use Rattle.tables.proofs.Whole.{all-part, part-front, known-or}
 
 -- ── how many inputs ──
 twice : (b : Bool) → b ≡ (b && true && true)
@@ -55,36 +58,67 @@ all-each p [] h = refl
 all-each p (x ∷ xs) h = ap₂ _&&_ (h 0 (omega arith)) (all-each p xs (λ i k. h (suc i) (omega arith)))
 
 -- the first entry that fails decides
-all-first : (p : ℕ → Bool) (l : List ℕ) (k : ℕ) → length l ≡ k → all p l ≡ not (ltb (firstFail (λ i. p (nat l i)) k) k)
-all-first p l k e = go (ltb (firstFail good k) k) refl (all p l) refl
+pub all-first : (p : ℕ → Bool) (l : List ℕ) → all p l ≡ leb (length l) (firstFail (λ i. p (nat l i)) (length l))
+all-first p l = go (leb (length l) (firstFail good (length l))) refl (all p l) refl
   where
     good : ℕ → Bool
     good i = p (nat l i)
 
-    go : (b : Bool) → ltb (firstFail good k) k ≡ b → (a : Bool) → all p l ≡ a → a ≡ not b
-    go true q true h = let low = ltb-true (firstFail good k) k q in clash (all-at p l h (firstFail good k) 0 (omega arith)) (firstFail-fails good k low)
-    go true q false h = refl
-    go false q a h = let high = ltb-false (firstFail good k) k q in sym h ∙ all-each p l (λ i low. firstFail-before good k i (omega arith))
+    go : (b : Bool) → leb (length l) (firstFail good (length l)) ≡ b → (a : Bool) → all p l ≡ a → a ≡ b
+    go false q true h = let low = leb-false (length l) (firstFail good (length l)) q in clash (all-at p l h (firstFail good (length l)) 0 low) (firstFail-fails good (length l) low)
+    go false q false h = refl
+    go true q a h = let high = leb-true (length l) (firstFail good (length l)) q in sym h ∙ all-each p l (λ i low. firstFail-before good (length l) i (omega arith))
+
+-- the greatest decides
+all-greatest : (n : ℕ) (l : List ℕ) → greatest l < n → all (λ v. ltb v n) l ≡ true
+all-greatest n [] h = refl
+all-greatest n (x ∷ xs) h = ap₂ _&&_ (lt-ltb x n (omega arith)) (all-greatest n xs (omega arith))
 
 -- ── a row, as the code reads it ──
-pub cut-known : (n first count : ℕ) (vars : List ℕ) → first + count ≤ length vars
-    → all (λ v. ltb v n) (cut first count vars) ≡ not (ltb (firstFail (λ i. ltb (nat (cut first count vars) i) n) count) count)
-cut-known n first count vars h = all-first (λ v. ltb v n) (cut first count vars) count (cut-length first count vars h)
+-- if the greatest of the first e is below n, so are the variables of a part within e
+pub inputs-known : (n e first count : ℕ) (vars : List ℕ) → first + count ≤ e
+    → (ltb (greatest (take e vars)) n || all (λ v. ltb v n) (cut first count vars)) ≡ all (λ v. ltb v n) (cut first count vars)
+inputs-known n e first count vars h = known-or _ _ (λ q. sym (ap (all below) (part-front first own e vars (omega arith))) ∙ all-part below first own (take e vars) (known q))
+  where
+    own : ℕ
+    own = (first + count) - first
 
--- the test before the part is looked at: `before` entries have gone to the rows before, and `suits` says whether the count suits the kind
-abbrev pub placed : Tables → ℕ → Bool → ℕ → ℕ → ℕ → Bool
-placed t made suits first count before = ltb made (t .n) && suits && eqb first before && leb (first + count) (t .e)
+    below : ℕ → Bool
+    below v = ltb v n
 
-pub placed-facts : (t : Tables) (made : ℕ) (suits : Bool) (first count before : ℕ) → placed t made suits first count before ≡ true
+    known : ltb (greatest (take e vars)) n ≡ true → all below (take e vars) ≡ true
+    known q = all-greatest n (take e vars) (ltb-true (greatest (take e vars)) n q)
+
+-- if the greatest of the first m made variables is below n and the counts of m rows suit their kinds, each of these rows is good
+pub rows-known : (n m r : ℕ) (kinds makes counts : List ℕ) (known fit good : Bool) → m ≤ length makes → r < m
+    → known ≡ ltb (greatest (take m makes)) n → fit ≡ allBelow (λ i. arity (nat kinds i) (nat counts i)) m
+    → let own = ltb (nat makes r) n && arity (nat kinds r) (nat counts r) in good ≡ ((known && fit) || own) → good ≡ own
+rows-known n m r kinds makes counts known fit good long low k f g =
+    g ∙ known-or _ _ (λ q. ap₂ _&&_ (made (sym k ∙ and-left known fit q)) (allBelow-at suits m (sym f ∙ and-right known fit q) r low))
+  where
+    suits : ℕ → Bool
+    suits i = arity (nat kinds i) (nat counts i)
+
+    made : ltb (greatest (take m makes)) n ≡ true → ltb (nat makes r) n ≡ true
+    made q =
+        let few = length-take-le m makes long in
+        ap (λ v. ltb v n) (sym (getD-take m makes r 0 low))
+        ∙ all-at (λ v. ltb v n) (take m makes) (all-greatest n (take m makes) (ltb-true (greatest (take m makes)) n q)) r 0 (omega arith)
+
+-- the test before the part is looked at: `before` entries have gone to the rows before, and `good` says whether variable and count are
+abbrev pub placed : Tables → Bool → ℕ → ℕ → ℕ → Bool
+placed t good first count before = good && eqb first before && leb (first + count) (t .e)
+
+pub placed-facts : (t : Tables) (good : Bool) (first count before : ℕ) → placed t good first count before ≡ true
     → (first ≡ before) × (first + count ≤ t .e)
-placed-facts t made suits first count before h =
-    let front = ltb made (t .n) && suits in let at = eqb first before in let ends = leb (first + count) (t .e) in
-    (eqb-true first before (and-right front at (and-left (front && at) ends h)), leb-true (first + count) (t .e) (and-right (front && at) ends h))
+placed-facts t good first count before h =
+    let at = eqb first before in let ends = leb (first + count) (t .e) in
+    (eqb-true first before (and-right good at (and-left (good && at) ends h)), leb-true (first + count) (t .e) (and-right (good && at) ends h))
 
 -- the test and the part's variables are the paper's five tests
-pub placed-shape : (t : Tables) (r made : ℕ) (suits : Bool) (first count before : ℕ)
-    → made ≡ nat (t .makes) r → suits ≡ arity (nat (t .kinds) r) (nat (t .counts) r) → first ≡ nat (t .firsts) r → count ≡ nat (t .counts) r → before ≡ total (take r (t .counts))
-    → (placed t made suits first count before && all (λ v. ltb v (t .n)) (cut first count (t .vars))) ≡ shapeGood t r
-placed-shape t r made suits first count before p s q k b =
-    ap (λ l. placed t made suits first count before && all (λ v. ltb v (t .n)) l) (part-same (t .vars) first count _ _ q k)
-    ∙ rw (p, s, q, k, b) (sym (second-last _ _ _))
+pub placed-shape : (t : Tables) (r : ℕ) (good : Bool) (first count before : ℕ)
+    → good ≡ (ltb (nat (t .makes) r) (t .n) && arity (nat (t .kinds) r) (nat (t .counts) r)) → first ≡ nat (t .firsts) r → count ≡ nat (t .counts) r → before ≡ total (take r (t .counts))
+    → (placed t good first count before && all (λ v. ltb v (t .n)) (cut first count (t .vars))) ≡ shapeGood t r
+placed-shape t r good first count before g q k b =
+    ap (λ l. placed t good first count before && all (λ v. ltb v (t .n)) l) (part-same (t .vars) first count _ _ q k)
+    ∙ rw (g, q, k, b) (sym (second-last _ _ _))

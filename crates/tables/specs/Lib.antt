@@ -1,3 +1,4 @@
 pub mod Rows
 pub mod Makers
 pub mod Answers
+pub mod Given

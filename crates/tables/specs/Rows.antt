@@ -1,5 +1,5 @@
 -- The lent rows that one check reads, as tables: what it does not read is left empty. So its contract is the paper's own test, which is the
--- same over the whole tables. Then checks 4 and 5 as the code takes them, one number or one place at a time. Assumes nothing.
+-- same over the whole tables. Then checks 4 and 5 as the code takes them, coefficients and parameter each, and one place at a time. Assumes nothing.
 use Prim.Native.Nat.{ℕ}
 use mathlib.Core.Bool.{Bool, false, cond, _||_}
 use mathlib.Core.List.{List, []}
@@ -7,7 +7,7 @@ use lib.IntN.{ℤ, pos, natAbs}
 use lib.Dec.{eqb, leb, ltb}
 use lib.ListN.{length, getD, take}
 use Rattle.integers.specs.Integers.{eqZ}
-use Rattle.paper.specs.Lists.{any, nat}
+use Rattle.paper.specs.Lists.{any, all, nat}
 use Rattle.paper.specs.Tables.{Tables, lent}
 
 abbrev pub kindRows : List ℕ → Tables
@@ -22,9 +22,15 @@ numberRows kinds params firsts counts coefs = lent 0 0 0 kinds [] params firsts 
 abbrev pub makesRows : List ℕ → Tables
 makesRows makes = lent 0 0 0 [] makes [] [] [] [] []
 
--- ── check 4, number by number ──
-abbrev pub coefGood : ℕ → ℤ → Bool
-coefGood kind coef = cond (eqb kind 1) (leb (natAbs coef) 1000) (eqZ coef (pos 1))
+-- ── check 4, coefficients and parameter each ──
+abbrev pub allSmall : List ℤ → Bool
+allSmall part = all (λ c. leb (natAbs c) 1000) part
+
+abbrev pub allOne : List ℤ → Bool
+allOne part = all (λ c. eqZ c (pos 1)) part
+
+abbrev pub coefsGood : ℕ → List ℤ → Bool
+coefsGood kind part = cond (eqb kind 1) (allSmall part) (allOne part)
 
 abbrev pub paramGood : ℕ → ℤ → Bool
 paramGood kind param = cond (eqb kind 1 || eqb kind 6) (leb (natAbs param) 1000000000) (eqZ param (pos 0))

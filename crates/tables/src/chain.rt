@@ -61,7 +61,7 @@ pub fn table_checks(
     if total_of(m, counts) != e {
         return refused(3, last_row(m));
     }
-    let number = first_bad_number(m, kinds, params, firsts, counts, coefs);
+    let number = first_bad_number(m, kinds, params, firsts, counts, &coefs[0..e]);
     if number < m {
         return refused(4, number);
     }

@@ -1,6 +1,6 @@
 // The part of a row.
-ghost use mathlib.Core.Path.{_≡_};
-ghost use Rattle.paper.specs.Tables.{inputsAsked};
+ghost use Rattle.paper.specs.Tables.{partAsked};
+ghost use Rattle.tables.specs.Given.{VeryPart};
 use integers::wide;
 
 // The input variables of a row, for whoever asks: none if there is no such row or its part ends after e.
@@ -12,7 +12,7 @@ pub fn inputs_of_row<'a>(
     vars: &'a [u16],
     row: usize,
 ) -> &'a [u16]
-    ensures { λ r. ⌜ now r ≡ inputsAsked m e (now (firsts .entry)) (now (counts .entry)) (now (vars .entry)) row ⌝ }
+    ensures { λ r. ⌜ VeryPart (vars .entry) (partAsked m e (now (firsts .entry)) (now (counts .entry)) (now (vars .entry)) row) r ⌝ }
 {
     let there = (row < m) & (row < firsts.len()) & (row < counts.len());
     if !there {

@@ -1,9 +1,10 @@
 // Check 3: variables, counts and parts.
+ghost use mathlib.Core.Bool.{_&&_, _||_};
 ghost use mathlib.Core.Path.{_≡_};
-ghost use Prim.Native.Nat.{_≤_};
+ghost use Prim.Native.Nat.{_≤_, max};
 ghost use lib.Dec.{ltb};
 ghost use lib.ListN.{length, take};
-ghost use Rattle.paper.specs.Lists.{total, nat, firstFail};
+ghost use Rattle.paper.specs.Lists.{all, greatest, total, nat, firstFail, allBelow};
 ghost use Rattle.paper.specs.Checks.{arity, shapeGood};
 ghost use Rattle.tables.specs.Rows.{shapeRows};
 use integers::wide;
@@ -33,8 +34,69 @@ pub fn first_unknown(n: usize, count: usize, vars: &[u16]) -> usize
     count
 }
 
+// The larger of two variables.
+fn larger(a: u16, b: u16) -> u16
+    ensures { λ r. ⌜ r ≡ max a b ⌝ }
+{
+    if a <= b {
+        return b;
+    }
+    a
+}
+
+// The greatest of these variables, 0 if there are none. No variable stops the loop, so that it takes several at a time.
+fn greatest_of(vars: &[u16]) -> u16
+    ensures { λ r. ⌜ r ≡ greatest (now (vars .entry)) ⌝ }
+{
+    let mut best = 0;
+    for i in 0..vars.len() {
+        best = larger(best, vars[i]);
+    }
+    best
+}
+
+// The greatest of the first variables of a list is below n.
+fn all_known(n: usize, count: usize, vars: &[u16]) -> bool
+    requires { ⌜ count ≤ length (now vars) ⌝ }
+    ensures { λ r. ⌜ r ≡ ltb (greatest (take count (now (vars .entry)))) n ⌝ }
+{
+    wide(greatest_of(&vars[0..count])) < n
+}
+
+// All m rows have as many inputs as suit their kinds. No row stops the loop.
+fn counts_good(m: usize, kinds: &[u16], counts: &[u16]) -> bool
+    requires { ⌜ (m ≤ length (now kinds)) × (m ≤ length (now counts)) ⌝ }
+    ensures { λ r. ⌜ r ≡ allBelow (λ row. arity (nat (now (kinds .entry)) row) (nat (now (counts .entry)) row)) m ⌝ }
+{
+    let mut good = true;
+    for row in 0..m {
+        good = good & arity_good(kinds[row], counts[row]);
+    }
+    good
+}
+
+// A row may make this variable and have so many inputs, which is known or looked up.
+fn row_good(known: bool, n: usize, kind: u16, made: u16, count: u16) -> bool
+    ensures { λ r. ⌜ r ≡ known || (ltb made n && arity kind count) ⌝ }
+{
+    if known {
+        return true;
+    }
+    (wide(made) < n) & arity_good(kind, count)
+}
+
+// All variables of a part are below n, which is known or looked up.
+fn inputs_good(known: bool, n: usize, part: &[u16]) -> bool
+    ensures { λ r. ⌜ r ≡ known || all (λ v. ltb v n) (now (part .entry)) ⌝ }
+{
+    if known {
+        return true;
+    }
+    part.len() <= first_unknown(n, part.len(), part)
+}
+
 // The first row that has a variable not below n, a count that does not suit its kind, or a part that does not begin where those before it end
-// or that ends after e.
+// or that ends after e. All rows and all entries are looked at once: what they show to be good is not looked at again.
 pub fn first_bad_shape(
     n: usize,
     m: usize,
@@ -48,19 +110,19 @@ pub fn first_bad_shape(
     requires { ⌜ (m ≤ length (now kinds)) × (m ≤ length (now makes)) × (m ≤ length (now firsts)) × (m ≤ length (now counts)) × (e ≤ length (now vars)) ⌝ }
     ensures { λ r. ⌜ r ≡ firstFail (shapeGood (shapeRows n e (now (kinds .entry)) (now (makes .entry)) (now (firsts .entry)) (now (counts .entry)) (now (vars .entry)))) m ⌝ }
 {
+    let rows_known = all_known(n, m, makes) & counts_good(m, kinds, counts);
+    let inputs_known = all_known(n, e, vars);
     let mut before = 0;
     for row in 0..m {
         let first = wide(firsts[row]);
-        let count = wide(counts[row]);
-        let end = first + count;
-        let placed = (wide(makes[row]) < n)
-            & arity_good(kinds[row], counts[row])
+        let end = first + wide(counts[row]);
+        let placed = row_good(rows_known, n, kinds[row], makes[row], counts[row])
             & (first == before)
             & (end <= e);
         if !placed {
             return row;
         }
-        if first_unknown(n, count, &vars[first..end]) < count {
+        if !inputs_good(inputs_known, n, &vars[first..end]) {
             return row;
         }
         before = end;

@@ -1,30 +1,70 @@
-// What trial and keep say on both sides of every edge of their refusals, and what they leave: a line for each case.
-mod calls;
-mod models;
+// What trial and keep say on both sides of every edge of their refusals, and what they leave: for each file that the arguments name, a line for each
+// of its cases. A file has the number of its cases and the bytes of its three pools (4 bytes each), the pools (numbers of two bytes, signed ones of
+// two, signed ones of four), and the cases. Past its end a pool has zeros.
+mod cases;
 mod print;
-mod refusals;
-mod runs;
-mod sizes;
 
-// Every case, check by check, and then the runs.
+use crate::cases::make;
+use pools::fields::after;
+use pools::fields::half;
+use pools::fields::least;
+use pools::fields::part;
+use pools::fields::word;
+use pools::given::read_argument;
+use pools::rows::fill_signed16;
+use pools::rows::fill_signed32;
+use pools::rows::fill16;
+
+// Makes the case at a place, if there is one, and answers where the next one is.
+fn make_at(bytes: &[u8], at: usize, pool: &[u16], coefs: &[i16], values: &[i32]) -> usize {
+    if bytes.len() <= at {
+        return at;
+    }
+    let length = half(bytes, at) as usize;
+    make(part(bytes, at, length), pool, coefs, values);
+    after(at, length)
+}
+
+// Makes so many cases one after another.
+fn make_all(count: usize, bytes: &[u8], pool: &[u16], coefs: &[i16], values: &[i32]) {
+    let mut at = 0;
+    for _ in 0..least(count, bytes.len()) {
+        at = make_at(bytes, at, pool, coefs, values);
+    }
+}
+
+// Makes the cases of a file.
+fn make_file(bytes: &[u8]) {
+    let mut pool = [0u16; 17000];
+    let mut coefs = [0i16; 17000];
+    let mut values = [0i32; 256];
+    let coefs_at = after(16, word(bytes, 4) as usize);
+    let values_at = after(coefs_at, word(bytes, 8) as usize);
+    let cases_at = after(values_at, word(bytes, 12) as usize);
+    fill16(&mut pool, part(bytes, 16, word(bytes, 4) as usize));
+    fill_signed16(&mut coefs, part(bytes, coefs_at, word(bytes, 8) as usize));
+    fill_signed32(
+        &mut values,
+        part(bytes, values_at, word(bytes, 12) as usize),
+    );
+    make_all(
+        word(bytes, 0) as usize,
+        part(bytes, cases_at, bytes.len()),
+        &pool,
+        &coefs,
+        &values,
+    );
+}
+
+// Makes the cases of the file that argument i names.
+fn make_argument(i: usize) {
+    let mut file = [0u8; 16384];
+    let got = read_argument(i, &mut file);
+    make_file(&file[..got]);
+}
+
 fn main() {
-    sizes::trial_reads();
-    sizes::trial_fills();
-    sizes::kept_reads();
-    sizes::kept_fills();
-    sizes::asked_bounds();
-    sizes::pair_bounds();
-    sizes::count_bounds();
-    refusals::tables();
-    refusals::orders();
-    refusals::blanks();
-    refusals::moves();
-    refusals::beyond_the_move();
-    refusals::routes_and_asked();
-    refusals::before_and_after();
-    runs::model_a();
-    runs::stale();
-    runs::others();
-    runs::keeps();
-    runs::builds();
+    for i in 1..os::arg_count() {
+        make_argument(i);
+    }
 }

@@ -1,6 +1,7 @@
-//! One call with everything that is lent to it, and who answers it.
+//! One call with everything that is lent to it, and what comes back.
 
-use second::{Asked, Built, Move, Refused, Session, State, Tables, TablesMut, Tried};
+use lent::{Session, Tables};
+use second::Refused;
 
 use crate::{Buffer, Guarded};
 
@@ -159,87 +160,4 @@ impl Answer {
     pub fn refused(refused: Refused) -> Answer {
         Answer { number: refused.number, place: refused.place, ..Answer::default() }
     }
-}
-
-/// An implementation of the five calls.
-pub trait Engine {
-    /// Answers the case, and leaves in it what the call leaves.
-    fn answer(&self, case: &mut Case) -> Answer;
-}
-
-/// A test of any engine, with its name.
-pub type Test = (&'static str, fn(&dyn Engine));
-
-/// The second implementation.
-#[derive(Clone, Copy, Debug)]
-pub struct Second;
-
-impl Engine for Second {
-    fn answer(&self, case: &mut Case) -> Answer {
-        let mut session = case.session;
-        let answer = match case.call {
-            Call::Build => Answer::of_call(build(&mut session, case)),
-            Call::Trial => Answer::of_call(trial(&mut session, case)),
-            Call::Keep => Answer::of_call(keep(&mut session, case)),
-            Call::Read => Answer::of_read(read(case)),
-            Call::Write => Answer::of_call(write(case).map(|()| 0)),
-        };
-        case.session = session;
-        answer
-    }
-}
-
-/// The tables of a case, borrowed field by field so that its other buffers may be lent too.
-macro_rules! tables_of {
-    ($case:expr) => {
-        Tables {
-            n: $case.n,
-            m: $case.m,
-            e: $case.e,
-            kinds: &$case.kinds,
-            makes: &$case.makes,
-            params: &$case.params,
-            firsts: &$case.firsts,
-            counts: &$case.counts,
-            vars: &$case.vars,
-            coefs: &$case.coefs,
-        }
-    };
-}
-
-fn build(session: &mut Session, case: &mut Case) -> Result<u32, Refused> {
-    let built = Built { numbers: &mut case.numbers, order: &mut case.order, stored: &mut case.stored };
-    second::build(session, tables_of!(case), &case.starts, built)
-}
-
-fn trial(session: &mut Session, case: &mut Case) -> Result<u32, Refused> {
-    let state = State { numbers: &case.numbers, order: &case.order, stored: &case.stored };
-    let moved = Move { pairs: case.pairs, vars: &case.move_vars, values: &case.move_values };
-    let asked = Asked { asked: case.asked, vars: &case.asked_vars };
-    let tried = Tried { results: &mut case.results, trial: &mut case.trial, flags: &mut case.flags };
-    second::trial(session, tables_of!(case), state, moved, asked, case.route, tried)
-}
-
-fn keep(session: &mut Session, case: &mut Case) -> Result<u32, Refused> {
-    let moved = Move { pairs: case.pairs, vars: &case.move_vars, values: &case.move_values };
-    let (numbers, order) = (&case.numbers, &case.order);
-    second::keep(session, tables_of!(case), numbers, order, &mut case.stored, moved, &mut case.flags)
-}
-
-fn read(case: &mut Case) -> Result<(usize, usize, usize), Refused> {
-    let tables = TablesMut {
-        starts: &mut case.starts,
-        kinds: &mut case.kinds,
-        makes: &mut case.makes,
-        params: &mut case.params,
-        firsts: &mut case.firsts,
-        counts: &mut case.counts,
-        vars: &mut case.vars,
-        coefs: &mut case.coefs,
-    };
-    second::read(&case.bytes, tables)
-}
-
-fn write(case: &mut Case) -> Result<(), Refused> {
-    second::write(tables_of!(case), &case.starts, &mut case.bytes)
 }

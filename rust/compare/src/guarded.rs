@@ -5,8 +5,9 @@ use std::ops::{Deref, DerefMut};
 
 use crate::Random;
 
-/// Guard elements on each side of a buffer.
-const GUARDS: usize = 8;
+/// Guard elements on each side of a buffer. Without any, each buffer is an allocation of just its own length, and valgrind
+/// sees what reads or writes beyond it.
+const GUARDS: usize = if cfg!(feature = "bare") { 0 } else { 8 };
 
 /// What a lent buffer holds.
 pub trait Element: Copy + PartialEq + fmt::Debug + Default {

@@ -2,7 +2,8 @@
 
 use std::time::{Duration, Instant};
 
-use second::{BLANK, Built, Session};
+use lent::{Built, Session};
+use second::BLANK;
 
 use crate::{Case, Difference, Element, Engine, Guarded, compare};
 

@@ -1,8 +1,9 @@
 //! The calls over the session record: the checks in the specification's order, and then the work.
 
-use crate::checks::{self, Makers, fits};
-use crate::lent::{Asked, Built, Move, Refused, Session, State, Tables, Tried};
-use crate::{order, routes};
+use crate::checks::{self, Makers, asked_fits, fits, move_fits, state_fits, tables_fit};
+use crate::parts::{counted_move, counted_state, counted_tables};
+use crate::{Refused, order, routes};
+use lent::{Asked, Built, Move, Session, State, Tables, Tried};
 
 /// Fills numbers, order and stored values; gives the number of evaluations, m.
 ///
@@ -11,13 +12,13 @@ use crate::{order, routes};
 pub fn build(session: &mut Session, tables: Tables<'_>, starts: &[i32], built: Built<'_>) -> Result<u32, Refused> {
     let Tables { n, m, .. } = tables;
     fits(&[
-        tables.fit(),
+        tables_fit(&tables),
         starts.len() >= n,
         built.numbers.len() >= n,
         built.order.len() >= m,
         built.stored.len() >= n,
     ])?;
-    let tables = tables.counted();
+    let tables = counted_tables(&tables);
     let makers = checks::tables(&tables)?;
     let numbers = order::numbers(&tables, &makers)?;
     checks::starts(&makers, &starts[..n])?;
@@ -47,11 +48,11 @@ pub fn trial(
 ) -> Result<u32, Refused> {
     let Tables { n, m, .. } = tables;
     fits(&[
-        tables.fit() && state.fits(n, m),
-        moved.fits() && asked.fits(tried.results),
+        tables_fit(&tables) && state_fits(&state, n, m),
+        move_fits(&moved) && asked_fits(&asked, tried.results),
         tried.trial.len() >= n && tried.flags.len() >= n,
     ])?;
-    let (tables, state, moved) = (tables.counted(), state.counted(n, m), moved.counted());
+    let (tables, state, moved) = (counted_tables(&tables), counted_state(&state, n, m), counted_move(&moved));
     let asked = &asked.vars[..asked.asked];
     let makers = model(&tables, &state)?;
     checks::route(route)?;
@@ -90,8 +91,8 @@ pub fn keep(
 ) -> Result<u32, Refused> {
     let Tables { n, m, .. } = tables;
     let state = State { numbers, order, stored };
-    fits(&[tables.fit() && state.fits(n, m), moved.fits(), flags.len() >= n])?;
-    let (tables, state, moved) = (tables.counted(), state.counted(n, m), moved.counted());
+    fits(&[tables_fit(&tables) && state_fits(&state, n, m), move_fits(&moved), flags.len() >= n])?;
+    let (tables, state, moved) = (counted_tables(&tables), counted_state(&state, n, m), counted_move(&moved));
     let makers = model(&tables, &state)?;
     checks::pairs(&makers, &moved)?;
 
@@ -120,16 +121,4 @@ fn model(tables: &Tables<'_>, state: &State<'_>) -> Result<Makers, Refused> {
     order::holds(tables, &makers, state.numbers, state.order)?;
     checks::stored(&makers, state.stored)?;
     Ok(makers)
-}
-
-impl<'a> State<'a> {
-    /// Whether no buffer is shorter than the counts ask.
-    fn fits(&self, n: usize, m: usize) -> bool {
-        self.numbers.len() >= n && self.order.len() >= m && self.stored.len() >= n
-    }
-
-    /// The state without what lies beyond the counts. Check 1 has passed.
-    fn counted(&self, n: usize, m: usize) -> State<'a> {
-        State { numbers: &self.numbers[..n], order: &self.order[..m], stored: &self.stored[..n] }
-    }
 }

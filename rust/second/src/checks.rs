@@ -1,8 +1,9 @@
 //! Checks 1 to 5, 7 and 9 to 13: each over its whole input, the place the smallest offending index.
 
 use crate::formulas::{COUNT, DEPARTURES, ELEMENT, LAST, LINEAR, MAX, MIN, OVER, SHARED, suits};
-use crate::lent::{Asked, Move, Refused, Row, Tables};
-use crate::{BLANK, MOST_ASKED, MOST_ENTRIES, MOST_PAIRS, MOST_VARIABLES};
+use crate::parts::{Row, rows_of};
+use crate::{BLANK, MOST_ASKED, MOST_ENTRIES, MOST_PAIRS, MOST_VARIABLES, Refused};
+use lent::{Asked, Move, State, Tables};
 
 const MOST_COEFFICIENT: u16 = 1_000;
 const MOST_PARAMETER: u32 = 1_000_000_000;
@@ -30,36 +31,35 @@ pub(crate) fn counts_fit(n: usize, m: usize, e: usize) -> bool {
     (1..=MOST_VARIABLES).contains(&n) && m <= n && e <= MOST_ENTRIES
 }
 
-impl Tables<'_> {
-    /// Whether the counts are inside their bounds and no table is shorter than they ask.
-    pub(crate) fn fit(&self) -> bool {
-        let rows = [self.kinds.len(), self.makes.len(), self.params.len(), self.firsts.len(), self.counts.len()];
-        let entries = [self.vars.len(), self.coefs.len()];
-        counts_fit(self.n, self.m, self.e)
-            && rows.iter().all(|&length| length >= self.m)
-            && entries.iter().all(|&length| length >= self.e)
-    }
+/// Whether the counts are inside their bounds and no table is shorter than they ask.
+pub(crate) fn tables_fit(tables: &Tables<'_>) -> bool {
+    let Tables { n, m, e, kinds, makes, params, firsts, counts, vars, coefs } = tables;
+    let rows = [kinds.len(), makes.len(), params.len(), firsts.len(), counts.len()];
+    counts_fit(*n, *m, *e)
+        && rows.iter().all(|length| length >= m)
+        && [vars.len(), coefs.len()].iter().all(|length| length >= e)
 }
 
-impl Move<'_> {
-    /// Whether the number of pairs is inside its bound and no buffer is shorter.
-    pub(crate) fn fits(&self) -> bool {
-        self.pairs <= MOST_PAIRS && self.vars.len() >= self.pairs && self.values.len() >= self.pairs
-    }
+/// Whether no buffer that build left is shorter than the counts ask.
+pub(crate) fn state_fits(state: &State<'_>, n: usize, m: usize) -> bool {
+    state.numbers.len() >= n && state.order.len() >= m && state.stored.len() >= n
 }
 
-impl Asked<'_> {
-    /// Whether the number asked is inside its bound and no buffer is shorter.
-    pub(crate) fn fits(&self, results: &[i32]) -> bool {
-        self.asked <= MOST_ASKED && self.vars.len() >= self.asked && results.len() >= self.asked
-    }
+/// Whether the number of pairs is inside its bound and no buffer is shorter.
+pub(crate) fn move_fits(moved: &Move<'_>) -> bool {
+    moved.pairs <= MOST_PAIRS && moved.vars.len() >= moved.pairs && moved.values.len() >= moved.pairs
+}
+
+/// Whether the number asked is inside its bound and no buffer is shorter.
+pub(crate) fn asked_fits(asked: &Asked<'_>, results: &[i32]) -> bool {
+    asked.asked <= MOST_ASKED && asked.vars.len() >= asked.asked && results.len() >= asked.asked
 }
 
 /// Checks 2 to 5, and with them the makers. The tables hold no more than the counts ask.
 pub(crate) fn tables(tables: &Tables<'_>) -> Result<Makers, Refused> {
     first(2, tables.kinds.iter().position(|kind| !(LINEAR..=LAST).contains(kind)))?;
     parts(tables)?;
-    first(4, tables.rows().position(|row| !weighed(&row)))?;
+    first(4, rows_of(tables).position(|row| !weighed(&row)))?;
     makers(tables)
 }
 

@@ -1,7 +1,9 @@
 //! The model file: a header of 24 bytes, start values, rows and entries, little-endian.
 
-use crate::checks::{counts_fit, fits};
-use crate::lent::{Refused, Tables, TablesMut};
+use crate::Refused;
+use crate::checks::{counts_fit, fits, tables_fit};
+use crate::parts::counted_tables;
+use lent::{Tables, TablesMut};
 
 const HEADER: usize = 24;
 const START: usize = 4;
@@ -82,10 +84,10 @@ fn header(bytes: &[u8]) -> Result<(usize, usize, usize), Refused> {
 /// Refusal 1.
 pub fn write(tables: Tables<'_>, starts: &[i32], bytes: &mut [u8]) -> Result<(), Refused> {
     let Tables { n, m, e, .. } = tables;
-    fits(&[tables.fit(), starts.len() >= n])?;
+    fits(&[tables_fit(&tables), starts.len() >= n])?;
     let layout = Layout::of(n, m, e);
     fits(&[bytes.len() >= layout.total])?;
-    let tables = tables.counted();
+    let tables = counted_tables(&tables);
     let mut out = Out { bytes, at: 0 };
     for field in [1, n, m, e] {
         out.put((field as u16).to_le_bytes());

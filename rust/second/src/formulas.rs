@@ -1,6 +1,6 @@
 //! The nine formulas, over a row's part of the entries and a row of values.
 
-use crate::lent::Row;
+use crate::parts::Row;
 use crate::{BLANK, MOST_INPUTS};
 
 pub(crate) const LINEAR: u16 = 1;

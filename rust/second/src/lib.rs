@@ -12,13 +12,14 @@ mod calls;
 mod checks;
 mod file;
 mod formulas;
-mod lent;
 mod order;
+mod parts;
+mod refused;
 mod routes;
 
 pub use calls::{build, inputs_of_row, keep, trial};
 pub use file::{read, write};
-pub use lent::{Asked, Built, Move, Refused, Session, State, Tables, TablesMut, Tried};
+pub use refused::Refused;
 
 /// No value: the one 32-bit number that is no value of a variable.
 pub const BLANK: i32 = i32::MIN;

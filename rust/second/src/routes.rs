@@ -2,7 +2,8 @@
 
 use crate::checks::Makers;
 use crate::formulas::{ELEMENT, chosen, row_value};
-use crate::lent::{Move, Row, Tables};
+use crate::parts::{Row, pairs_of, row_of};
+use lent::{Move, Tables};
 
 /// Which variables have another new value than the stored one, or are marked.
 type Touched = Vec<bool>;
@@ -10,7 +11,7 @@ type Touched = Vec<bool>;
 /// Makes a move in a row of values, and says which variables it changed.
 pub(crate) fn make_move(moved: &Move<'_>, values: &mut [i32]) -> Touched {
     let mut changed = vec![false; values.len()];
-    for (variable, value) in moved.iter() {
+    for (variable, value) in pairs_of(moved) {
         changed[variable] = values[variable] != value;
         values[variable] = value;
     }
@@ -25,7 +26,7 @@ fn touches(row: &Row<'_>, touched: &[bool]) -> bool {
 /// The values of a build: every row along the order.
 pub(crate) fn fill_values(tables: &Tables<'_>, order: &[u16], values: &mut [i32]) {
     for &row in order {
-        let row = tables.row(usize::from(row));
+        let row = row_of(tables, usize::from(row));
         values[row.makes] = row_value(&row, values);
     }
 }
@@ -40,7 +41,7 @@ pub(crate) fn sweep(
 ) -> u32 {
     let mut evaluations = 0;
     for &row in order {
-        let row = tables.row(usize::from(row));
+        let row = row_of(tables, usize::from(row));
         if touches(&row, &changed) {
             let value = row_value(&row, values);
             changed[row.makes] = values[row.makes] != value;
@@ -55,7 +56,7 @@ pub(crate) fn sweep(
 /// For route 3: the makers of the marked variables alone, so that all others keep what they have.
 pub(crate) fn marked(tables: &Tables<'_>, order: &[u16], mut marked: Touched, mut makers: Makers) -> Makers {
     for &row in order {
-        let row = tables.row(usize::from(row));
+        let row = row_of(tables, usize::from(row));
         if touches(&row, &marked) {
             marked[row.makes] = true;
         } else {
@@ -101,7 +102,7 @@ impl<'a> Asking<'a> {
     /// The row to ask for this variable, if it is still to be worked out.
     fn asked(&self, variable: u16) -> Option<Pending<'a>> {
         let row = usize::from(self.waiting[usize::from(variable)]).checked_sub(1)?;
-        Some(Pending { row: self.tables.row(row), looked: 0 })
+        Some(Pending { row: row_of(self.tables, row), looked: 0 })
     }
 
     /// The next input that the row needs and that is still to be worked out.

@@ -16,7 +16,7 @@ use std::sync::Mutex;
 
 use compare::{Answer, Case, Engine};
 
-pub use program::program;
+pub use program::{command_for, program};
 
 /// The engine that the archive holds, in a program of its own.
 #[derive(Debug)]

@@ -11,8 +11,14 @@ const PROGRAMS: &str = env!("SERVED_PROGRAMS");
 /// processor, its emulator; on a stack of so many bytes, if it is told.
 #[must_use]
 pub fn program(name: &str, stack: Option<usize>) -> Command {
+    command_for(&Path::new(PROGRAMS).join(name), stack)
+}
+
+/// Any program that the kit linked, ready to run in the same way.
+#[must_use]
+pub fn command_for(program: &Path, stack: Option<usize>) -> Command {
     let mut command = bare(Path::new(KIT), stack);
-    command.arg("--library-path").arg(Path::new(KIT).join("lib")).arg(Path::new(PROGRAMS).join(name));
+    command.arg("--library-path").arg(Path::new(KIT).join("lib")).arg(program);
     command
 }
 

@@ -16,8 +16,8 @@ arg-count-requires c κs = search needs
 loop-holds : tie.Need-loop-holds Inv-loop μ-loop
 loop-holds c = search needs
 
-replay-argument-requires : tie.Need-replay-argument-requires Inv-loop μ-loop
-replay-argument-requires c κs = search needs
+replay-requires : tie.Need-replay-requires Inv-loop μ-loop
+replay-requires c κs = search needs
 
 add-i : tie.Need-add-i Inv-loop μ-loop
 add-i c = search needs
@@ -39,7 +39,7 @@ main-spec =
     μ-loop
     arg-count-requires
     loop-holds
-    replay-argument-requires
+    replay-requires
     add-i
     loop-less
     loop-again

@@ -7,10 +7,10 @@ use Rattle.replay.proofs.make_calls.Statement.{statement}
 use Rattle.replay.proofs.make_calls.Tie as tie
 
 abbrev Inv-loop : tie.InvT-loop
-Inv-loop calls n m e kinds₀ makes₀ params₀ firsts₀ counts₀ vars₀ coefs₀ numbers₀ order₀ stored₀ session₀ at₀ counter₀ end kinds makes params firsts counts vars coefs numbers order stored session at counter = (end < 2 ^ 64) × (length kinds ≡ length kinds₀) × (length makes ≡ length makes₀) × (length params ≡ length params₀) × (length firsts ≡ length firsts₀) × (length counts ≡ length counts₀) × (length vars ≡ length vars₀) × (length coefs ≡ length coefs₀) × (length numbers ≡ length numbers₀) × (length order ≡ length order₀) × (length stored ≡ length stored₀)
+Inv-loop calls n m e pool₀ params₀ coefs₀ stored₀ session₀ at₀ counter₀ end pool params coefs stored session at counter = (end < 2 ^ 64) × (length pool ≡ length pool₀) × (length params ≡ length params₀) × (length coefs ≡ length coefs₀) × (length stored ≡ length stored₀)
 
 abbrev μ-loop : tie.MeasureT-loop
-μ-loop calls n m e kinds₀ makes₀ params₀ firsts₀ counts₀ vars₀ coefs₀ numbers₀ order₀ stored₀ session₀ at₀ counter₀ end kinds makes params firsts counts vars coefs numbers order stored session at counter = end - counter
+μ-loop calls n m e pool₀ params₀ coefs₀ stored₀ session₀ at₀ counter₀ end pool params coefs stored session at counter = end - counter
 
 loop-holds : tie.Need-loop-holds Inv-loop μ-loop
 loop-holds c = search needs
@@ -45,24 +45,6 @@ same-length-3 c = search needs
 same-length-4 : tie.Need-same-length-4 Inv-loop μ-loop
 same-length-4 c = search needs
 
-same-length-5 : tie.Need-same-length-5 Inv-loop μ-loop
-same-length-5 c = search needs
-
-same-length-6 : tie.Need-same-length-6 Inv-loop μ-loop
-same-length-6 c = search needs
-
-same-length-7 : tie.Need-same-length-7 Inv-loop μ-loop
-same-length-7 c = search needs
-
-same-length-8 : tie.Need-same-length-8 Inv-loop μ-loop
-same-length-8 c = search needs
-
-same-length-9 : tie.Need-same-length-9 Inv-loop μ-loop
-same-length-9 c = search needs
-
-same-length-10 : tie.Need-same-length-10 Inv-loop μ-loop
-same-length-10 c = search needs
-
 returns : tie.Need-returns Inv-loop μ-loop
 returns c = search needs
 
@@ -83,10 +65,4 @@ make-calls-spec =
     same-length-2
     same-length-3
     same-length-4
-    same-length-5
-    same-length-6
-    same-length-7
-    same-length-8
-    same-length-9
-    same-length-10
     returns)

@@ -1,6 +1,7 @@
 -- The text is what is said of build's answer, in either of its cases. Assumes nothing.
 use borrow.Author.Needs.{needs}
-use Rattle.report.proofs.Told.{built-list, built-refusal}
+use Rattle.report.specs.Printed.{ofTables}
+use Rattle.report.proofs.Told.{told-list, told-refusal}
 use Rattle.report.proofs.list_built.Statement.{statement}
 use Rattle.report.proofs.list_built.Tie as tie
 
@@ -29,9 +30,13 @@ same-length : tie.Need-same-length
 same-length c = search needs
 
 returns : tie.Need-returns
+unfolding ofTables
 returns c =
+    let c2 = c .before .before .before .before in
+    let c1 = c2 .before .before .before .before .before in
+    let n = c1 .before .before .before .before .before .before .before .before .before .before .args .n in
     let s = c .before .before .show-refused .ensures in
-    (s .0, built-refusal _ _ _ _ (c .before .before .before .before .before .before .before .before .before .build-new .ensures) _ _ (c .before .before .before .before .enum-told2 .given .1) (s .1))
+    (s .0, told-refusal _ _ _ _ n _ (c1 .build-new .ensures) _ _ (c2 .enum-told2 .given .1) (s .1))
 
 slice-aggregate-list : tie.Need-slice-aggregate-list
 slice-aggregate-list c = search needs
@@ -46,9 +51,13 @@ same-length-2 : tie.Need-same-length-2
 same-length-2 c = search needs
 
 returns-2 : tie.Need-returns-2
+unfolding ofTables
 returns-2 c =
+    let c2 = c .before .before .before .before .before .before in
+    let c1 = c2 .before .before .before .before .before in
+    let n = c1 .before .before .before .before .before .before .before .before .before .before .args .n in
     let s = c .before .before .list .ensures in
-    (s .0, built-list _ _ _ _ (c .before .before .before .before .before .before .before .before .before .before .before .build-new .ensures) _ (c .before .before .before .before .before .before .enum-told .given .1) (s .1))
+    (s .0, told-list _ _ _ _ n _ (c1 .build-new .ensures) _ (c2 .enum-told .given .1) (s .1))
 
 pub list-built-spec : {M : Type 1} → statement M
 list-built-spec =

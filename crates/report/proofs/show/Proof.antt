@@ -1,18 +1,20 @@
--- A file that is too long or not read has its refusal line, and one that is read the text of what build makes of it. Assumes nothing.
+-- A file that is too long or not read has its refusal line, and one that is read the text of what build makes of it; the buffer holds every
+-- text (`whole`). Assumes nothing.
+use native.Mathlib.Omega.{arith}
 use borrow.Author.Needs.{needs}
-use Rattle.report.specs.Printed.{too-long}
-use Rattle.report.proofs.Told.{file-unread, file-built}
+use Rattle.report.proofs.Told.{printed-long, printed-unread, printed-built, whole}
 use Rattle.report.proofs.show.Statement.{statement}
 use Rattle.report.proofs.show.Tie as tie
 
 refusal-requires : tie.Need-refusal-requires
 refusal-requires c κs = search needs
 
-same-length : tie.Need-same-length
-same-length c = search needs
-
 returns : tie.Need-returns
-returns c = let s = c .before .before .refusal .ensures in (s .0, too-long (c .before .before .before .before .if1 .taken) (s .1))
+returns c =
+    let c1 = c .before .before in
+    let file = c1 .before .before .args .file .now in
+    let s = c .refusal .ensures in
+    (s .0, whole file (omega arith) (printed-long file (c1 .if1 .taken)) (s .0) (s .1))
 
 slice-aggregate-read : tie.Need-slice-aggregate-read
 slice-aggregate-read c = search needs
@@ -50,13 +52,13 @@ enum-told c = search needs
 show-unread-requires : tie.Need-show-unread-requires
 show-unread-requires c κs = search needs
 
-same-length-2 : tie.Need-same-length-2
-same-length-2 c = search needs
-
 returns-2 : tie.Need-returns-2
 returns-2 c =
-    let s = c .before .before .show-unread .ensures in
-    (s .0, file-unread _ _ _ _ (c .before .before .before .before .before .before .before .before .before .before .before .before .before .before .read .ensures) (c .before .before .before .before .before .before .before .before .before .before .before .before .before .before .before .before .before .before .before .before .before .before .before .if1 .left) _ _ (c .before .before .before .before .enum-told .given .1) (s .1))
+    let c2 = c .before .before .before .before .before .before .before .before .before .before .before .before in
+    let c1 = c2 .before .before .before .before .before .before .before .before .before in
+    let file = c1 .before .before .args .file .now in
+    let s = c .show-unread .ensures in
+    (s .0, whole file (omega arith) (printed-unread file _ _ _ (c2 .read .ensures) (c1 .if1 .left) _ _ (c .before .before .enum-told .given .1)) (s .0) (s .1))
 
 slice-aggregate-list-built : tie.Need-slice-aggregate-list-built
 slice-aggregate-list-built c = search needs
@@ -85,20 +87,20 @@ slice-aggregate-list-built-8 c = search needs
 list-built-requires : tie.Need-list-built-requires
 list-built-requires c κs = search needs
 
-same-length-3 : tie.Need-same-length-3
-same-length-3 c = search needs
-
 returns-3 : tie.Need-returns-3
 returns-3 c =
-    let s = c .before .before .list-built .ensures in
-    (s .0, file-built _ _ _ _ (c .before .before .before .before .before .before .before .before .before .before .before .before .before .before .before .before .before .before .before .before .before .before .before .read .ensures) (c .before .before .before .before .before .before .before .before .before .before .before .before .before .before .before .before .before .before .before .before .before .before .before .before .before .before .before .before .before .before .before .before .if1 .left) _ _ _ (c .before .before .before .before .before .before .before .before .before .before .before .before .before .told .given .1) (s .1))
+    let c3 = c .before .before .before .before .before .before .before .before .before .before .before in
+    let c2 = c3 .before .before .before .before .before .before .before .before .before .before in
+    let c1 = c2 .before .before .before .before .before .before .before .before .before in
+    let file = c1 .before .before .args .file .now in
+    let s = c .list-built .ensures in
+    (s .0, whole file (omega arith) (printed-built file _ _ _ (c2 .read .ensures) (c1 .if1 .left) _ _ _ (c3 .told .given .1)) (s .0) (s .1))
 
 pub show-spec : {M : Type 1} → statement M
 show-spec =
     tie.close
     (tie.spec
     refusal-requires
-    same-length
     returns
     slice-aggregate-read
     slice-aggregate-read-2
@@ -112,7 +114,6 @@ show-spec =
     enum-known-told
     enum-told
     show-unread-requires
-    same-length-2
     returns-2
     slice-aggregate-list-built
     slice-aggregate-list-built-2
@@ -123,5 +124,4 @@ show-spec =
     slice-aggregate-list-built-7
     slice-aggregate-list-built-8
     list-built-requires
-    same-length-3
     returns-3)

@@ -1,5 +1,5 @@
 //! Records random sessions with the answers of the second implementation, for the program `replay` of `crates/`:
-//! `cargo run --release --bin record -- FOLDER` writes `FOLDER/data/sessions-1` and on, `FOLDER/args` and
+//! `cargo run --release --bin record -- FOLDER` writes `FOLDER/data/sessions-01` and on, `FOLDER/args` and
 //! `FOLDER/stdout`. What it writes is always the same; `tools/record` puts it into the repository.
 //!
 //! A file of the data, little-endian, holds the number of its sessions (4 bytes), and one session after another:
@@ -28,17 +28,18 @@ use std::{env, fs, io};
 use compare::{
     Answer, Call, Case, Engine, Guarded, Random, Second, Sizes, damage, keep_of, model, model_of, trial_of, value,
 };
-use second::{BLANK, Session};
+use lent::Session;
+use second::BLANK;
 
 /// Where the random numbers start.
 const SEED: u64 = 20_261_115;
 
 /// The files, and the sessions of each.
-const FILES: usize = 3;
-const SESSIONS: u32 = 60;
+const FILES: usize = 12;
+const SESSIONS: u32 = 15;
 
 /// The longest file that is replayed.
-const LONGEST: usize = 32_768;
+const LONGEST: usize = 8_192;
 
 /// The rows and variables, the entries, and the pairs or asked variables that the program's buffers have room for.
 const ROWS: usize = 16;
@@ -67,8 +68,8 @@ fn main() -> io::Result<()> {
         if data.len() > LONGEST {
             return Err(io::Error::other("more than the program reads"));
         }
-        names += &format!("sessions-{file}\n");
-        fs::write(folder.join(format!("data/sessions-{file}")), data)?;
+        names += &format!("sessions-{file:02}\n");
+        fs::write(folder.join(format!("data/sessions-{file:02}")), data)?;
     }
     fs::write(folder.join("args"), names)?;
     fs::write(folder.join("stdout"), lines)

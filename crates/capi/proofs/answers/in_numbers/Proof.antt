@@ -1,5 +1,6 @@
 -- Each variant is spelled out as the paper does it. Assumes nothing.
 use mathlib.Core.Path.{ap, sym}
+use Rattle.engine.specs.Left.{answerIn}
 use Rattle.capi.specs.Outcomes.{inNumbers}
 use borrow.Author.Needs.{needs}
 use Rattle.capi.proofs.answers.in_numbers.Statement.{statement}
@@ -12,10 +13,10 @@ enum-known-answer-2 : tie.Need-enum-known-answer-2
 enum-known-answer-2 c = search needs
 
 returns : tie.Need-returns
-returns c = ap inNumbers (sym (c .before .answer .given .1))
+returns c = ap (λ a. inNumbers (answerIn a)) (sym (c .before .answer .given .1))
 
 returns-2 : tie.Need-returns-2
-returns-2 c = ap inNumbers (sym (c .before .answer2 .given .1))
+returns-2 c = ap (λ a. inNumbers (answerIn a)) (sym (c .before .answer2 .given .1))
 
 pub in-numbers-spec : {M : Type 1} → statement M
 in-numbers-spec = tie.close (tie.spec enum-known-answer enum-known-answer-2 returns returns-2)

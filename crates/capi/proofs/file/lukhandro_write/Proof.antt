@@ -1,5 +1,6 @@
 -- What `write` leaves, with its answer put as three numbers. Assumes nothing.
-use Rattle.capi.proofs.Read.{write-out}
+use Rattle.capi.specs.Outcomes.{writtenOut}
+use Rattle.capi.proofs.Answered.{put-out}
 use borrow.Author.Needs.{needs}
 use Rattle.capi.proofs.file.lukhandro_write.Statement.{statement}
 use Rattle.capi.proofs.file.lukhandro_write.Tie as tie
@@ -14,7 +15,7 @@ same-length : tie.Need-same-length
 same-length c = search needs
 
 returns : tie.Need-returns
-returns c = write-out (c .before .before .before .write .result) (c .written-numbers .ensures) (c .before .before .before .write .ensures)
+returns c = put-out writtenOut (c .written-numbers .ensures) (c .before .before .before .write .ensures)
 
 pub lukhandro-write-spec : {M : Type 1} → statement M
 lukhandro-write-spec =

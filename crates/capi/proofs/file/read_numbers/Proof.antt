@@ -1,7 +1,7 @@
 -- Each variant is spelled out, and the counts fit 32 bits. Assumes nothing.
 use mathlib.Core.Path.{ap, sym}
 use native.Mathlib.Omega.{arith}
-use Rattle.capi.specs.Outcomes.{readOut}
+use Rattle.capi.specs.Outcomes.{readInNumbers}
 use borrow.Author.Needs.{needs}
 use Rattle.capi.proofs.file.read_numbers.Statement.{statement}
 use Rattle.capi.proofs.file.read_numbers.Tie as tie
@@ -22,10 +22,10 @@ enum-known-told-2 : tie.Need-enum-known-told-2
 enum-known-told-2 c = search needs
 
 returns : tie.Need-returns
-returns c = ap readOut (sym (c .before .told .given .1))
+returns c = ap readInNumbers (sym (c .before .told .given .1))
 
 returns-2 : tie.Need-returns-2
-returns-2 c = ap readOut (sym (c .before .told2 .given .1))
+returns-2 c = ap readInNumbers (sym (c .before .told2 .given .1))
 
 pub read-numbers-spec : {M : Type 1} → statement M
 read-numbers-spec =

@@ -1,5 +1,6 @@
 -- What `keep_core` leaves, with its answer put as three numbers. Assumes nothing.
-use Rattle.capi.proofs.Answered.{keep-answer}
+use Rattle.capi.specs.Outcomes.{keptOut}
+use Rattle.capi.proofs.Answered.{put-out}
 use borrow.Author.Needs.{needs}
 use Rattle.capi.proofs.keep.keep_ended.Statement.{statement}
 use Rattle.capi.proofs.keep.keep_ended.Tie as tie
@@ -17,7 +18,7 @@ same-length-2 : tie.Need-same-length-2
 same-length-2 c = search needs
 
 returns : tie.Need-returns
-returns c = let done = c .before .before .before .before .before .keep-core in keep-answer _ _ _ _ _ _ (done .result .answer) _ (done .ensures) (c .in-numbers .ensures)
+returns c = put-out keptOut (c .in-numbers .ensures) (c .before .before .before .before .before .keep-core .ensures)
 
 pub keep-ended-spec : {M : Type 1} → statement M
 keep-ended-spec =

@@ -1,5 +1,6 @@
 -- What `trial_core` leaves, with its answer put as three numbers. Assumes nothing.
-use Rattle.capi.proofs.Answered.{trial-answer}
+use Rattle.capi.specs.Outcomes.{triedOut}
+use Rattle.capi.proofs.Answered.{put-out}
 use borrow.Author.Needs.{needs}
 use Rattle.capi.proofs.trial.trial_ended.Statement.{statement}
 use Rattle.capi.proofs.trial.trial_ended.Tie as tie
@@ -20,7 +21,7 @@ same-length-3 : tie.Need-same-length-3
 same-length-3 c = search needs
 
 returns : tie.Need-returns
-returns c = let done = c .before .before .before .before .before .before .trial-core in trial-answer _ _ _ _ _ _ _ (done .result .answer) _ (done .ensures) (c .in-numbers .ensures)
+returns c = put-out triedOut (c .in-numbers .ensures) (c .before .before .before .before .before .before .trial-core .ensures)
 
 pub trial-ended-spec : {M : Type 1} → statement M
 trial-ended-spec =

@@ -3,17 +3,15 @@ use native.Mathlib.Nat.{le-refl}
 use native.Mathlib.Omega.{arith}
 use mathlib.Core.Path.{_≡_, refl, sym, ap, _∙_}
 use Rattle.paper.specs.Checks.{accepted, refused}
-use Rattle.paper.specs.Calls.{BuildLent, BuildLeft, buildVerdict, buildLeaves, build}
-use Rattle.paper.specs.Demands.{buildAsWas}
-use Rattle.paper.proofs.Outcomes.{buildNumber, build-judged, build-meets}
+use Rattle.paper.specs.Calls.{BuildLent, buildVerdict}
+use Rattle.paper.proofs.Outcomes.{build-meets}
 use Rattle.paper.proofs.Sizes.{Sized}
 use Rattle.paper.proofs.Known.{build-known}
 use Rattle.tables.proofs.Judged.{accepted-is, refused-is}
 use Rattle.order.proofs.Sweeps.{clean-new}
-use Rattle.engine.specs.Lent.{toBuild}
+use Rattle.judges.specs.Lent.{toBuild}
 use Rattle.engine.specs.Left.{answerIn}
-use Rattle.engine.proofs.Answers.{refusal-in}
-use Rattle.engine.proofs.Judging.{any-session, fitting}
+use Rattle.judges.proofs.Judging.{any-session, fitting}
 use borrow.Author.Needs.{needs}
 use Rattle.engine.proofs.building.build_core.Statement.{statement}
 use Rattle.engine.proofs.building.build_core.Tie as tie
@@ -52,7 +50,7 @@ returns : tie.Need-returns
 returns c =
     let s = c .before .before .before .before .before .before .before .before .before .before .before .before .before .before in let l = lent s in let said = c .enum-told2 .given in let v = any-session l (record { kept = 0; evaluations = 0 }) ∙ refused-is 0 _ _ _ (sym (c .before .before .judge-build .ensures .verdict) ∙ said .1) in
     build-meets l _ (refused (said .0 .0) (said .0 .1 .0)) v
-    (ap answerIn (said .1) ∙ refusal-in (λ (x : BuildLeft). x .answer) (buildLeaves l) (buildAsWas l) buildNumber (buildVerdict l) (build l) (build-judged l) (said .0 .0) (said .0 .1 .0) refl v) refl refl refl refl
+    (ap answerIn (said .1)) refl refl refl refl
 
 fill-model-requires : tie.Need-fill-model-requires
 fill-model-requires c κs =

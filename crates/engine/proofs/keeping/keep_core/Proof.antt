@@ -1,13 +1,11 @@
 -- A refusal has written nothing; an acceptance is met field by field by what `fill_keep` leaves. Assumes nothing.
 use mathlib.Core.Path.{_≡_, refl, sym, ap, _∙_}
 use Rattle.paper.specs.Checks.{accepted, refused}
-use Rattle.paper.specs.Calls.{Session, Model, Kept, KeepLeft, keepVerdict, keepLeaves, keep}
-use Rattle.paper.specs.Demands.{keepAsWas}
-use Rattle.paper.proofs.Outcomes.{keepNumber, keep-judged, keep-meets}
+use Rattle.paper.specs.Calls.{Session, Model, Kept, keepVerdict}
+use Rattle.paper.proofs.Outcomes.{keep-meets}
 use Rattle.tables.proofs.Judged.{accepted-is, refused-is}
-use Rattle.engine.specs.Lent.{toModel, toKeep}
+use Rattle.judges.specs.Lent.{toModel, toKeep}
 use Rattle.engine.specs.Left.{recordIn, answerIn}
-use Rattle.engine.proofs.Answers.{refusal-in}
 use Rattle.engine.proofs.Accepts.{keeping-of, keep-met}
 use borrow.Author.Needs.{needs}
 use Rattle.engine.proofs.keeping.keep_core.Statement.{statement}
@@ -42,7 +40,7 @@ returns c =
     let s = c .before .before .before .before .before .before .before .before .before .before .before .before .before .before in let said = c .enum-told2 .given in
     let r : Session = recordIn (s .args .session) in let v = refused-is 0 _ _ _ (sym (c .before .before .judge-keep .ensures) ∙ said .1) in
     keep-meets r (model s) (keeping s) _ (refused (said .0 .0) (said .0 .1 .0)) v
-    (ap answerIn (said .1) ∙ refusal-in (λ (x : KeepLeft). x .answer) (keepLeaves (model s) (keeping s) r) (keepAsWas r (model s) (keeping s)) keepNumber (keepVerdict (model s) (keeping s)) (keep r (model s) (keeping s)) (keep-judged r (model s) (keeping s)) (said .0 .0) (said .0 .1 .0) refl v) refl refl refl
+    (ap answerIn (said .1)) refl refl refl
 
 fill-keep-requires : tie.Need-fill-keep-requires
 fill-keep-requires c κs =

@@ -1,13 +1,11 @@
 -- A refusal has written nothing; an acceptance is met field by field by what `fill_trial` leaves. Assumes nothing.
 use mathlib.Core.Path.{_≡_, refl, sym, ap, _∙_}
 use Rattle.paper.specs.Checks.{accepted, refused}
-use Rattle.paper.specs.Calls.{Session, Model, Tried, TrialLeft, trialVerdict, trialLeaves, trial}
-use Rattle.paper.specs.Demands.{trialAsWas}
-use Rattle.paper.proofs.Outcomes.{trialNumber, trial-judged, trial-meets}
+use Rattle.paper.specs.Calls.{Session, Model, Tried, trialVerdict}
+use Rattle.paper.proofs.Outcomes.{trial-meets}
 use Rattle.tables.proofs.Judged.{accepted-is, refused-is}
-use Rattle.engine.specs.Lent.{toModel, toTry}
+use Rattle.judges.specs.Lent.{toModel, toTry}
 use Rattle.engine.specs.Left.{recordIn, answerIn}
-use Rattle.engine.proofs.Answers.{refusal-in}
 use Rattle.engine.proofs.Accepts.{trying-of, trial-met}
 use borrow.Author.Needs.{needs}
 use Rattle.engine.proofs.trying.trial_core.Statement.{statement}
@@ -45,7 +43,7 @@ returns c =
     let s = c .before .before .before .before .before .before .before .before .before .before .before .before .before .before .before .before in let said = c .enum-told2 .given in
     let r : Session = recordIn (s .args .session) in let v = refused-is 0 _ _ _ (sym (c .before .before .judge-trial .ensures) ∙ said .1) in
     trial-meets r (model s) (asking s) _ (refused (said .0 .0) (said .0 .1 .0)) v
-    (ap answerIn (said .1) ∙ refusal-in (λ (x : TrialLeft). x .answer) (trialLeaves (model s) (asking s) r) (trialAsWas r (asking s)) trialNumber (trialVerdict (model s) (asking s)) (trial r (model s) (asking s)) (trial-judged r (model s) (asking s)) (said .0 .0) (said .0 .1 .0) refl v) refl refl refl refl
+    (ap answerIn (said .1)) refl refl refl refl
 
 fill-trial-requires : tie.Need-fill-trial-requires
 fill-trial-requires c κs =

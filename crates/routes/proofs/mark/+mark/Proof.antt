@@ -2,11 +2,14 @@
 -- Assumes nothing.
 use Prim.Native.Nat.{ℕ, _<_}
 use native.Mathlib.Omega.{arith}
+use mathlib.Core.Bool.{true}
+use mathlib.Core.Logic.{⊎-elim}
 use mathlib.Core.Path.{_∙_}
-use lib.ListN.{length-set}
+use lib.ListN.{length, length-set}
 use borrow.Author.Needs.{needs}
-use Rattle.routes.specs.Readers.{distance}
-use Rattle.routes.proofs.Reach.{reached-again}
+use Rattle.routes.specs.Reach.{Reached}
+use Rattle.routes.specs.Readers.{distance, readers, Markable}
+use Rattle.routes.proofs.Reach.{reached-still}
 use Rattle.routes.proofs.Readers.{left, Going, going-start, going-room, going-end, going-call, going-step, going-less}
 use borrow.Fn.Kinds.{In}
 use borrow.Fn.PlainCycle.{Measures, is, falls, and}
@@ -40,7 +43,7 @@ mark-slice-read-if1 : (t : ℕ) → mark-lts.Need-slice-read-if1 (told t) (mark-
 mark-slice-read-if1 t c = let s = c .before .before .before .before .before in omega (arith, s .pre .1 .1 .0, s .pre .1 .1 .1 .room)
 
 mark-returns : (t : ℕ) → mark-lts.Need-returns (told t) (mark-at t) mark.Post mark-Inv-loop mark-μ-loop
-mark-returns t c = let s = c .before .before .before .before .before .before in reached-again _ _ _ _ (s .pre .1 .1 .1 .closed) (c .if1 .taken)
+mark-returns t c = let s = c .before .before .before .before .before .before in reached-still _ _ _ _ (s .pre .1 .1 .1 .closed) (λ w. c .if1 .taken)
 
 mark-mul-wide : (t : ℕ) → mark-lts.Need-mul-wide (told t) (mark-at t) mark.Post mark-Inv-loop mark-μ-loop
 mark-mul-wide t c = search needs
@@ -66,11 +69,31 @@ mark-shared-slice-read-wide-2 t c = let s = c .before .before .before .before .b
 mark-wide-requires-2 : (t : ℕ) → mark-lts.Need-wide-requires-2 (told t) (mark-at t) mark.Post mark-Inv-loop mark-μ-loop
 mark-wide-requires-2 t c κs = search needs
 
+-- the reader along the link: its distance is less, it has room, and it can be marked
+mark-call : (t : ℕ) (c : mark-lts.After-wide2 (told t) (mark-at t) mark.Post mark-Inv-loop mark-μ-loop)
+    → let a = c .before .before .before .before .before .before .before .before .before .before .before .before .args in
+    (distance (a .heads .now) (a .links .now) (a .made .now) (c .wide2 .result) < distance (a .heads .now) (a .links .now) (a .made .now) (a .v)) × (c .wide2 .result < length (a .heads .now))
+    × Markable (a .heads .now) (a .links .now) (a .made .now) (c .before .before .before .loop .marks)
+mark-call t c =
+    let s = c .before .before .before .before .before .before .before .before .before .before .before .before in
+    going-call _ _ _ (s .pre .1 .0) _ _ _ _ (c .before .before .before .loop .inv) (c .before .before .loop-test .taken) _ (c .wide2 .ensures .0) (s .pre .1 .1 .0) (s .pre .1 .1 .1 .room)
+
+-- it is marked, whether it was before or not
+mark-reached : (t : ℕ) (c : mark-lts.Joined2 (told t) (mark-at t) mark.Post mark-Inv-loop mark-μ-loop)
+    → let a = c .before .before .before .before .before .before .before .before .before .before .before .before .before .before .args in Reached (λ u. true) (readers (a .heads .now) (a .links .now) (a .made .now)) (c .before .before .wide2 .result) (c .before .before .before .before .before .loop .marks) (c .if2 .marks)
+mark-reached t c =
+    ⊎-elim
+    (λ w. rw (w .5) (w .2 .ensures))
+    (λ w. rw (w .1) (reached-still _ _ _ _ (mark-call t (c .before .before) .2 .closed) (λ z. w .0 .left)))
+    (c .if2 .came)
+
+mark-slice-read-if2 : (t : ℕ) → mark-lts.Need-slice-read-if2 (told t) (mark-at t) mark.Post mark-Inv-loop mark-μ-loop
+mark-slice-read-if2 t c = let k = mark-call t (c .before) in omega (arith, k .1, k .2 .room)
+
 mark-mark-requires : (t : ℕ) → mark-lts.Need-mark-requires (told t) (mark-at t) mark.Post mark-Inv-loop mark-μ-loop
 mark-mark-requires t c κs =
-    let s = c .before .before .before .before .before .before .before .before .before .before .before .before .before in
-    let g = going-call _ _ _ (s .pre .1 .0) _ _ _ _ (c .before .before .before .before .loop .inv) (c .before .before .before .loop-test .taken) _ (c .before .wide2 .ensures .0) (s .pre .1 .1 .0) (s .pre .1 .1 .1 .room) in
-    (omega (arith, g .0, s .pre .0), (s .pre .1 .0, (g .1, g .2)))
+    let s = c .before .before .before .before .before .before .before .before .before .before .before .before .before .before .before in let k = mark-call t (c .before .before .before) in
+    (omega (arith, k .0, s .pre .0), (s .pre .1 .0, (k .1, k .2)))
 
 mark-sub-wide-2 : (t : ℕ) → mark-lts.Need-sub-wide-2 (told t) (mark-at t) mark.Post mark-Inv-loop mark-μ-loop
 mark-sub-wide-2 t c = search needs
@@ -79,20 +102,20 @@ mark-mul-wide-3 : (t : ℕ) → mark-lts.Need-mul-wide-3 (told t) (mark-at t) ma
 mark-mul-wide-3 t c = search needs
 
 mark-shared-slice-read-wide-3 : (t : ℕ) → mark-lts.Need-shared-slice-read-wide-3 (told t) (mark-at t) mark.Post mark-Inv-loop mark-μ-loop
-mark-shared-slice-read-wide-3 t c = omega (arith, c .before .before .before .before .before .before .before .before .loop .inv .low)
+mark-shared-slice-read-wide-3 t c = omega (arith, c .before .before .before .before .before .before .loop .inv .low)
 
 mark-wide-requires-3 : (t : ℕ) → mark-lts.Need-wide-requires-3 (told t) (mark-at t) mark.Post mark-Inv-loop mark-μ-loop
 mark-wide-requires-3 t c κs = search needs
 
 mark-loop-less : (t : ℕ) → mark-lts.Need-loop-less (told t) (mark-at t) mark.Post mark-Inv-loop mark-μ-loop
 mark-loop-less t c =
-    let s = c .before .before .before .before .before .before .before .before .before .before .before .before .before .before .before .before .before .before in
-    going-less _ _ _ (s .pre .1 .0) _ _ _ _ (c .before .before .before .before .before .before .before .before .before .loop .inv) (c .before .before .before .before .before .before .before .before .loop-test .taken) _ (c .before .before .before .before .before .before .wide2 .ensures .0) _ (c .wide3 .ensures .0)
+    let s = c .before .before .before .before .before .before .before .before .before .before .before .before .before .before .before .before in
+    going-less _ _ _ (s .pre .1 .0) _ _ _ _ (c .before .before .before .before .before .before .before .loop .inv) (c .before .before .before .before .before .before .loop-test .taken) _ (c .before .before .before .before .wide2 .ensures .0) _ (c .wide3 .ensures .0)
 
 mark-loop-again : (t : ℕ) → mark-lts.Need-loop-again (told t) (mark-at t) mark.Post mark-Inv-loop mark-μ-loop
 mark-loop-again t c =
-    let s = c .before .before .before .before .before .before .before .before .before .before .before .before .before .before .before .before .before .before in
-    going-step _ _ _ (s .pre .1 .0) _ _ _ _ (c .before .before .before .before .before .before .before .before .before .loop .inv) (c .before .before .before .before .before .before .before .before .loop-test .taken) _ (c .before .before .before .before .before .before .wide2 .ensures .0) _ (c .wide3 .ensures .0) _ (c .before .before .before .before .mark .ensures)
+    let s = c .before .before .before .before .before .before .before .before .before .before .before .before .before .before .before .before in
+    going-step _ _ _ (s .pre .1 .0) _ _ _ _ (c .before .before .before .before .before .before .before .loop .inv) (c .before .before .before .before .before .before .loop-test .taken) _ (c .before .before .before .before .wide2 .ensures .0) _ (c .wide3 .ensures .0) _ (mark-reached t (c .before .before))
 
 -- there is room for the mark of v
 mark-room : (t : ℕ) → mark-lts.Need-slice-write-marks (told t) (mark-at t) mark.Post mark-Inv-loop mark-μ-loop
@@ -125,6 +148,7 @@ pub +mark-spec : {M : Type 1} → statement M
     (mark-mul-wide-2 t)
     (mark-shared-slice-read-wide-2 t)
     (mark-wide-requires-2 t)
+    (mark-slice-read-if2 t)
     (mark-mark-requires t)
     (mark-sub-wide-2 t)
     (mark-mul-wide-3 t)

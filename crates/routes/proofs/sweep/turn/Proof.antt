@@ -11,19 +11,6 @@ use Rattle.paper.proofs.Accept.{sound-row}
 use Rattle.routes.specs.Rows.{RowFits}
 use Rattle.routes.specs.Routed.{changes}
 use Rattle.routes.proofs.Walks.{row-fits}
--- Where the row's part holds a changed variable, the row's value is put at the variable that it makes. Assumes nothing.
-use native.Mathlib.Omega.{arith}
-use mathlib.Core.Path.{_≡_, sym, ap, _∙_}
-use borrow.Author.Needs.{needs, sfits-of}
-use borrow.Author.Tests.{not-true, not-false}
-use mir.Facts.{toZ-ofZ}
-use Rattle.paper.specs.Tables.{Tables, lent, part}
-use Rattle.paper.proofs.Scan.{part-same}
-use Rattle.paper.proofs.Sizes.{sized-facts}
-use Rattle.paper.proofs.Accept.{sound-row}
-use Rattle.routes.specs.Rows.{RowFits}
-use Rattle.routes.specs.Routed.{changes}
-use Rattle.routes.proofs.Walks.{row-fits}
 use Rattle.routes.proofs.sweep.turn.Statement.{statement}
 use Rattle.routes.proofs.sweep.turn.Tie as tie
 

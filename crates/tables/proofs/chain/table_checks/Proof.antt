@@ -4,12 +4,12 @@ use mathlib.Core.Path.{_≡_, sym, ap, _∙_}
 use lib.ListN.{take}
 use borrow.Author.Needs.{needs}
 use borrow.Author.Tests.{eq-eqb, ne-eqb}
-use Rattle.paper.specs.Lists.{total}
+use Rattle.paper.specs.Lists.{total, firstFail}
 use Rattle.paper.specs.Tables.{Tables, lent}
 use Rattle.paper.specs.Checks.{accepted, kindGood, shapeGood, numberGood, madeOnce, tableChecks}
 use Rattle.paper.proofs.Verdicts.{check-stops, check-passes, require-stops, require-next}
 use Rattle.tables.specs.Answers.{answerOf}
-use Rattle.tables.proofs.Judged.{fromThree, fromTotal, fromFour, fromFive}
+use Rattle.tables.proofs.Judged.{fromThree, fromTotal, fromFour, fromFive, numbers-front}
 use Rattle.tables.specs.declared.Answer.the-variants.{Refused}
 use Rattle.tables.proofs.chain.table_checks.Statement.{statement}
 use Rattle.tables.proofs.chain.table_checks.Tie as tie
@@ -82,24 +82,39 @@ past₃′ c =
     let t = t₃′ c in let sum = c .before .total-of .ensures in
     past₃ (c .before .before) ∙ require-next 3 _ _ (fromFour t accepted) (eq-eqb (total (take (t .m) (t .counts))) (t .e) (omega arith))
 
+sub-first-bad-number : tie.Need-sub-first-bad-number
+sub-first-bad-number c = search needs
+
+part-first-bad-number-start : tie.Need-part-first-bad-number-start
+part-first-bad-number-start c = search needs
+
+part-first-bad-number-end : tie.Need-part-first-bad-number-end
+part-first-bad-number-end c = search needs
+
 first-bad-number-requires : tie.Need-first-bad-number-requires
 first-bad-number-requires c κs = search needs
+
+-- in the first e coefficients as in all
+found : (c : tie.After-first-bad-number) → let t = t₃′ (c .before .before) in c .first-bad-number .result ≡ firstFail (numberGood t) (t .m)
+found c =
+    let b = c .before .before in
+    numbers-front (t₃′ b) _ _ (b .before .before .before .first-bad-shape .ensures) (b .before .before .if2 .left) (c .first-bad-number .ensures)
 
 refused-requires-4 : tie.Need-refused-requires-4
 refused-requires-4 c κs = search needs
 
 returns-4 : tie.Need-returns-4
 returns-4 c =
-    let b = c .before .before .before in let t = t₃′ b in
+    let b = c .before .before .before .before in let t = t₃′ b in
     c .refused4 .ensures
-    ∙ ap (answerOf 0) (sym (past₃′ b ∙ check-stops 4 (t .m) (numberGood t) (fromFive t accepted) _ (c .before .before .first-bad-number .ensures) (c .before .if4 .taken)))
+    ∙ ap (answerOf 0) (sym (past₃′ b ∙ check-stops 4 (t .m) (numberGood t) (fromFive t accepted) _ (found (c .before .before)) (c .before .if4 .taken)))
 
 -- ── past check 4 ──
 abbrev t₄ : tie.Else4 → Tables
-t₄ c = t₃′ (c .before .before)
+t₄ c = t₃′ (c .before .before .before)
 
 past₄ : (c : tie.Else4) → tableChecks (t₄ c) accepted ≡ fromFive (t₄ c) accepted
-past₄ c = let t = t₄ c in past₃′ (c .before .before) ∙ check-passes 4 (t .m) (numberGood t) (fromFive t accepted) _ (c .before .first-bad-number .ensures, c .if4 .left)
+past₄ c = let t = t₄ c in past₃′ (c .before .before .before) ∙ check-passes 4 (t .m) (numberGood t) (fromFive t accepted) _ (found (c .before), c .if4 .left)
 
 first-again-requires : tie.Need-first-again-requires
 first-again-requires c κs = search needs
@@ -132,6 +147,9 @@ table-checks-spec =
     last-row-requires
     refused-requires-3
     returns-3
+    sub-first-bad-number
+    part-first-bad-number-start
+    part-first-bad-number-end
     first-bad-number-requires
     refused-requires-4
     returns-4

@@ -5,7 +5,7 @@ use mathlib.Core.Path.{refl}
 use lib.ListN.{length}
 use borrow.Author.Needs.{needs}
 use borrow.Author.Tests.{not-true, not-false}
-use Rattle.tables.proofs.Parts.{row-there, part-inside, asked}
+use Rattle.tables.proofs.Parts.{row-there, part-inside, asked, very}
 use Rattle.tables.proofs.part.inputs_of_row.Statement.{statement}
 use Rattle.tables.proofs.part.inputs_of_row.Tie as tie
 
@@ -21,7 +21,7 @@ part-result-end c = search needs
 returns : tie.Need-returns
 returns c =
     let a = c .before .before .before .before .before .args in
-    asked (a .m) (a .e) (a .firsts .now) (a .counts .now) (a .vars .now) (a .row) _ _ refl refl false _ (not-true _ (c .before .if1 .taken)) refl
+    very (a .vars) 0 0 _ (asked (a .m) (a .e) (a .firsts .now) (a .counts .now) (a .vars .now) (a .row) _ _ refl refl false _ (not-true _ (c .before .if1 .taken)) refl)
 
 there : (c : tie.Else1) → let a = c .before .before .before .before .args in (a .row < length (a .firsts .now)) × (a .row < length (a .counts .now))
 there c =
@@ -61,8 +61,9 @@ part-result-end-2 c = search needs
 returns-2 : tie.Need-returns-2
 returns-2 c =
     let a = c .before .before .before .before .before .before .before .before .before .before .args in
-    asked (a .m) (a .e) (a .firsts .now) (a .counts .now) (a .vars .now) (a .row) _ _ (c .before .before .before .before .wide .ensures .0) (c .before .before .wide2 .ensures .0)
-    true false (not-false _ (c .before .before .before .before .before .before .if1 .left)) (not-true _ (c .before .if2 .taken))
+    very (a .vars) 0 0 _
+    (asked (a .m) (a .e) (a .firsts .now) (a .counts .now) (a .vars .now) (a .row) _ _ (c .before .before .before .before .wide .ensures .0) (c .before .before .wide2 .ensures .0)
+    true false (not-false _ (c .before .before .before .before .before .before .if1 .left)) (not-true _ (c .before .if2 .taken)))
 
 mul-result : tie.Need-mul-result
 mul-result c = search needs
@@ -81,8 +82,9 @@ part-result-end-3 c =
 returns-3 : tie.Need-returns-3
 returns-3 c =
     let a = c .before .before .before .before .before .before .before .before .before .before .args in
-    asked (a .m) (a .e) (a .firsts .now) (a .counts .now) (a .vars .now) (a .row) _ _ (c .before .before .before .before .wide .ensures .0) (c .before .before .wide2 .ensures .0)
-    true true (not-false _ (c .before .before .before .before .before .before .if1 .left)) (not-false _ (c .before .if2 .left))
+    very (a .vars) _ _ _
+    (asked (a .m) (a .e) (a .firsts .now) (a .counts .now) (a .vars .now) (a .row) _ _ (c .before .before .before .before .wide .ensures .0) (c .before .before .wide2 .ensures .0)
+    true true (not-false _ (c .before .before .before .before .before .before .if1 .left)) (not-false _ (c .before .if2 .left)))
 
 pub inputs-of-row-spec : {M : Type 1} → statement M
 inputs-of-row-spec =

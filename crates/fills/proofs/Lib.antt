@@ -1,0 +1,4 @@
+pub mod Built
+pub mod Settled
+pub mod Ran
+pub mod Writes

@@ -1,0 +1,79 @@
+-- The move is put into the trial row and worked out there by its route, and the asked values are read from it (`trial-filled`). Assumes nothing.
+use Prim.Native.Nat.{_≤_}
+use native.Mathlib.Omega.{arith}
+use mathlib.Core.Path.{sym}
+use borrow.Author.Needs.{needs}
+use Rattle.paper.specs.Tables.{Tables, lent}
+use Rattle.paper.specs.Calls.{Tried, Kept}
+use Rattle.judges.specs.Lent.{toTry}
+use Rattle.fills.proofs.Writes.{held, count-fits, asked-long, asked-within, trial-filled}
+use Rattle.fills.proofs.Ran.{begun}
+use Rattle.fills.proofs.trial.fill_trial.Statement.{statement}
+use Rattle.fills.proofs.trial.fill_trial.Tie as tie
+
+abbrev tables : tie.Start → Tables
+tables s =
+    let a = s .args in
+    lent (a .n) (a .m) (a .e) (a .kinds .now) (a .makes .now) (a .params .now) (a .firsts .now) (a .counts .now) (a .vars .now) (a .coefs .now)
+
+abbrev tried : tie.Start → Tried
+tried s =
+    let a = s .args in
+    toTry (a .pairs) (a .move-vars .now) (a .move-values .now) (a .asked) (a .asked-vars .now) (a .route) (a .results .now) (a .trial .now) (a .flags .now)
+
+abbrev kept : tie.Start → Kept
+kept s = record { move = tried s .move; flags = tried s .flags }
+
+room : (s : tie.Start) → s .args .n ≤ 4096
+room s = held (tables s) (s .args .order .now) (s .args .stored .now) (kept s) (s .pre .keeping) .n-most
+
+begin-route-requires : tie.Need-begin-route-requires
+begin-route-requires c κs = search needs
+
+slice-aggregate-wanted : tie.Need-slice-aggregate-wanted
+slice-aggregate-wanted c = let s = c .before .before .before .before .before .before .before .before .before .before .before .before .before .before .before .before in sym (asked-long (tables s) (s .args .order .now) (s .args .stored .now) (tried s) (s .pre))
+
+run-route-requires : tie.Need-run-route-requires
+run-route-requires c κs =
+    let s = c .before .before .before .before .before .before .before .before .before .before .before .before .before .before .before .before .before .before in let b = c .before .before .before .before .before .before .begin-route .ensures in let k = s .pre .keeping in
+    (k .along, (begun (tables s) (s .args .order .now) (s .args .stored .now) (kept s) k _ _ _ (s .pre .in-trial) (b .0) (b .1), s .pre .asked))
+
+copy-asked-requires : tie.Need-copy-asked-requires
+copy-asked-requires c κs =
+    let s = c .before .before .before .before .before .before .before .before .before .before .before .before .before .before .before .before .before .before .before .before .before .before .before .before in
+    (asked-within (tables s) (s .args .order .now) (s .args .stored .now) (tried s) (s .pre) _ (omega (arith, s .pre .in-trial, c .before .before .before .before .before .before .before .before .before .before .before .before .begin-route .kept .1 .1 .1 .1 .1 .0, c .before .before .before .before .before .run-route .kept .1 .1 .1 .1 .1 .1 .1 .1 .1 .1 .1 .1 .1 .1 .0)), omega (arith, s .pre .in-results, asked-long (tables s) (s .args .order .now) (s .args .stored .now) (tried s) (s .pre)))
+
+evaluations-requires : tie.Need-evaluations-requires
+evaluations-requires c κs = let s = c .before .before .before .before .before .before .before .before .before .before .before .before .before .before .before .before .before .before .before .before .before .before .before .before .before .before .before in omega (arith, s .pre .keeping .in-flags, c .before .before .before .before .before .before .before .before .before .before .before .before .before .before .before .begin-route .kept .1 .1 .1 .1 .1 .1 .0, c .before .before .before .before .before .before .before .before .run-route .kept .1 .1 .1 .1 .1 .1 .1 .1 .1 .1 .1 .1 .1 .1 .1 .0)
+
+cast-result : tie.Need-cast-result
+cast-result c = let s = c .before .before .before .before .before .before .before .before .before .before .before .before .before .before .before .before .before .before .before .before .before .before .before .before .before .before .before .before in record { fits = count-fits _ (s .args .n) _ (room s) (c .evaluations .ensures) }
+
+same-length : tie.Need-same-length
+same-length c = search needs
+
+same-length-2 : tie.Need-same-length-2
+same-length-2 c = search needs
+
+same-length-3 : tie.Need-same-length-3
+same-length-3 c = search needs
+
+returns : tie.Need-returns
+returns c =
+    let s = c .before .before .before .before .before .before .before .before .before .before .before .before .before .before .before .before .before .before .before .before .before .before .before .before .before .before .before .before in let b = c .before .before .before .before .before .before .before .before .before .before .before .before .before .before .before .before .begin-route .ensures in
+    trial-filled (tables s) (s .args .order .now) (s .args .stored .now) (tried s) (s .pre) _ _ _ _ _ _ (b .0) (b .1) (c .before .before .before .before .before .before .before .before .before .run-route .ensures) (c .before .before .before .copy-asked .ensures) (c .evaluations .ensures)
+
+pub fill-trial-spec : {M : Type 1} → statement M
+fill-trial-spec =
+    tie.close
+    (tie.spec
+    begin-route-requires
+    slice-aggregate-wanted
+    run-route-requires
+    copy-asked-requires
+    evaluations-requires
+    cast-result
+    same-length
+    same-length-2
+    same-length-3
+    returns)

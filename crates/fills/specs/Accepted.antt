@@ -1,0 +1,59 @@
+-- What an accepted call works over, and what stands in the rows of a trial or keep once it has written. The lent numbers play no part in either
+-- of these two. Assumes nothing.
+use Prim.Native.Nat.{ℕ, _≤_, _<_}
+use mathlib.Core.Bool.{true, false}
+use mathlib.Core.List.{List, []}
+use mathlib.Core.Path.{_≡_}
+use lib.Dec.{ltb}
+use lib.IntN.{ℤ}
+use lib.ListN.{length}
+use Rattle.paper.specs.Lists.{all, nat}
+use Rattle.paper.specs.Tables.{Tables, isMade}
+use Rattle.paper.specs.Checks.{accepted}
+use Rattle.paper.specs.Calls.{evaluationsOf, BuildLent, buildVerdict, Tried, TrialLeft, askedList, trialLeaves, Kept, KeepLeft, keepLeaves}
+use Rattle.order.specs.Formed.{bare}
+use Rattle.order.specs.Numbering.{Numbered}
+use Rattle.routes.specs.Rows.{Along}
+use Rattle.moves.specs.Put.{PairsFit}
+
+-- a build that is accepted, and the numbers found
+pub record Buildable (l : BuildLent) (state : List ℕ) : Type 0 where
+  pub verdict : buildVerdict l ≡ accepted
+  pub numbered : let t = l .tables in Numbered (bare (t .n) (t .m) (t .makes) (t .firsts) (t .counts) (t .vars)) state
+
+module _ (t : Tables) (ord : List ℕ) (stored : List ℤ) where
+  -- the model can be worked along its order, the move is one of its search variables, and the flags are lent
+  pub record Keeping (c : Kept) : Type 0 where
+    pub along : Along t ord
+    pub in-stored : t .n ≤ length stored
+    pub in-flags : t .n ≤ length (c .flags)
+    pub pairs : PairsFit (t .n) (c .move)
+    pub search : (i : ℕ) → i < c .move .pairs → isMade t (nat (c .move .vars) i) ≡ false
+
+  -- the same of a trial, with its two rows and what it asks lent, and variables of the model asked
+  pub record Trying (c : Tried) : Type 0 where
+    pub keeping : Keeping (record { move = c .move; flags = c .flags })
+    pub in-trial : t .n ≤ length (c .trial)
+    pub in-asked : c .asked ≤ length (c .askedVars)
+    pub in-results : c .asked ≤ length (c .results)
+    pub asked : all (λ v. ltb v (t .n)) (askedList c) ≡ true
+
+module _ (t : Tables) (stored : List ℤ) where
+  -- what an accepted call leaves
+  abbrev pub trialLeft : Tried → TrialLeft
+  trialLeft c = trialLeaves (record { tables = t; numbers = []; order = []; stored = stored }) c (record { kept = 0; evaluations = 0 }) accepted
+
+  abbrev pub keepLeft : Kept → KeepLeft
+  keepLeft c = keepLeaves (record { tables = t; numbers = []; order = []; stored = stored }) c (record { kept = 0; evaluations = 0 }) accepted
+
+  -- the count and the rows are what it leaves
+  pub record TrialFilled (c : Tried) (count : ℕ) (results trial : List ℤ) (flags : List ℕ) : Type 0 where
+    pub count-is : count ≡ evaluationsOf (trialLeft c .answer)
+    pub results-are : results ≡ trialLeft c .results
+    pub trial-is : trial ≡ trialLeft c .trial
+    pub flags-are : flags ≡ trialLeft c .flags
+
+  pub record KeepFilled (c : Kept) (count : ℕ) (stored′ : List ℤ) (flags : List ℕ) : Type 0 where
+    pub count-is : count ≡ evaluationsOf (keepLeft c .answer)
+    pub stored-is : stored′ ≡ keepLeft c .stored
+    pub flags-are : flags ≡ keepLeft c .flags

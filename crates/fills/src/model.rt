@@ -1,0 +1,52 @@
+// What an accepted build writes.
+ghost use mathlib.Core.Path.{_≡_};
+ghost use Rattle.paper.specs.Checks.{accepted};
+ghost use Rattle.paper.specs.Calls.{buildLeaves};
+ghost use Rattle.judges.specs.Lent.{toBuild};
+ghost use Rattle.fills.specs.Accepted.{Buildable};
+use moves::copy_values;
+use order::write_numbers;
+use order::write_order;
+use routes::work_out;
+
+// Writes the numbers, the order, and every value.
+pub fn fill_model(
+    n: usize,
+    m: usize,
+    e: usize,
+    kinds: &[u16],
+    makes: &[u16],
+    params: &[i32],
+    firsts: &[u16],
+    counts: &[u16],
+    vars: &[u16],
+    coefs: &[i16],
+    starts: &[i32],
+    state: &[u16; 4096],
+    numbers: &mut [u16],
+    order: &mut [u16],
+    stored: &mut [i32],
+)
+    requires { ⌜ Buildable (toBuild 0 0 n m e (now kinds) (now makes) (now params) (now firsts) (now counts) (now vars) (now coefs) (now starts) (now numbers) (now order) (now stored)) (now state) ⌝ }
+    ensures { λ _. ⌜ now (numbers .exit) ≡ buildLeaves (toBuild 0 0 n m e (now (kinds .entry)) (now (makes .entry)) (now (params .entry)) (now (firsts .entry)) (now (counts .entry)) (now (vars .entry)) (now (coefs .entry)) (now (starts .entry)) (now (numbers .entry)) (now (order .entry)) (now (stored .entry))) accepted .numbers ⌝ }
+    ensures { λ _. ⌜ now (order .exit) ≡ buildLeaves (toBuild 0 0 n m e (now (kinds .entry)) (now (makes .entry)) (now (params .entry)) (now (firsts .entry)) (now (counts .entry)) (now (vars .entry)) (now (coefs .entry)) (now (starts .entry)) (now (numbers .entry)) (now (order .entry)) (now (stored .entry))) accepted .order ⌝ }
+    ensures { λ _. ⌜ now (stored .exit) ≡ buildLeaves (toBuild 0 0 n m e (now (kinds .entry)) (now (makes .entry)) (now (params .entry)) (now (firsts .entry)) (now (counts .entry)) (now (vars .entry)) (now (coefs .entry)) (now (starts .entry)) (now (numbers .entry)) (now (order .entry)) (now (stored .entry))) accepted .stored ⌝ }
+{
+    write_numbers(n, m, makes, firsts, counts, vars, state, numbers);
+    write_order(n, m, makes, firsts, counts, vars, state, order);
+    copy_values(n, starts, stored);
+    work_out(
+        n,
+        m,
+        e,
+        kinds,
+        makes,
+        params,
+        firsts,
+        counts,
+        vars,
+        coefs,
+        order,
+        stored,
+    );
+}

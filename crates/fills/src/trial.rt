@@ -1,0 +1,144 @@
+// What an accepted trial writes, by the route asked for.
+ghost use mathlib.Core.Bool.{true};
+ghost use mathlib.Core.Path.{_≡_};
+ghost use lib.Dec.{ltb};
+ghost use Rattle.paper.specs.Lists.{all};
+ghost use Rattle.paper.specs.Tables.{lent};
+ghost use Rattle.paper.specs.Calls.{routeOf};
+ghost use Rattle.routes.specs.Rows.{Along};
+ghost use Rattle.routes.specs.Routed.{Begun, Routed};
+ghost use Rattle.judges.specs.Lent.{toTry};
+ghost use Rattle.fills.specs.Accepted.{Trying, TrialFilled};
+use moves::begin_route;
+use moves::copy_asked;
+use routes::input_to_output;
+use routes::mark_guided;
+use routes::output_to_input;
+use steps::evaluations;
+
+// Works a begun move out by the route of that number. What is not 1, 2 or 3 is refused before, so the last arm is route 3.
+fn run_route(
+    n: usize,
+    m: usize,
+    e: usize,
+    kinds: &[u16],
+    makes: &[u16],
+    params: &[i32],
+    firsts: &[u16],
+    counts: &[u16],
+    vars: &[u16],
+    coefs: &[i16],
+    order: &[u16],
+    stored: &[i32],
+    asked: &[u16],
+    route: u32,
+    trial: &mut [i32],
+    flags: &mut [u8],
+)
+    requires along { ⌜ Along (lent n m e (now kinds) (now makes) (now params) (now firsts) (now counts) (now vars) (now coefs)) (now order) ⌝ }
+    requires begun { ⌜ Begun (lent n m e (now kinds) (now makes) (now params) (now firsts) (now counts) (now vars) (now coefs)) (now stored) (now trial) (now flags) ⌝ }
+    requires asked { ⌜ all (λ v. ltb v n) (now asked) ≡ true ⌝ }
+    ensures { λ _. ⌜ Routed (lent n m e (now (kinds .entry)) (now (makes .entry)) (now (params .entry)) (now (firsts .entry)) (now (counts .entry)) (now (vars .entry)) (now (coefs .entry))) (routeOf route) (now (stored .entry)) (now (trial .entry)) (now (flags .entry)) (now (asked .entry)) (now (trial .exit)) (now (flags .exit)) ⌝ }
+{
+    match route {
+        1 => input_to_output(
+            n,
+            m,
+            e,
+            kinds,
+            makes,
+            params,
+            firsts,
+            counts,
+            vars,
+            coefs,
+            order,
+            stored,
+            trial,
+            flags,
+        ),
+        2 => output_to_input(
+            n,
+            m,
+            e,
+            kinds,
+            makes,
+            params,
+            firsts,
+            counts,
+            vars,
+            coefs,
+            asked,
+            stored,
+            trial,
+            flags,
+        ),
+        _ => mark_guided(
+            n,
+            m,
+            e,
+            kinds,
+            makes,
+            params,
+            firsts,
+            counts,
+            vars,
+            coefs,
+            asked,
+            stored,
+            trial,
+            flags,
+        ),
+    }
+}
+
+// Works the move out in the trial row, and answers with the number of evaluations.
+pub fn fill_trial(
+    n: usize,
+    m: usize,
+    e: usize,
+    kinds: &[u16],
+    makes: &[u16],
+    params: &[i32],
+    firsts: &[u16],
+    counts: &[u16],
+    vars: &[u16],
+    coefs: &[i16],
+    order: &[u16],
+    stored: &[i32],
+    pairs: usize,
+    move_vars: &[u16],
+    move_values: &[i32],
+    asked: usize,
+    asked_vars: &[u16],
+    route: u32,
+    results: &mut [i32],
+    trial: &mut [i32],
+    flags: &mut [u8],
+) -> u32
+    requires { ⌜ Trying (lent n m e (now kinds) (now makes) (now params) (now firsts) (now counts) (now vars) (now coefs)) (now order) (now stored) (toTry pairs (now «move_vars») (now «move_values») asked (now «asked_vars») route (now results) (now trial) (now flags)) ⌝ }
+    ensures { λ r. ⌜ TrialFilled (lent n m e (now (kinds .entry)) (now (makes .entry)) (now (params .entry)) (now (firsts .entry)) (now (counts .entry)) (now (vars .entry)) (now (coefs .entry))) (now (stored .entry)) (toTry pairs (now («move_vars» .entry)) (now («move_values» .entry)) asked (now («asked_vars» .entry)) route (now (results .entry)) (now (trial .entry)) (now (flags .entry))) r (now (results .exit)) (now (trial .exit)) (now (flags .exit)) ⌝ }
+{
+    begin_route(n, stored, pairs, move_vars, move_values, trial, flags);
+    let wanted = &asked_vars[..asked];
+    run_route(
+        n,
+        m,
+        e,
+        kinds,
+        makes,
+        params,
+        firsts,
+        counts,
+        vars,
+        coefs,
+        order,
+        stored,
+        wanted,
+        route,
+        trial,
+        flags,
+    );
+    copy_asked(wanted, trial, results);
+    evaluations(n, flags) as u32
+}

@@ -1,0 +1,169 @@
+// Check 1 of each call: the counts within their bounds, and every lent buffer as long as they ask.
+ghost use mathlib.Core.Path.{_≡_};
+ghost use Rattle.paper.specs.Calls.{buildFits, modelFits, trialFits, keepFits};
+ghost use Rattle.judges.specs.Lent.{toBuild, toModel, toTry, toKeep};
+use moves::move_sizes;
+use tables::sizes;
+
+// Check 1 of build.
+pub fn build_fits(
+    n: usize,
+    m: usize,
+    e: usize,
+    kinds: &[u16],
+    makes: &[u16],
+    params: &[i32],
+    firsts: &[u16],
+    counts: &[u16],
+    vars: &[u16],
+    coefs: &[i16],
+    starts: &[i32],
+    numbers: &[u16],
+    order: &[u16],
+    stored: &[i32],
+) -> bool
+    ensures { λ r. ⌜ r ≡ buildFits (toBuild 0 0 n m e (now (kinds .entry)) (now (makes .entry)) (now (params .entry)) (now (firsts .entry)) (now (counts .entry)) (now (vars .entry)) (now (coefs .entry)) (now (starts .entry)) (now (numbers .entry)) (now (order .entry)) (now (stored .entry))) ⌝ }
+{
+    sizes(
+        n,
+        m,
+        e,
+        kinds,
+        makes,
+        params,
+        firsts,
+        counts,
+        vars,
+        coefs,
+        starts,
+    )
+        & (n <= numbers.len())
+        & (m <= order.len())
+        & (n <= stored.len())
+}
+
+// Check 1 of the model that trial and keep are lent.
+fn model_fits(
+    n: usize,
+    m: usize,
+    e: usize,
+    kinds: &[u16],
+    makes: &[u16],
+    params: &[i32],
+    firsts: &[u16],
+    counts: &[u16],
+    vars: &[u16],
+    coefs: &[i16],
+    numbers: &[u16],
+    order: &[u16],
+    stored: &[i32],
+) -> bool
+    ensures { λ r. ⌜ r ≡ modelFits (toModel n m e (now (kinds .entry)) (now (makes .entry)) (now (params .entry)) (now (firsts .entry)) (now (counts .entry)) (now (vars .entry)) (now (coefs .entry)) (now (numbers .entry)) (now (order .entry)) (now (stored .entry))) ⌝ }
+{
+    sizes(
+        n,
+        m,
+        e,
+        kinds,
+        makes,
+        params,
+        firsts,
+        counts,
+        vars,
+        coefs,
+        stored,
+    )
+        & (n <= numbers.len())
+        & (m <= order.len())
+}
+
+// Check 1 of trial.
+pub fn trial_fits(
+    n: usize,
+    m: usize,
+    e: usize,
+    kinds: &[u16],
+    makes: &[u16],
+    params: &[i32],
+    firsts: &[u16],
+    counts: &[u16],
+    vars: &[u16],
+    coefs: &[i16],
+    numbers: &[u16],
+    order: &[u16],
+    stored: &[i32],
+    pairs: usize,
+    move_vars: &[u16],
+    move_values: &[i32],
+    asked: usize,
+    asked_vars: &[u16],
+    route: u32,
+    results: &[i32],
+    trial: &[i32],
+    flags: &[u8],
+) -> bool
+    ensures { λ r. ⌜ r ≡ trialFits (toModel n m e (now (kinds .entry)) (now (makes .entry)) (now (params .entry)) (now (firsts .entry)) (now (counts .entry)) (now (vars .entry)) (now (coefs .entry)) (now (numbers .entry)) (now (order .entry)) (now (stored .entry))) (toTry pairs (now («move_vars» .entry)) (now («move_values» .entry)) asked (now («asked_vars» .entry)) route (now (results .entry)) (now (trial .entry)) (now (flags .entry))) ⌝ }
+{
+    model_fits(
+        n,
+        m,
+        e,
+        kinds,
+        makes,
+        params,
+        firsts,
+        counts,
+        vars,
+        coefs,
+        numbers,
+        order,
+        stored,
+    )
+        & move_sizes(pairs, move_vars, move_values)
+        & (asked <= 32)
+        & (asked <= asked_vars.len())
+        & (asked <= results.len())
+        & (n <= trial.len())
+        & (n <= flags.len())
+}
+
+// Check 1 of keep.
+pub fn keep_fits(
+    n: usize,
+    m: usize,
+    e: usize,
+    kinds: &[u16],
+    makes: &[u16],
+    params: &[i32],
+    firsts: &[u16],
+    counts: &[u16],
+    vars: &[u16],
+    coefs: &[i16],
+    numbers: &[u16],
+    order: &[u16],
+    stored: &[i32],
+    pairs: usize,
+    move_vars: &[u16],
+    move_values: &[i32],
+    flags: &[u8],
+) -> bool
+    ensures { λ r. ⌜ r ≡ keepFits (toModel n m e (now (kinds .entry)) (now (makes .entry)) (now (params .entry)) (now (firsts .entry)) (now (counts .entry)) (now (vars .entry)) (now (coefs .entry)) (now (numbers .entry)) (now (order .entry)) (now (stored .entry))) (toKeep pairs (now («move_vars» .entry)) (now («move_values» .entry)) (now (flags .entry))) ⌝ }
+{
+    model_fits(
+        n,
+        m,
+        e,
+        kinds,
+        makes,
+        params,
+        firsts,
+        counts,
+        vars,
+        coefs,
+        numbers,
+        order,
+        stored,
+    )
+        & move_sizes(pairs, move_vars, move_values)
+        & (n <= flags.len())
+}

@@ -1,0 +1,67 @@
+// The verdict of build, before anything lent is written.
+ghost use Rattle.order.specs.Numbering.{Clean};
+ghost use Rattle.judges.specs.Lent.{toBuild};
+ghost use Rattle.judges.specs.Judged.{BuildJudged};
+use crate::fits::build_fits;
+use moves::first_bad_value;
+use order::find_numbers;
+use tables::Answer;
+use tables::makers;
+use tables::refused;
+use tables::table_checks;
+
+// Checks 1 to 7 of build; if all are passed, `state` holds two more than each variable's number.
+pub fn judge_build(
+    n: usize,
+    m: usize,
+    e: usize,
+    kinds: &[u16],
+    makes: &[u16],
+    params: &[i32],
+    firsts: &[u16],
+    counts: &[u16],
+    vars: &[u16],
+    coefs: &[i16],
+    starts: &[i32],
+    numbers: &[u16],
+    order: &[u16],
+    stored: &[i32],
+    state: &mut [u16; 4096],
+) -> Answer
+    requires { ⌜ Clean 4096 (now state) ⌝ }
+    ensures { λ r. ⌜ BuildJudged (toBuild 0 0 n m e (now (kinds .entry)) (now (makes .entry)) (now (params .entry)) (now (firsts .entry)) (now (counts .entry)) (now (vars .entry)) (now (coefs .entry)) (now (starts .entry)) (now (numbers .entry)) (now (order .entry)) (now (stored .entry))) (now (state .exit)) r ⌝ }
+{
+    if !build_fits(
+        n,
+        m,
+        e,
+        kinds,
+        makes,
+        params,
+        firsts,
+        counts,
+        vars,
+        coefs,
+        starts,
+        numbers,
+        order,
+        stored,
+    ) {
+        return refused(1, 0);
+    }
+    let checked = table_checks(n, m, e, kinds, makes, params, firsts, counts, vars, coefs);
+    let Answer::Accepted { .. } = checked else {
+        return checked;
+    };
+    let mut by = [0u16; 4096];
+    makers(n, m, makes, &mut by);
+    let endless = find_numbers(n, m, makes, firsts, counts, vars, &by, state);
+    if endless < n {
+        return refused(6, endless);
+    }
+    let bad = first_bad_value(true, n, &by, starts);
+    if bad < n {
+        return refused(7, bad);
+    }
+    checked
+}

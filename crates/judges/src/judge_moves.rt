@@ -1,0 +1,197 @@
+// The verdicts of the two calls that take a move, before anything lent is written.
+ghost use mathlib.Core.List.{[]};
+ghost use mathlib.Core.Path.{_≡_};
+ghost use Prim.Native.Nat.{_≤_};
+ghost use lib.ListN.{length};
+ghost use Rattle.paper.specs.Calls.{trialVerdict, keepVerdict};
+ghost use Rattle.tables.specs.Answers.{answerOf};
+ghost use Rattle.moves.specs.Moves.{OfMakers};
+ghost use Rattle.judges.specs.Lent.{toModel, toTry, toKeep};
+ghost use Rattle.judges.specs.Judged.{askChecks};
+use crate::fits::keep_fits;
+use crate::fits::trial_fits;
+use crate::model::model_checks;
+use moves::move_checks;
+use tables::Answer;
+use tables::first_unknown;
+use tables::refused;
+
+// Checks 9 to 13: the route, the move and the variables asked.
+fn ask_checks(
+    n: usize,
+    by: &[u16],
+    pairs: usize,
+    move_vars: &[u16],
+    move_values: &[i32],
+    asked: usize,
+    asked_vars: &[u16],
+    route: u32,
+) -> Answer
+    requires { ⌜ (n ≤ length (now by)) × (pairs ≤ 64) × (pairs ≤ length (now «move_vars»)) × (pairs ≤ length (now «move_values»)) ⌝ }
+    requires { ⌜ (asked ≤ 32) × (asked ≤ length (now «asked_vars»)) ⌝ }
+    ensures { λ r. ⌜ OfMakers n (now (by .entry)) (λ t. r ≡ answerOf 0 (askChecks (toTry pairs (now («move_vars» .entry)) (now («move_values» .entry)) asked (now («asked_vars» .entry)) route [] [] []) t)) ⌝ }
+{
+    if !((1 <= route) & (route <= 3)) {
+        return refused(9, 0);
+    }
+    let moved = move_checks(n, by, pairs, move_vars, move_values);
+    let Answer::Accepted { .. } = moved else {
+        return moved;
+    };
+    let unknown = first_unknown(n, asked, asked_vars);
+    if unknown < asked {
+        return refused(13, unknown);
+    }
+    moved
+}
+
+// The verdict of trial: checks 1 to 13 without 6, and 8 before 7.
+pub fn judge_trial(
+    n: usize,
+    m: usize,
+    e: usize,
+    kinds: &[u16],
+    makes: &[u16],
+    params: &[i32],
+    firsts: &[u16],
+    counts: &[u16],
+    vars: &[u16],
+    coefs: &[i16],
+    numbers: &[u16],
+    order: &[u16],
+    stored: &[i32],
+    pairs: usize,
+    move_vars: &[u16],
+    move_values: &[i32],
+    asked: usize,
+    asked_vars: &[u16],
+    route: u32,
+    results: &[i32],
+    trial: &[i32],
+    flags: &[u8],
+) -> Answer
+    ensures { λ r. ⌜ r ≡ answerOf 0 (trialVerdict (toModel n m e (now (kinds .entry)) (now (makes .entry)) (now (params .entry)) (now (firsts .entry)) (now (counts .entry)) (now (vars .entry)) (now (coefs .entry)) (now (numbers .entry)) (now (order .entry)) (now (stored .entry))) (toTry pairs (now («move_vars» .entry)) (now («move_values» .entry)) asked (now («asked_vars» .entry)) route (now (results .entry)) (now (trial .entry)) (now (flags .entry)))) ⌝ }
+{
+    if !trial_fits(
+        n,
+        m,
+        e,
+        kinds,
+        makes,
+        params,
+        firsts,
+        counts,
+        vars,
+        coefs,
+        numbers,
+        order,
+        stored,
+        pairs,
+        move_vars,
+        move_values,
+        asked,
+        asked_vars,
+        route,
+        results,
+        trial,
+        flags,
+    ) {
+        return refused(1, 0);
+    }
+    let mut by = [0u16; 4096];
+    let checked = model_checks(
+        n,
+        m,
+        e,
+        kinds,
+        makes,
+        params,
+        firsts,
+        counts,
+        vars,
+        coefs,
+        numbers,
+        order,
+        stored,
+        &mut by,
+    );
+    let Answer::Accepted { .. } = checked else {
+        return checked;
+    };
+    ask_checks(
+        n,
+        &by,
+        pairs,
+        move_vars,
+        move_values,
+        asked,
+        asked_vars,
+        route,
+    )
+}
+
+// The verdict of keep: those of trial without 9 and 13.
+pub fn judge_keep(
+    n: usize,
+    m: usize,
+    e: usize,
+    kinds: &[u16],
+    makes: &[u16],
+    params: &[i32],
+    firsts: &[u16],
+    counts: &[u16],
+    vars: &[u16],
+    coefs: &[i16],
+    numbers: &[u16],
+    order: &[u16],
+    stored: &[i32],
+    pairs: usize,
+    move_vars: &[u16],
+    move_values: &[i32],
+    flags: &[u8],
+) -> Answer
+    ensures { λ r. ⌜ r ≡ answerOf 0 (keepVerdict (toModel n m e (now (kinds .entry)) (now (makes .entry)) (now (params .entry)) (now (firsts .entry)) (now (counts .entry)) (now (vars .entry)) (now (coefs .entry)) (now (numbers .entry)) (now (order .entry)) (now (stored .entry))) (toKeep pairs (now («move_vars» .entry)) (now («move_values» .entry)) (now (flags .entry)))) ⌝ }
+{
+    if !keep_fits(
+        n,
+        m,
+        e,
+        kinds,
+        makes,
+        params,
+        firsts,
+        counts,
+        vars,
+        coefs,
+        numbers,
+        order,
+        stored,
+        pairs,
+        move_vars,
+        move_values,
+        flags,
+    ) {
+        return refused(1, 0);
+    }
+    let mut by = [0u16; 4096];
+    let checked = model_checks(
+        n,
+        m,
+        e,
+        kinds,
+        makes,
+        params,
+        firsts,
+        counts,
+        vars,
+        coefs,
+        numbers,
+        order,
+        stored,
+        &mut by,
+    );
+    let Answer::Accepted { .. } = checked else {
+        return checked;
+    };
+    move_checks(n, &by, pairs, move_vars, move_values)
+}

@@ -1,0 +1,50 @@
+// The checks of the model, the same for trial and keep.
+ghost use mathlib.Core.Bool.{true};
+ghost use mathlib.Core.Path.{_≡_};
+ghost use Prim.Native.Nat.{_≤_};
+ghost use lib.ListN.{length};
+ghost use Rattle.paper.specs.Calls.{modelFits};
+ghost use Rattle.judges.specs.Lent.{toModel};
+ghost use Rattle.judges.specs.Judged.{ModelJudged};
+use moves::first_bad_value;
+use order::numbered_right;
+use tables::Answer;
+use tables::makers;
+use tables::refused;
+use tables::table_checks;
+
+// Checks 2 to 5, 8 and then 7; if all are passed, `by` holds the makers.
+pub fn model_checks(
+    n: usize,
+    m: usize,
+    e: usize,
+    kinds: &[u16],
+    makes: &[u16],
+    params: &[i32],
+    firsts: &[u16],
+    counts: &[u16],
+    vars: &[u16],
+    coefs: &[i16],
+    numbers: &[u16],
+    order: &[u16],
+    stored: &[i32],
+    by: &mut [u16],
+) -> Answer
+    requires { ⌜ modelFits (toModel n m e (now kinds) (now makes) (now params) (now firsts) (now counts) (now vars) (now coefs) (now numbers) (now order) (now stored)) ≡ true ⌝ }
+    requires { ⌜ n ≤ length (now by) ⌝ }
+    ensures { λ r. ⌜ ModelJudged (toModel n m e (now (kinds .entry)) (now (makes .entry)) (now (params .entry)) (now (firsts .entry)) (now (counts .entry)) (now (vars .entry)) (now (coefs .entry)) (now (numbers .entry)) (now (order .entry)) (now (stored .entry))) (now (by .exit)) r ⌝ }
+{
+    let checked = table_checks(n, m, e, kinds, makes, params, firsts, counts, vars, coefs);
+    let Answer::Accepted { .. } = checked else {
+        return checked;
+    };
+    makers(n, m, makes, by);
+    if !numbered_right(n, m, makes, firsts, counts, vars, by, numbers, order) {
+        return refused(8, 0);
+    }
+    let bad = first_bad_value(false, n, by, stored);
+    if bad < n {
+        return refused(7, bad);
+    }
+    checked
+}

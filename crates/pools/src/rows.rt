@@ -1,0 +1,108 @@
+// Rows that stand in a pool, one row of numbers for many. A plan has two numbers for each row: where it starts, and how long it is.
+ghost use Prim.Native.Nat.{_<_};
+use crate::fields::after;
+use crate::fields::half;
+use crate::fields::least;
+use crate::fields::signed;
+use integers::signed16;
+
+// The number at a place of a plan, 0 past its end.
+fn planned(plan: &[u16], at: usize) -> usize
+    ensures { λ r. ⌜ r < 65536 ⌝ }
+{
+    if plan.len() <= at {
+        return 0;
+    }
+    integers::wide(plan[at])
+}
+
+// The row whose two numbers stand at a place of the plan, as far as the pool goes.
+pub fn row16<'a>(pool: &'a [u16], plan: &[u16], at: usize) -> &'a [u16] {
+    let start = planned(plan, at);
+    let length = planned(plan, after(at, 1));
+    if pool.len() <= start {
+        return &pool[0..0];
+    }
+    let end = start + least(length, pool.len() - start);
+    &pool[start..end]
+}
+
+// The same of signed numbers of 16 bits.
+pub fn row_signed16<'a>(pool: &'a [i16], plan: &[u16], at: usize) -> &'a [i16] {
+    let start = planned(plan, at);
+    let length = planned(plan, after(at, 1));
+    if pool.len() <= start {
+        return &pool[0..0];
+    }
+    let end = start + least(length, pool.len() - start);
+    &pool[start..end]
+}
+
+// The same of signed numbers of 32 bits.
+pub fn row_signed32<'a>(pool: &'a [i32], plan: &[u16], at: usize) -> &'a [i32] {
+    let start = planned(plan, at);
+    let length = planned(plan, after(at, 1));
+    if pool.len() <= start {
+        return &pool[0..0];
+    }
+    let end = start + least(length, pool.len() - start);
+    &pool[start..end]
+}
+
+// Puts a number at a place of a row, if the row has it.
+pub fn put16(row: &mut [u16], place: usize, x: u16) {
+    if row.len() <= place {
+        return;
+    }
+    row[place] = x;
+}
+
+// The same in a row of signed numbers of 16 bits.
+pub fn put_signed16(row: &mut [i16], place: usize, x: i16) {
+    if row.len() <= place {
+        return;
+    }
+    row[place] = x;
+}
+
+// The same in a row of signed numbers of 32 bits.
+pub fn put_signed32(row: &mut [i32], place: usize, x: i32) {
+    if row.len() <= place {
+        return;
+    }
+    row[place] = x;
+}
+
+// Fills a row with the numbers that stand in bytes, and with 0 past their end.
+pub fn fill16(row: &mut [u16], bytes: &[u8]) {
+    let mut at = 0;
+    for i in 0..row.len() {
+        put16(row, i, half(bytes, at));
+        at = after(at, 2);
+    }
+}
+
+// The same in a row of signed numbers of 16 bits.
+pub fn fill_signed16(row: &mut [i16], bytes: &[u8]) {
+    let mut at = 0;
+    for i in 0..row.len() {
+        put_signed16(row, i, signed16(half(bytes, at)));
+        at = after(at, 2);
+    }
+}
+
+// The same in a row of signed numbers of 32 bits.
+pub fn fill_signed32(row: &mut [i32], bytes: &[u8]) {
+    let mut at = 0;
+    for i in 0..row.len() {
+        put_signed32(row, i, signed(bytes, at));
+        at = after(at, 4);
+    }
+}
+
+// Copies a row into a pool, from a place on.
+pub fn copy16(pool: &mut [u16], start: usize, row: &[u16]) {
+    for i in 0..row.len() {
+        put16(pool, after(start, i), row[i]);
+    }
+}

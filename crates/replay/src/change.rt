@@ -1,0 +1,53 @@
+// A change of one field of what is lent, or of the record. Rows 1 to 10 are kinds, made variables, parameters, firsts, counts, entry variables,
+// coefficients, numbers, order and stored values; row 0 is the record's moves kept.
+use crate::model::start;
+use crate::print;
+use engine::Session;
+use integers::signed16;
+use integers::signed32;
+use pools::fields::after;
+use pools::fields::word;
+use pools::rows::put_signed16;
+use pools::rows::put_signed32;
+use pools::rows::put16;
+
+// The lower 16 bits of a field.
+fn low(field: u32) -> u16 {
+    (field % 65536) as u16
+}
+
+// The place if it is in the row that a change names, or one that no row has.
+fn here(is: bool, place: usize) -> usize {
+    if is { place } else { 65536 }
+}
+
+// The record, with other moves kept if these are changed.
+fn put_kept(session: Session, is: bool, kept: u32) -> Session {
+    if !is {
+        return session;
+    }
+    Session {
+        kept: kept,
+        evaluations: session.evaluations,
+    }
+}
+
+// Changes a field, prints which, and answers the record.
+pub fn change(
+    session: Session,
+    call: &[u8],
+    pool: &mut [u16],
+    params: &mut [i32],
+    coefs: &mut [i16],
+    stored: &mut [i32],
+) -> Session {
+    let row = word(call, 4);
+    let place = word(call, 8) as usize;
+    let field = word(call, 12);
+    print::change(row, word(call, 8), field);
+    put16(pool, after(start(row), place), low(field));
+    put_signed32(params, here(row == 3, place), signed32(field));
+    put_signed16(coefs, here(row == 7, place), signed16(low(field)));
+    put_signed32(stored, here(row == 10, place), signed32(field));
+    put_kept(session, row == 0, field)
+}

@@ -1,0 +1,44 @@
+// The rows of a session's model that are unsigned numbers stand in one pool: kinds, made variables, firsts and counts (16 each), entry variables (64),
+// numbers and order (16 each).
+use pools::rows::copy16;
+
+// Where each of these rows stands in the pool.
+pub fn plan() -> [u16; 14] {
+    [0, 16, 16, 16, 32, 16, 48, 16, 64, 64, 128, 16, 144, 16]
+}
+
+// Where the row that a change names starts in the pool, or where the pool ends.
+pub fn start(row: u32) -> usize {
+    match row {
+        1 => 0,
+        2 => 16,
+        4 => 32,
+        5 => 48,
+        6 => 64,
+        8 => 128,
+        9 => 144,
+        _ => 160,
+    }
+}
+
+// Puts the tables that were read into the pool.
+pub fn put_tables(
+    pool: &mut [u16],
+    kinds: &[u16],
+    makes: &[u16],
+    firsts: &[u16],
+    counts: &[u16],
+    vars: &[u16],
+) {
+    copy16(pool, start(1), kinds);
+    copy16(pool, start(2), makes);
+    copy16(pool, start(4), firsts);
+    copy16(pool, start(5), counts);
+    copy16(pool, start(6), vars);
+}
+
+// Puts what build filled into the pool.
+pub fn put_built(pool: &mut [u16], numbers: &[u16], order: &[u16]) {
+    copy16(pool, start(8), numbers);
+    copy16(pool, start(9), order);
+}

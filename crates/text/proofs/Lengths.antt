@@ -1,0 +1,91 @@
+-- How long the lines are: no number has more digits than it needs, so a list of 4,096 lines has at most 90,112 bytes. Assumes nothing.
+use Prim.Native.Nat.{ℕ, zero, suc, _+_, _*_, _/_, _^_, _≤_, _<_, min, zero-le}
+use native.Mathlib.Omega.{arith}
+use mathlib.Core.Bool.{Bool, true, false, cond}
+use mathlib.Core.List.{List, [], _∷_, _++_}
+use mathlib.Core.Path.{_≡_, refl, _∙_}
+use borrow.Author.Tests.{lt-ltb}
+use lib.Dec.{ltb}
+use lib.IntN.{ℤ, pos, natAbs}
+use lib.ListN.{length, getD, length-append}
+use lib.Signed.{ltZ}
+use Rattle.io.specs.Digits.{digits}
+use Rattle.integers.specs.Integers.{eqZ}
+use Rattle.paper.specs.Lists.{nat}
+use Rattle.paper.specs.Formula.{blank}
+use Rattle.paper.specs.File.{joined}
+use Rattle.text.specs.Lines.{places, decimal, sign, value, line, list, refusal}
+
+-- ── numbers ──
+digits-length : (b k n : ℕ) → length (digits b k n) ≡ k
+digits-length b zero n = refl
+digits-length b (suc k) n = let h = digits-length b k (n / b) in length-append (digits b k (n / b)) _ ∙ omega arith
+
+places-most : (most n : ℕ) → places most n ≤ most
+places-most zero n = zero-le
+places-most (suc most) n = go (ltb n 10) (places-most most (n / 10))
+  where
+    go : (b : Bool) → places most (n / 10) ≤ most → cond b 1 (suc (places most (n / 10))) ≤ suc most
+    go true h = omega arith
+    go false h = omega arith
+
+-- a number below 10 ^ (k + 1) has at most k + 1 digits
+places-few : (most k n : ℕ) → n < 10 ^ suc k → places most n ≤ suc k
+places-few zero k n h = zero-le
+places-few (suc most) zero n h = rw (lt-ltb n 10 (omega arith)) (omega arith)
+places-few (suc most) (suc k) n h = go (ltb n 10) (places-few most k (n / 10) (omega arith))
+  where
+    go : (b : Bool) → places most (n / 10) ≤ suc k → cond b 1 (suc (places most (n / 10))) ≤ suc (suc k)
+    go true l = omega arith
+    go false l = omega arith
+
+decimal-most : (n : ℕ) → length (decimal n) ≤ 20
+unfolding decimal
+decimal-most n = rw (digits-length 10 (places 20 n) n) (places-most 20 n)
+
+decimal-few : (k n : ℕ) → n < 10 ^ suc k → length (decimal n) ≤ suc k
+unfolding decimal
+decimal-few k n h = rw (digits-length 10 (places 20 n) n) (places-few 20 k n h)
+
+-- a sign, or none, and at most ten digits
+value-length : (z : ℤ) → natAbs z ≤ 2147483648 → length (value z) ≤ 11
+value-length z h = go (eqZ z blank) (ltZ z (pos 0)) (decimal-few 9 (natAbs z) (omega arith))
+  where
+    go : (b s : Bool) → length (decimal (natAbs z)) ≤ 10 → length (cond b (45 ∷ []) (cond s (45 ∷ []) [] ++ decimal (natAbs z))) ≤ 11
+    go true s l = omega arith
+    go false true l = omega arith
+    go false false l = omega arith
+
+-- ── lines ──
+line-length : (v number : ℕ) (z : ℤ) → v < 10000 → number < 10000 → natAbs z ≤ 2147483648 → length (line v number z) ≤ 22
+line-length v number z hv hn hz =
+    let a = decimal-few 3 v (omega arith) in
+    let b = decimal-few 3 number (omega arith) in
+    let c = value-length z hz in
+    simp length-append (omega arith)
+
+pub refusal-length : (number place : ℕ) → length (refusal number place) ≤ 50
+unfolding refusal
+refusal-length number place =
+    let a = decimal-most number in
+    let b = decimal-most place in
+    simp length-append (omega arith)
+
+joined-length : (f : ℕ → List ℕ) (w n : ℕ) → ((i : ℕ) → i < n → length (f i) ≤ w) → length (joined f n) ≤ w * n
+joined-length f w zero h = zero-le
+joined-length f w (suc n) h =
+    let a = joined-length f w n (λ i l. h i (omega arith)) in
+    let b = h n (omega arith) in
+    let e = length-append (joined f n) (f n) in
+    omega arith
+
+-- the list: at most 4,096 lines
+pub list-length : (n : ℕ) (numbers : List ℕ) (values : List ℤ) → n ≤ 4096 → ((v : ℕ) → v < n → nat numbers v < 10000)
+    → ((v : ℕ) → v < n → natAbs (getD values v (pos 0)) ≤ 2147483648) → length (list n numbers values) ≤ 90112
+unfolding list
+list-length n numbers values few low near =
+    let count = min n (min (length numbers) (length values)) in
+    let short : (v : ℕ) → v < count → length (line v (nat numbers v) (getD values v (pos 0))) ≤ 22 =
+    (λ v h. line-length v (nat numbers v) (getD values v (pos 0)) (omega arith) (low v (omega arith)) (near v (omega arith))) in
+    let l = joined-length (λ v. line v (nat numbers v) (getD values v (pos 0))) 22 count short in
+    omega arith

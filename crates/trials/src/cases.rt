@@ -1,0 +1,204 @@
+// A case is a call with all that it is lent. Its numbers have two bytes each, but for moves kept and route, which have four:
+//
+//  0  length of the case, length of its name, length of its values: all in bytes
+//  6  which call: 1 a trial, 2 a keep, 3 a build
+//  8  n, m, e, pairs, asked
+// 18  the plan of twelve rows: kinds, made variables, firsts, counts, entry variables, numbers, order, move variables and asked variables; then
+//     coefficients; then parameters and new values
+// 66  how many stored values, results, trial values and flags are lent
+// 74  how many results are shown, and how many of each other row
+// 78  moves kept, route
+// 86  the name, and the stored values, zeros past the end; of a build, its start values
+use crate::print;
+use engine::Session;
+use pools::calls::build_planned;
+use pools::calls::keep_planned;
+use pools::calls::try_planned;
+use pools::fields::after;
+use pools::fields::half;
+use pools::fields::least;
+use pools::fields::part;
+use pools::fields::word;
+use pools::print::text;
+use pools::rows::fill_signed32;
+use pools::rows::fill16;
+use pools::rows::row_signed16;
+use pools::rows::row_signed32;
+use pools::rows::row16;
+
+// A number of the case.
+fn count(case: &[u8], at: usize) -> usize {
+    half(case, at) as usize
+}
+
+// The name of the case.
+fn name(case: &[u8]) -> &[u8] {
+    part(case, 86, count(case, 2))
+}
+
+// The bytes of the stored values.
+fn values_of(case: &[u8]) -> &[u8] {
+    part(case, after(86, count(case, 2)), count(case, 4))
+}
+
+// The record before the call.
+fn record(case: &[u8]) -> Session {
+    Session {
+        kept: word(case, 78),
+        evaluations: 9,
+    }
+}
+
+// Tries the move of a case with the rows to fill that are lent, and prints what comes back and what is left.
+fn try_filling(
+    case: &[u8],
+    plan: &[u16],
+    pool: &[u16],
+    coefs: &[i16],
+    values: &[i32],
+    stored: &[i32],
+    results: &mut [i32],
+    trial: &mut [i32],
+    flags: &mut [u8],
+) {
+    let route = word(case, 82);
+    let done = try_planned(
+        record(case),
+        count(case, 8),
+        count(case, 10),
+        count(case, 12),
+        plan,
+        pool,
+        row_signed32(values, plan, 20),
+        row_signed16(coefs, plan, 18),
+        stored,
+        count(case, 14),
+        row16(pool, plan, 14),
+        row_signed32(values, plan, 22),
+        count(case, 16),
+        row16(pool, plan, 16),
+        route,
+        results,
+        trial,
+        flags,
+    );
+    print::tried(name(case), route, done);
+    print::values(b"; results", count(case, 74), results);
+    print::values(b"; trial", count(case, 76), trial);
+    print::flags(count(case, 76), flags);
+}
+
+// Tries the move of a case.
+fn try_case(case: &[u8], plan: &[u16], pool: &[u16], coefs: &[i16], values: &[i32]) {
+    let mut stored = [0i32; 4097];
+    let mut results = [77i32; 33];
+    let mut trial = [77i32; 4097];
+    let mut flags = [7u8; 4097];
+    fill_signed32(&mut stored, values_of(case));
+    let s = least(count(case, 66), 4097);
+    let r = least(count(case, 68), 33);
+    let t = least(count(case, 70), 4097);
+    let f = least(count(case, 72), 4097);
+    try_filling(
+        case,
+        plan,
+        pool,
+        coefs,
+        values,
+        &stored[0..s],
+        &mut results[0..r],
+        &mut trial[0..t],
+        &mut flags[0..f],
+    );
+}
+
+// Keeps the move of a case with the rows to fill that are lent, and prints what comes back and what is left.
+fn keep_filling(
+    case: &[u8],
+    plan: &[u16],
+    pool: &[u16],
+    coefs: &[i16],
+    values: &[i32],
+    stored: &mut [i32],
+    flags: &mut [u8],
+) {
+    let done = keep_planned(
+        record(case),
+        count(case, 8),
+        count(case, 10),
+        count(case, 12),
+        plan,
+        pool,
+        row_signed32(values, plan, 20),
+        row_signed16(coefs, plan, 18),
+        stored,
+        count(case, 14),
+        row16(pool, plan, 14),
+        row_signed32(values, plan, 22),
+        flags,
+    );
+    print::kept(name(case), done);
+    print::values(b"; stored", count(case, 76), stored);
+    print::flags(count(case, 76), flags);
+}
+
+// Keeps the move of a case.
+fn keep_case(case: &[u8], plan: &[u16], pool: &[u16], coefs: &[i16], values: &[i32]) {
+    let mut stored = [0i32; 4097];
+    let mut flags = [7u8; 4097];
+    fill_signed32(&mut stored, values_of(case));
+    let s = least(count(case, 66), 4097);
+    let f = least(count(case, 72), 4097);
+    keep_filling(
+        case,
+        plan,
+        pool,
+        coefs,
+        values,
+        &mut stored[0..s],
+        &mut flags[0..f],
+    );
+}
+
+// Builds the model of a case, of at most four variables, over a record of zeros, and prints what comes back and what is stored.
+fn build_case(case: &[u8], plan: &[u16], pool: &[u16], coefs: &[i16], values: &[i32]) {
+    let mut starts = [0i32; 4];
+    let mut numbers = [0u16; 4];
+    let mut order = [0u16; 4];
+    let mut stored = [77i32; 4];
+    fill_signed32(&mut starts, values_of(case));
+    let done = build_planned(
+        Session {
+            kept: 0,
+            evaluations: 0,
+        },
+        count(case, 8),
+        count(case, 10),
+        count(case, 12),
+        plan,
+        pool,
+        row_signed32(values, plan, 20),
+        row_signed16(coefs, plan, 18),
+        &starts,
+        &mut numbers,
+        &mut order,
+        &mut stored,
+    );
+    print::built(name(case), done);
+    print::values(b"; stored", count(case, 76), &stored);
+}
+
+// Makes the call of a case, and prints its line.
+pub fn make(case: &[u8], pool: &[u16], coefs: &[i16], values: &[i32]) {
+    let mut plan = [0u16; 24];
+    fill16(&mut plan, part(case, 18, 48));
+    let which = half(case, 6);
+    if which == 1 {
+        try_case(case, &plan, pool, coefs, values);
+    } else if which == 2 {
+        keep_case(case, &plan, pool, coefs, values);
+    } else {
+        build_case(case, &plan, pool, coefs, values);
+    }
+    text(b"\n");
+}

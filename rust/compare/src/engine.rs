@@ -1,0 +1,110 @@
+//! Who answers a case.
+
+use lent::{Asked, Built, Move, Session, State, Tables, TablesMut, Tried};
+
+use crate::{Answer, Call, Case};
+
+/// An implementation of the five calls.
+pub trait Engine {
+    /// Answers the case, and leaves in it what the call leaves.
+    fn answer(&self, case: &mut Case) -> Answer;
+}
+
+/// A test of any engine, with its name.
+pub type Test = (&'static str, fn(&dyn Engine));
+
+/// The five calls over what is lent to them.
+pub trait Calls {
+    /// Numbers, order and values from tables and start values.
+    fn build(session: &mut Session, tables: Tables<'_>, starts: &[i32], built: Built<'_>) -> Answer;
+
+    /// A move tried by a route.
+    fn trial(
+        session: &mut Session,
+        tables: Tables<'_>,
+        state: State<'_>,
+        moved: Move<'_>,
+        asked: Asked<'_>,
+        route: u32,
+        tried: Tried<'_>,
+    ) -> Answer;
+
+    /// A move kept.
+    fn keep(
+        session: &mut Session,
+        tables: Tables<'_>,
+        numbers: &[u16],
+        order: &[u16],
+        stored: &mut [i32],
+        moved: Move<'_>,
+        flags: &mut [u8],
+    ) -> Answer;
+
+    /// Tables from a file.
+    fn read(bytes: &[u8], tables: TablesMut<'_>) -> Answer;
+
+    /// A file from tables.
+    fn write(tables: Tables<'_>, starts: &[i32], bytes: &mut [u8]) -> Answer;
+}
+
+impl<C: Calls> Engine for C {
+    fn answer(&self, case: &mut Case) -> Answer {
+        let Case { call, session, n, m, e, starts, kinds, makes, params, firsts, counts, vars, coefs, .. } = case;
+        let tables = Tables { n: *n, m: *m, e: *e, kinds, makes, params, firsts, counts, vars, coefs };
+        let moved = Move { pairs: case.pairs, vars: &case.move_vars, values: &case.move_values };
+        let (numbers, order, stored) = (&mut case.numbers, &mut case.order, &mut case.stored);
+        match call {
+            Call::Build => C::build(session, tables, starts, Built { numbers, order, stored }),
+            Call::Trial => {
+                let asked = Asked { asked: case.asked, vars: &case.asked_vars };
+                let tried = Tried { results: &mut case.results, trial: &mut case.trial, flags: &mut case.flags };
+                C::trial(session, tables, State { numbers, order, stored }, moved, asked, case.route, tried)
+            }
+            Call::Keep => C::keep(session, tables, numbers, order, stored, moved, &mut case.flags),
+            Call::Read => C::read(&case.bytes, TablesMut { starts, kinds, makes, params, firsts, counts, vars, coefs }),
+            Call::Write => C::write(tables, starts, &mut case.bytes),
+        }
+    }
+}
+
+/// The second implementation.
+#[derive(Clone, Copy, Debug)]
+pub struct Second;
+
+impl Calls for Second {
+    fn build(session: &mut Session, tables: Tables<'_>, starts: &[i32], built: Built<'_>) -> Answer {
+        Answer::of_call(second::build(session, tables, starts, built))
+    }
+
+    fn trial(
+        session: &mut Session,
+        tables: Tables<'_>,
+        state: State<'_>,
+        moved: Move<'_>,
+        asked: Asked<'_>,
+        route: u32,
+        tried: Tried<'_>,
+    ) -> Answer {
+        Answer::of_call(second::trial(session, tables, state, moved, asked, route, tried))
+    }
+
+    fn keep(
+        session: &mut Session,
+        tables: Tables<'_>,
+        numbers: &[u16],
+        order: &[u16],
+        stored: &mut [i32],
+        moved: Move<'_>,
+        flags: &mut [u8],
+    ) -> Answer {
+        Answer::of_call(second::keep(session, tables, numbers, order, stored, moved, flags))
+    }
+
+    fn read(bytes: &[u8], tables: TablesMut<'_>) -> Answer {
+        Answer::of_read(second::read(bytes, tables))
+    }
+
+    fn write(tables: Tables<'_>, starts: &[i32], bytes: &mut [u8]) -> Answer {
+        Answer::of_call(second::write(tables, starts, bytes).map(|()| 0))
+    }
+}

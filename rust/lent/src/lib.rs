@@ -1,0 +1,114 @@
+//! What a caller lends to a call: plain borrowed data, and nothing that works on it.
+//!
+//! A slice may be longer than its count asks; what lies beyond is neither looked at nor changed.
+#![forbid(unsafe_code)]
+#![warn(missing_docs)]
+
+/// The session record: the counters that build, trial and keep set.
+#[repr(C)]
+#[derive(Clone, Copy, Debug, Default, PartialEq, Eq)]
+pub struct Session {
+    /// Moves kept since the last accepted build; stops at 4,294,967,295.
+    pub kept: u32,
+    /// Evaluations of the last accepted call.
+    pub evaluations: u32,
+}
+
+/// The tables of a model, one slice for each field.
+#[derive(Clone, Copy, Debug)]
+pub struct Tables<'a> {
+    /// Variables.
+    pub n: usize,
+    /// Rows.
+    pub m: usize,
+    /// Entries.
+    pub e: usize,
+    /// Each row's kind, 1 to 9.
+    pub kinds: &'a [u16],
+    /// The variable that each row makes.
+    pub makes: &'a [u16],
+    /// Each row's parameter.
+    pub params: &'a [i32],
+    /// Each row's first entry.
+    pub firsts: &'a [u16],
+    /// Each row's number of entries.
+    pub counts: &'a [u16],
+    /// Each entry's variable.
+    pub vars: &'a [u16],
+    /// Each entry's coefficient.
+    pub coefs: &'a [i16],
+}
+
+/// Tables for `read` to fill.
+#[derive(Debug)]
+pub struct TablesMut<'a> {
+    /// Each variable's start value.
+    pub starts: &'a mut [i32],
+    /// Each row's kind.
+    pub kinds: &'a mut [u16],
+    /// The variable that each row makes.
+    pub makes: &'a mut [u16],
+    /// Each row's parameter.
+    pub params: &'a mut [i32],
+    /// Each row's first entry.
+    pub firsts: &'a mut [u16],
+    /// Each row's number of entries.
+    pub counts: &'a mut [u16],
+    /// Each entry's variable.
+    pub vars: &'a mut [u16],
+    /// Each entry's coefficient.
+    pub coefs: &'a mut [i16],
+}
+
+/// Buffers for `build` to fill: n numbers, m places of the order, n values.
+#[derive(Debug)]
+pub struct Built<'a> {
+    /// Each variable's topological number.
+    pub numbers: &'a mut [u16],
+    /// The rows by the number of the variable made, ties by row.
+    pub order: &'a mut [u16],
+    /// Each variable's value.
+    pub stored: &'a mut [i32],
+}
+
+/// What build left, lent to a trial.
+#[derive(Clone, Copy, Debug)]
+pub struct State<'a> {
+    /// Each variable's topological number.
+    pub numbers: &'a [u16],
+    /// The rows by the number of the variable made, ties by row.
+    pub order: &'a [u16],
+    /// Each variable's value.
+    pub stored: &'a [i32],
+}
+
+/// A move: at most 64 pairs of a search variable and its new value.
+#[derive(Clone, Copy, Debug)]
+pub struct Move<'a> {
+    /// The number of pairs.
+    pub pairs: usize,
+    /// Each pair's variable.
+    pub vars: &'a [u16],
+    /// Each pair's new value.
+    pub values: &'a [i32],
+}
+
+/// At most 32 variables that a trial asks.
+#[derive(Clone, Copy, Debug)]
+pub struct Asked<'a> {
+    /// The number of places.
+    pub asked: usize,
+    /// The variable at each place.
+    pub vars: &'a [u16],
+}
+
+/// Buffers for `trial` to fill: a result for each place asked, n values, n flags.
+#[derive(Debug)]
+pub struct Tried<'a> {
+    /// The asked values in asking order.
+    pub results: &'a mut [i32],
+    /// The new value of each variable moved or evaluated, and the stored one elsewhere.
+    pub trial: &'a mut [i32],
+    /// 1 for each variable that was evaluated, 0 elsewhere.
+    pub flags: &'a mut [u8],
+}
