@@ -1,4 +1,4 @@
-"""The model file, what `values` prints for it, and what trial and keep leave, from the specification alone: a second implementation, which
+"""The model file, what `values` prints for it, and what build, trial and keep leave, from the specification alone: a second implementation, which
 shares nothing with the engine. It is slow and plain on purpose: numbers in rounds, formulas over whole numbers of any size, a place found by
 looking at every index."""
 import struct
@@ -170,7 +170,27 @@ def built(starts, lines, entries):
     return known, values
 
 
-# ── trial and keep, over the model that they are lent ──
+# ── build, trial and keep, over what they are lent ──
+def build_left(counts, columns, starts, record, numbered, order, stored):
+    """What a build leaves: answer (number, place, evaluations), record (moves kept, evaluations), numbers, order, stored values. The columns of the
+    tables are lent one by one, each of its own length: kinds, made variables, parameters, firsts, counts; entry variables, coefficients."""
+    n, m, e = counts
+    rooms = [(columns[:5], m), (columns[5:], e), ((starts, numbered, stored), n), ((order,), m)]
+    if not (1 <= n <= 4096 and m <= n and e <= 16384) or any(len(row) < least for rows, least in rooms for row in rows):
+        return (1, 0, 0), record, numbered, order, stored
+    model = starts[:n], list(zip(*columns[:5]))[:m], list(zip(*columns[5:]))[:e]
+    bad = refusal(*model)
+    if bad:
+        return bad + (0,), record, numbered, order, stored
+    known, values = built(*model)
+    return (0, 0, m), (0, m), filled(known, numbered), filled(in_order(known, model[1]), order), filled(values, stored)
+
+
+def in_order(known, lines):
+    """The rows by the numbers of the variables that they make, those of equal number as they stand."""
+    return sorted(range(len(lines)), key=lambda r: (known[lines[r][1]], r))
+
+
 class Lent:
     """What trial and keep are lent of a model: counts, tables, numbers, order and stored values, each of the length lent."""
 
@@ -191,8 +211,7 @@ def rightly_numbered(lent):
     known = numbers(lent.n, lent.lines, lent.entries)
     if None in known:
         return False
-    order = sorted(range(lent.m), key=lambda r: (known[lent.lines[r][1]], r))
-    return lent.numbers[:lent.n] == known and lent.order[:lent.m] == order
+    return lent.numbers[:lent.n] == known and lent.order[:lent.m] == in_order(known, lent.lines)
 
 
 def lent_refusal(lent, pairs, move_vars, move_values, asked=0, asked_vars=(), route=1, rooms=()):

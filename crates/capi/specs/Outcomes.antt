@@ -9,9 +9,9 @@ use Rattle.paper.specs.File.{counted}
 use Rattle.files.specs.declared.Reading.{Reading}
 use Rattle.files.specs.declared.Reading.the-variants as reading
 use Rattle.engine.specs.Left.{recordIn}
+use Rattle.engine.specs.declared.Session as code-session
 use Rattle.capi.specs.declared.Outcome.{Outcome}
 use Rattle.capi.specs.declared.ReadOutcome.{ReadOutcome}
-use Rattle.capi.specs.declared.Ended.{Ended}
 
 -- an answer as C takes it: the paper's number, place and evaluations
 abbrev pub inNumbers : Answer → Outcome
@@ -19,22 +19,22 @@ inNumbers a = record { number = numberOf a; place = placeOf a; evaluations = eva
 
 -- ── what the caller has, and what the paper's call leaves: the answer in numbers, then the record and the rows ──
 -- build
-abbrev pub leftByBuild : Ended → List ℕ → List ℕ → List ℤ → Outcome × (Session × List ℕ × List ℕ × List ℤ)
-leftByBuild r numbers order stored = (r .answer, (recordIn (r .session), numbers, order, stored))
+abbrev pub leftByBuild : Outcome → code-session.Session → List ℕ → List ℕ → List ℤ → Outcome × (Session × List ℕ × List ℕ × List ℤ)
+leftByBuild r session numbers order stored = (r, (recordIn session, numbers, order, stored))
 
 abbrev pub builtOut : BuildLeft → Outcome × (Session × List ℕ × List ℕ × List ℤ)
 builtOut left = (inNumbers (left .answer), (left .session, left .numbers, left .order, left .stored))
 
 -- trial
-abbrev pub leftByTrial : Ended → List ℤ → List ℤ → List ℕ → Outcome × (Session × List ℤ × List ℤ × List ℕ)
-leftByTrial r results trial flags = (r .answer, (recordIn (r .session), results, trial, flags))
+abbrev pub leftByTrial : Outcome → code-session.Session → List ℤ → List ℤ → List ℕ → Outcome × (Session × List ℤ × List ℤ × List ℕ)
+leftByTrial r session results trial flags = (r, (recordIn session, results, trial, flags))
 
 abbrev pub triedOut : TrialLeft → Outcome × (Session × List ℤ × List ℤ × List ℕ)
 triedOut left = (inNumbers (left .answer), (left .session, left .results, left .trial, left .flags))
 
 -- keep
-abbrev pub leftByKeep : Ended → List ℤ → List ℕ → Outcome × (Session × List ℤ × List ℕ)
-leftByKeep r stored flags = (r .answer, (recordIn (r .session), stored, flags))
+abbrev pub leftByKeep : Outcome → code-session.Session → List ℤ → List ℕ → Outcome × (Session × List ℤ × List ℕ)
+leftByKeep r session stored flags = (r, (recordIn session, stored, flags))
 
 abbrev pub keptOut : KeepLeft → Outcome × (Session × List ℤ × List ℕ)
 keptOut left = (inNumbers (left .answer), (left .session, left .stored, left .flags))

@@ -3,56 +3,9 @@ ghost use mathlib.Core.Path.{_≡_};
 ghost use Rattle.paper.specs.Calls.{build as built};
 ghost use Rattle.judges.specs.Lent.{toBuild};
 ghost use Rattle.capi.specs.Outcomes.{leftByBuild, builtOut};
-use crate::Ended;
 use crate::Outcome;
 use crate::answers::in_numbers;
 use engine::Session;
-use engine::build_core;
-
-// Build, with the record by value and the answer as three numbers.
-pub fn build_ended(
-    session: Session,
-    n: usize,
-    m: usize,
-    e: usize,
-    kinds: &[u16],
-    makes: &[u16],
-    params: &[i32],
-    firsts: &[u16],
-    counts: &[u16],
-    vars: &[u16],
-    coefs: &[i16],
-    starts: &[i32],
-    numbers: &mut [u16],
-    order: &mut [u16],
-    stored: &mut [i32],
-) -> Ended
-    ensures { λ r. ⌜ leftByBuild r (now (numbers .exit)) (now (order .exit)) (now (stored .exit)) ≡ builtOut (built (toBuild (session .kept) (session .evaluations) n m e (now (kinds .entry)) (now (makes .entry)) (now (params .entry)) (now (firsts .entry)) (now (counts .entry)) (now (vars .entry)) (now (coefs .entry)) (now (starts .entry)) (now (numbers .entry)) (now (order .entry)) (now (stored .entry)))) ⌝ }
-{
-    let done = build_core(
-        session,
-        n,
-        m,
-        e,
-        kinds,
-        makes,
-        params,
-        firsts,
-        counts,
-        vars,
-        coefs,
-        starts,
-        numbers,
-        order,
-        stored,
-    );
-    let answer = done.answer;
-    let after = done.session;
-    Ended {
-        answer: in_numbers(answer),
-        session: after,
-    }
-}
 
 // `engine::build` for C.
 #[no_mangle]
@@ -73,10 +26,10 @@ pub extern "C" fn lukhandro_build(
     order: &mut [u16],
     stored: &mut [i32],
 ) -> Outcome
-    ensures { λ r. ⌜ leftByBuild (record { answer = r; session = now (session .exit) }) (now (numbers .exit)) (now (order .exit)) (now (stored .exit)) ≡ builtOut (built (toBuild (now (session .entry) .kept) (now (session .entry) .evaluations) n m e (now (kinds .entry)) (now (makes .entry)) (now (params .entry)) (now (firsts .entry)) (now (counts .entry)) (now (vars .entry)) (now (coefs .entry)) (now (starts .entry)) (now (numbers .entry)) (now (order .entry)) (now (stored .entry)))) ⌝ }
+    ensures { λ r. ⌜ leftByBuild r (now (session .exit)) (now (numbers .exit)) (now (order .exit)) (now (stored .exit)) ≡ builtOut (built (toBuild (now (session .entry) .kept) (now (session .entry) .evaluations) n m e (now (kinds .entry)) (now (makes .entry)) (now (params .entry)) (now (firsts .entry)) (now (counts .entry)) (now (vars .entry)) (now (coefs .entry)) (now (starts .entry)) (now (numbers .entry)) (now (order .entry)) (now (stored .entry)))) ⌝ }
 {
-    let done = build_ended(
-        *session,
+    let answer = engine::build(
+        session,
         n,
         m,
         e,
@@ -92,6 +45,5 @@ pub extern "C" fn lukhandro_build(
         order,
         stored,
     );
-    *session = done.session;
-    done.answer
+    in_numbers(answer)
 }

@@ -4,62 +4,9 @@ ghost use Rattle.paper.specs.Calls.{keep as kept};
 ghost use Rattle.judges.specs.Lent.{toModel, toKeep};
 ghost use Rattle.engine.specs.Left.{recordIn};
 ghost use Rattle.capi.specs.Outcomes.{leftByKeep, keptOut};
-use crate::Ended;
 use crate::Outcome;
 use crate::answers::in_numbers;
 use engine::Session;
-use engine::keep_core;
-
-// Keep, with the record by value and the answer as three numbers.
-pub fn keep_ended(
-    session: Session,
-    n: usize,
-    m: usize,
-    e: usize,
-    kinds: &[u16],
-    makes: &[u16],
-    params: &[i32],
-    firsts: &[u16],
-    counts: &[u16],
-    vars: &[u16],
-    coefs: &[i16],
-    numbers: &[u16],
-    order: &[u16],
-    stored: &mut [i32],
-    pairs: usize,
-    move_vars: &[u16],
-    move_values: &[i32],
-    flags: &mut [u8],
-) -> Ended
-    ensures { λ r. ⌜ leftByKeep r (now (stored .exit)) (now (flags .exit)) ≡ keptOut (kept (recordIn session) (toModel n m e (now (kinds .entry)) (now (makes .entry)) (now (params .entry)) (now (firsts .entry)) (now (counts .entry)) (now (vars .entry)) (now (coefs .entry)) (now (numbers .entry)) (now (order .entry)) (now (stored .entry))) (toKeep pairs (now («move_vars» .entry)) (now («move_values» .entry)) (now (flags .entry)))) ⌝ }
-{
-    let done = keep_core(
-        session,
-        n,
-        m,
-        e,
-        kinds,
-        makes,
-        params,
-        firsts,
-        counts,
-        vars,
-        coefs,
-        numbers,
-        order,
-        stored,
-        pairs,
-        move_vars,
-        move_values,
-        flags,
-    );
-    let answer = done.answer;
-    let after = done.session;
-    Ended {
-        answer: in_numbers(answer),
-        session: after,
-    }
-}
 
 // `engine::keep` for C.
 #[no_mangle]
@@ -83,10 +30,10 @@ pub extern "C" fn lukhandro_keep(
     move_values: &[i32],
     flags: &mut [u8],
 ) -> Outcome
-    ensures { λ r. ⌜ leftByKeep (record { answer = r; session = now (session .exit) }) (now (stored .exit)) (now (flags .exit)) ≡ keptOut (kept (recordIn (now (session .entry))) (toModel n m e (now (kinds .entry)) (now (makes .entry)) (now (params .entry)) (now (firsts .entry)) (now (counts .entry)) (now (vars .entry)) (now (coefs .entry)) (now (numbers .entry)) (now (order .entry)) (now (stored .entry))) (toKeep pairs (now («move_vars» .entry)) (now («move_values» .entry)) (now (flags .entry)))) ⌝ }
+    ensures { λ r. ⌜ leftByKeep r (now (session .exit)) (now (stored .exit)) (now (flags .exit)) ≡ keptOut (kept (recordIn (now (session .entry))) (toModel n m e (now (kinds .entry)) (now (makes .entry)) (now (params .entry)) (now (firsts .entry)) (now (counts .entry)) (now (vars .entry)) (now (coefs .entry)) (now (numbers .entry)) (now (order .entry)) (now (stored .entry))) (toKeep pairs (now («move_vars» .entry)) (now («move_values» .entry)) (now (flags .entry)))) ⌝ }
 {
-    let done = keep_ended(
-        *session,
+    let answer = engine::keep(
+        session,
         n,
         m,
         e,
@@ -105,6 +52,5 @@ pub extern "C" fn lukhandro_keep(
         move_values,
         flags,
     );
-    *session = done.session;
-    done.answer
+    in_numbers(answer)
 }

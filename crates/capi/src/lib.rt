@@ -1,6 +1,4 @@
 // The calls for C and Rust. Each states what the call beneath it states.
-use engine::Session;
-
 mod answers;
 mod build;
 mod file;
@@ -29,10 +27,4 @@ pub struct ReadOutcome {
     pub n: u32,
     pub m: u32,
     pub e: u32,
-}
-
-// What a call comes to: its answer, and the session record after it.
-pub struct Ended {
-    pub answer: Outcome,
-    pub session: Session,
 }

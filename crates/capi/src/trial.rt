@@ -4,72 +4,9 @@ ghost use Rattle.paper.specs.Calls.{trial as tried};
 ghost use Rattle.judges.specs.Lent.{toModel, toTry};
 ghost use Rattle.engine.specs.Left.{recordIn};
 ghost use Rattle.capi.specs.Outcomes.{leftByTrial, triedOut};
-use crate::Ended;
 use crate::Outcome;
 use crate::answers::in_numbers;
 use engine::Session;
-use engine::trial_core;
-
-// Trial, with the record by value and the answer as three numbers.
-pub fn trial_ended(
-    session: Session,
-    n: usize,
-    m: usize,
-    e: usize,
-    kinds: &[u16],
-    makes: &[u16],
-    params: &[i32],
-    firsts: &[u16],
-    counts: &[u16],
-    vars: &[u16],
-    coefs: &[i16],
-    numbers: &[u16],
-    order: &[u16],
-    stored: &[i32],
-    pairs: usize,
-    move_vars: &[u16],
-    move_values: &[i32],
-    asked: usize,
-    asked_vars: &[u16],
-    route: u32,
-    results: &mut [i32],
-    trial: &mut [i32],
-    flags: &mut [u8],
-) -> Ended
-    ensures { λ r. ⌜ leftByTrial r (now (results .exit)) (now (trial .exit)) (now (flags .exit)) ≡ triedOut (tried (recordIn session) (toModel n m e (now (kinds .entry)) (now (makes .entry)) (now (params .entry)) (now (firsts .entry)) (now (counts .entry)) (now (vars .entry)) (now (coefs .entry)) (now (numbers .entry)) (now (order .entry)) (now (stored .entry))) (toTry pairs (now («move_vars» .entry)) (now («move_values» .entry)) asked (now («asked_vars» .entry)) route (now (results .entry)) (now (trial .entry)) (now (flags .entry)))) ⌝ }
-{
-    let done = trial_core(
-        session,
-        n,
-        m,
-        e,
-        kinds,
-        makes,
-        params,
-        firsts,
-        counts,
-        vars,
-        coefs,
-        numbers,
-        order,
-        stored,
-        pairs,
-        move_vars,
-        move_values,
-        asked,
-        asked_vars,
-        route,
-        results,
-        trial,
-        flags,
-    );
-    let answer = done.answer;
-    let after = done.session;
-    Ended {
-        answer: in_numbers(answer),
-        session: after,
-    }
-}
 
 // `engine::trial` for C.
 #[no_mangle]
@@ -98,10 +35,10 @@ pub extern "C" fn lukhandro_trial(
     trial: &mut [i32],
     flags: &mut [u8],
 ) -> Outcome
-    ensures { λ r. ⌜ leftByTrial (record { answer = r; session = now (session .exit) }) (now (results .exit)) (now (trial .exit)) (now (flags .exit)) ≡ triedOut (tried (recordIn (now (session .entry))) (toModel n m e (now (kinds .entry)) (now (makes .entry)) (now (params .entry)) (now (firsts .entry)) (now (counts .entry)) (now (vars .entry)) (now (coefs .entry)) (now (numbers .entry)) (now (order .entry)) (now (stored .entry))) (toTry pairs (now («move_vars» .entry)) (now («move_values» .entry)) asked (now («asked_vars» .entry)) route (now (results .entry)) (now (trial .entry)) (now (flags .entry)))) ⌝ }
+    ensures { λ r. ⌜ leftByTrial r (now (session .exit)) (now (results .exit)) (now (trial .exit)) (now (flags .exit)) ≡ triedOut (tried (recordIn (now (session .entry))) (toModel n m e (now (kinds .entry)) (now (makes .entry)) (now (params .entry)) (now (firsts .entry)) (now (counts .entry)) (now (vars .entry)) (now (coefs .entry)) (now (numbers .entry)) (now (order .entry)) (now (stored .entry))) (toTry pairs (now («move_vars» .entry)) (now («move_values» .entry)) asked (now («asked_vars» .entry)) route (now (results .entry)) (now (trial .entry)) (now (flags .entry)))) ⌝ }
 {
-    let done = trial_ended(
-        *session,
+    let answer = engine::trial(
+        session,
         n,
         m,
         e,
@@ -125,6 +62,5 @@ pub extern "C" fn lukhandro_trial(
         trial,
         flags,
     );
-    *session = done.session;
-    done.answer
+    in_numbers(answer)
 }

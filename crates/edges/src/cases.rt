@@ -5,7 +5,7 @@
 //  8  n, m, e, pairs, asked
 // 18  the plan of twelve rows: kinds, made variables, firsts, counts, entry variables, numbers, order, move variables and asked variables; then
 //     coefficients; then parameters and new values
-// 66  how many stored values, results, trial values and flags are lent
+// 66  how many stored values, results, trial values and flags are lent; of a build, start values, numbers, rows of the order and stored values
 // 74  how many results are shown, and how many of each other row
 // 78  moves kept, route
 // 86  the name, and the stored values, zeros past the end; of a build, its start values
@@ -160,18 +160,20 @@ fn keep_case(case: &[u8], plan: &[u16], pool: &[u16], coefs: &[i16], values: &[i
     );
 }
 
-// Builds the model of a case, of at most four variables, over a record of zeros, and prints what comes back and what is stored.
-fn build_case(case: &[u8], plan: &[u16], pool: &[u16], coefs: &[i16], values: &[i32]) {
-    let mut starts = [0i32; 4];
-    let mut numbers = [0u16; 4];
-    let mut order = [0u16; 4];
-    let mut stored = [77i32; 4];
-    fill_signed32(&mut starts, values_of(case));
+// Builds the model of a case with the rows to fill that are lent, and prints what comes back and what is left.
+fn build_filling(
+    case: &[u8],
+    plan: &[u16],
+    pool: &[u16],
+    coefs: &[i16],
+    values: &[i32],
+    starts: &[i32],
+    numbers: &mut [u16],
+    order: &mut [u16],
+    stored: &mut [i32],
+) {
     let done = build_planned(
-        Session {
-            kept: 0,
-            evaluations: 0,
-        },
+        record(case),
         count(case, 8),
         count(case, 10),
         count(case, 12),
@@ -179,13 +181,39 @@ fn build_case(case: &[u8], plan: &[u16], pool: &[u16], coefs: &[i16], values: &[
         pool,
         row_signed32(values, plan, 20),
         row_signed16(coefs, plan, 18),
-        &starts,
-        &mut numbers,
-        &mut order,
-        &mut stored,
+        starts,
+        numbers,
+        order,
+        stored,
     );
     print::built(name(case), done);
-    print::values(b"; stored", count(case, 76), &stored);
+    pools::print::numbers(b"; numbers", count(case, 76), numbers);
+    pools::print::numbers(b"; order", count(case, 76), order);
+    print::values(b"; stored", count(case, 76), stored);
+}
+
+// Builds the model of a case.
+fn build_case(case: &[u8], plan: &[u16], pool: &[u16], coefs: &[i16], values: &[i32]) {
+    let mut starts = [0i32; 4097];
+    let mut numbers = [77u16; 4097];
+    let mut order = [77u16; 4097];
+    let mut stored = [77i32; 4097];
+    fill_signed32(&mut starts, values_of(case));
+    let s = least(count(case, 66), 4097);
+    let n = least(count(case, 68), 4097);
+    let o = least(count(case, 70), 4097);
+    let t = least(count(case, 72), 4097);
+    build_filling(
+        case,
+        plan,
+        pool,
+        coefs,
+        values,
+        &starts[0..s],
+        &mut numbers[0..n],
+        &mut order[0..o],
+        &mut stored[0..t],
+    );
 }
 
 // Makes the call of a case, and prints its line.

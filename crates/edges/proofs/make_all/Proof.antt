@@ -1,8 +1,8 @@
 -- The cases are finitely many, and each turn leaves one less. Assumes nothing.
 use Prim.Native.Nat.{_-_, _<_, _^_}
 use borrow.Author.Needs.{needs}
-use Rattle.trials.proofs.make_all.Statement.{statement}
-use Rattle.trials.proofs.make_all.Tie as tie
+use Rattle.edges.proofs.make_all.Statement.{statement}
+use Rattle.edges.proofs.make_all.Tie as tie
 
 abbrev Inv-loop : tie.InvT-loop
 Inv-loop count bytes pool coefs values at₀ counter₀ end at counter = end < 2 ^ 64

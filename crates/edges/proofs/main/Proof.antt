@@ -1,8 +1,8 @@
 -- The arguments are finitely many, and each turn leaves one less. Assumes nothing.
 use Prim.Native.Nat.{_<_, _-_, _^_}
 use borrow.Author.Needs.{needs}
-use Rattle.trials.proofs.main.Statement.{statement}
-use Rattle.trials.proofs.main.Tie as tie
+use Rattle.edges.proofs.main.Statement.{statement}
+use Rattle.edges.proofs.main.Tie as tie
 
 abbrev Inv-loop : tie.InvT-loop
 Inv-loop i₀ i-end i = i-end < 2 ^ 64
