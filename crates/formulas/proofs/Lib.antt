@@ -1,4 +1,5 @@
 pub mod Reading
 pub mod Steps
+pub mod Pairs
 pub mod Times
 pub mod Rows

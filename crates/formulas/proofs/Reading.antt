@@ -2,11 +2,12 @@
 use Prim.Native.Nat.{ℕ, zero, suc, _+_, _^_, _≤_, _<_}
 use native.Mathlib.Omega.{arith}
 use mathlib.Core.List.{List, [], _∷_}
-use mathlib.Core.Path.{_≡_, refl, _∙_}
+use mathlib.Core.Path.{_≡_, refl, ap, sym, _∙_}
 use borrow.Author.Needs.{sfits-of}
 use lib.Dec.{T, leb}
 use lib.IntN.{ℤ, pos}
-use lib.ListN.{length, getD, drop, length-map, drop-of-length-le}
+use lib.ListN.{length, getD, take, drop, length-map, drop-of-length-le}
+use lib.Seq.{take-all}
 use lib.Signed.{mag}
 use mir.Syntax.{Width, w64}
 use mir.Val.{SFits, hbits, toZ, ofZ}
@@ -14,6 +15,7 @@ use mir.Facts.{toZ-ofZ}
 use Rattle.integers.proofs.Ranges.{as64}
 use Rattle.paper.specs.Lists.{nat}
 use Rattle.paper.specs.Formula.{blank, inputAt}
+use Rattle.paper.proofs.Buffers.{Filled, below-list}
 use Rattle.paper.proofs.Scan.{next}
 use Rattle.formulas.specs.Row.{inputs}
 
@@ -39,6 +41,12 @@ module _ (vars : List ℕ) (values : List ℤ) where
 
   pub no-input : (i : ℕ) → length vars ≤ i → drop i (inputs vars values) ≡ []
   no-input i h = let k : length (inputs vars values) ≤ i = rw inputs-length h in drop-of-length-le (inputs vars values) k
+
+  -- a row that they have been copied to
+  pub copied : {before row : List ℤ} {i : ℕ} → Filled (λ k. inputAt (inputs vars values) k) before row i → i ≡ length vars → take (length vars) row ≡ inputs vars values
+  copied {before} {row} {i} s e =
+      let xs = inputs vars values in let long = inputs-length in
+      ap (λ (k : ℕ). take k row) (sym e) ∙ s .front ∙ below-list xs blank i (omega arith) ∙ take-all i xs (omega arith)
 
 pub inputs-at : (vars : List ℕ) (values : List ℤ) (i : ℕ) → i < length vars → inputAt (inputs vars values) i ≡ getD values (nat vars i) (pos 0)
 inputs-at [] values i h = absurd (omega arith)

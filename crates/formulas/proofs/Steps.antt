@@ -3,11 +3,11 @@ use Prim.Native.Nat.{ℕ, _+_, _*_, _≤_, _<_}
 use native.Mathlib.Omega.{arith}
 use mathlib.Core.Bool.{Bool, true, false, cond, _||_}
 use mathlib.Core.List.{List, [], _∷_}
-use mathlib.Core.Path.{_≡_, refl, sym, _∙_}
+use mathlib.Core.Path.{_≡_, refl, ap, sym, _∙_}
 use borrow.Author.Tests.{lt-ltb}
 use lib.Dec.{ltb}
 use lib.IntN.{ℤ, pos, _+ℤ_, _*ℤ_, +ℤ-assoc, +ℤ-idr}
-use lib.ListN.{length, getD, drop}
+use lib.ListN.{length, getD, drop, drop-of-length-le}
 use mir.Syntax.{w16, w32}
 use mir.Val.{SFits}
 use Rattle.integers.specs.Integers.{away, eqZ}
@@ -26,24 +26,23 @@ pub tally-most : (p : ℤ → Bool) (vars : List ℕ) (values : List ℤ) → ta
 tally-most p vars values = rw (inputs-length vars values) at (tally-le p (inputs vars values))
 
 -- n of the places before i do
-pub record Passed (p : ℤ → Bool) (vars : List ℕ) (values : List ℤ) (i n : ℕ) : Type 0 where
-  pub so-far : n + tally p (drop i (inputs vars values)) ≡ tally p (inputs vars values)
+pub record Passed (p : ℤ → Bool) (xs : List ℤ) (i n : ℕ) : Type 0 where
+  pub so-far : n + tally p (drop i xs) ≡ tally p xs
 
-module _ {p : ℤ → Bool} {vars : List ℕ} {values : List ℤ} where
-  pub passed-none : Passed p vars values 0 0
+module _ {p : ℤ → Bool} {xs : List ℤ} where
+  pub passed-none : Passed p xs 0 0
   passed-none = record { so-far = omega arith }
 
-  pub passed-next : {i n k : ℕ} → Passed p vars values i n → i < length vars → k ≡ cond (p (inputAt (inputs vars values) i)) 1 0 → Passed p vars values (i + 1) (n + k)
-  passed-next {i} {n} {k} s h e =
-      let xs = inputs vars values in
-      let step : tally p (drop i xs) ≡ cond (p (inputAt xs i)) 1 0 + tally p (drop (i + 1) xs) = rw (next-input vars values i h) in
+  pub passed-next : (d : ℤ) {i n k : ℕ} → Passed p xs i n → i < length xs → k ≡ cond (p (getD xs i d)) 1 0 → Passed p xs (i + 1) (n + k)
+  passed-next d {i} {n} {k} s h e =
+      let step : tally p (drop i xs) ≡ cond (p (getD xs i d)) 1 0 + tally p (drop (i + 1) xs) = ap (tally p) (next xs i d h) in
       record { so-far = omega (arith, s .so-far) }
 
-  pub passed-all : {i n : ℕ} → Passed p vars values i n → length vars ≤ i → n ≡ tally p (inputs vars values)
-  passed-all {i} s h = let none : tally p (drop i (inputs vars values)) ≡ 0 = rw (no-input vars values i h) in omega (arith, s .so-far)
+  pub passed-all : {i n : ℕ} → Passed p xs i n → length xs ≤ i → n ≡ tally p xs
+  passed-all {i} s h = let none : tally p (drop i xs) ≡ 0 = ap (tally p) (drop-of-length-le xs h) in omega (arith, s .so-far)
 
-  pub passed-most : {i n : ℕ} → Passed p vars values i n → n ≤ length vars
-  passed-most s = omega (arith, s .so-far, tally-most p vars values)
+  pub passed-most : {i n : ℕ} → Passed p xs i n → n ≤ length xs
+  passed-most s = omega (arith, s .so-far, tally-le p xs)
 
 -- some place passes exactly if their number is above 0
 pub any-tally : (p : ℤ → Bool) (xs : List ℤ) → any p xs ≡ ltb 0 (tally p xs)

@@ -6,6 +6,7 @@ use mathlib.Core.Path.{_≡_}
 use lib.Dec.{ltb}
 use lib.IntN.{ℤ, pos}
 use lib.ListN.{length, getD, take, drop}
+use Rattle.integers.specs.Integers.{eqZ}
 use Rattle.paper.specs.Lists.{all, between, nat}
 use Rattle.paper.specs.Formula.{blank, someBlank, inputAt, formula}
 use Rattle.paper.specs.Checks.{arity}
@@ -47,6 +48,17 @@ pub record PartFits (kind first count : ℕ) (coefs : List ℤ) (vars : List ℕ
   pub known : between 1 kind 9 ≡ true
   pub suits : arity kind count ≡ true
   pub below : all (λ v. ltb v (length values)) (partOf first count vars) ≡ true
+
+-- ── marks ──
+-- the mark of a place: all 32 bits
+abbrev pub allBits : ℕ
+allBits = 4294967295
+
+-- the places from first to before end have been compared with z: one that holds z is marked, and the other marks are as before
+pub record Marked (z : ℤ) (xs : List ℤ) (first end : ℕ) (before after : List ℕ) : Type 0 where
+  pub long : length after ≡ length before
+  pub compared : (j : ℕ) → first ≤ j → j < end → nat after j ≡ cond (eqZ (getD xs j (pos 0)) z) allBits (nat before j)
+  pub rest : (j : ℕ) → end ≤ j → nat after j ≡ nat before j
 
 -- ── what comes back ──
 -- a code from 1 to 9 picks the formula, and its value is what the paper's is; every other code is refused

@@ -10,12 +10,15 @@ use mir.Val.{toZ}
 use mir.Facts.{toZ-ofZ}
 use Rattle.integers.specs.Integers.{eqZ}
 use Rattle.integers.proofs.Bits.{eqb-bits}
+use Rattle.paper.specs.Formula.{blank}
+use Rattle.formulas.specs.Row.{inputs}
+use Rattle.formulas.proofs.Reading.{inputs-length}
 use Rattle.formulas.proofs.Steps.{Passed, passed-none, passed-next, passed-most, passed-all}
 use Rattle.formulas.proofs.places.places.Statement.{statement}
 use Rattle.formulas.proofs.places.places.Tie as tie
 
 abbrev Inv-loop : tie.InvT-loop
-Inv-loop z vars values n₀ i₀ n i = Passed (λ x. eqZ x (toZ w32 z)) vars values i n
+Inv-loop z vars values n₀ i₀ n i = Passed (λ x. eqZ x (toZ w32 z)) (inputs vars values) i n
 
 abbrev μ-loop : tie.MeasureT-loop
 μ-loop z vars values n₀ i₀ n i = length vars - i
@@ -31,14 +34,16 @@ one-if-requires c κs = tt
 
 loop-again : tie.Need-loop-again Inv-loop μ-loop
 loop-again c =
-    let z = c .before .before .before .before .before .args .z in
+    let a = c .before .before .before .before .before .args in
     let fits = c .before .before .before .before .before .fits .z in
     let x = c .before .input in
-    passed-next (c .before .before .before .loop .inv) (c .before .before .loop-test .taken)
-    (c .one-if .ensures ∙ ap (λ t. cond t 1 0) (eqb-bits w32 (x .result) z (sfits-of (x .ok)) fits ∙ ap₂ eqZ (x .ensures) (sym (toZ-ofZ fits))))
+    passed-next blank (c .before .before .before .loop .inv) (rw (inputs-length (a .vars .now) (a .values .now)) (c .before .before .loop-test .taken))
+    (c .one-if .ensures ∙ ap (λ t. cond t 1 0) (eqb-bits w32 (x .result) (a .z) (sfits-of (x .ok)) fits ∙ ap₂ eqZ (x .ensures) (sym (toZ-ofZ fits))))
 
 add-n : tie.Need-add-n Inv-loop μ-loop
-add-n c = omega (arith, passed-most (loop-again c))
+add-n c =
+    let a = c .before .before .before .before .before .args in
+    omega (arith, passed-most (loop-again c), inputs-length (a .vars .now) (a .values .now))
 
 add-i : tie.Need-add-i Inv-loop μ-loop
 add-i c = omega arith
@@ -47,7 +52,9 @@ loop-less : tie.Need-loop-less Inv-loop μ-loop
 loop-less c = omega arith
 
 returns : tie.Need-returns Inv-loop μ-loop
-returns c = simp (toZ-ofZ (c .before .before .before .fits .z)) at (passed-all (c .before .loop .inv) (c .loop-test .left))
+returns c =
+    let s = c .before .before .before in
+    simp (toZ-ofZ (s .fits .z)) at (passed-all (c .before .loop .inv) (rw (inputs-length (s .args .vars .now) (s .args .values .now)) (c .loop-test .left)))
 
 pub places-spec : {M : Type 1} → statement M
 places-spec =

@@ -1,69 +1,47 @@
--- The places before i that share their value, and those from i on, are all that do. Assumes nothing.
-use Prim.Native.Nat.{_-_}
+-- The part of the row that the inputs were copied to is the inputs. Assumes nothing.
 use native.Mathlib.Omega.{arith}
-use mathlib.Core.Bool.{cond}
-use mathlib.Core.Path.{_≡_, _∙_, ap}
-use lib.Dec.{leb}
-use lib.ListN.{length}
-use mir.Syntax.{w32}
-use Rattle.paper.specs.Formula.{places, inputAt}
-use Rattle.formulas.specs.Row.{inputs}
-use Rattle.formulas.proofs.Reading.{told}
-use Rattle.formulas.proofs.Steps.{Passed, passed-none, passed-next, passed-most, passed-all}
+use mathlib.Core.List.{List}
+use mathlib.Core.Path.{_≡_, sym, ap, _∙_}
+use borrow.Author.Needs.{needs}
+use lib.IntN.{ℤ}
+use lib.ListN.{length, take}
+use Rattle.paper.specs.Formula.{sharing}
+use Rattle.formulas.proofs.Reading.{inputs-length}
 use Rattle.formulas.proofs.places.sharing.Statement.{statement}
 use Rattle.formulas.proofs.places.sharing.Tie as tie
 
-abbrev Inv-loop : tie.InvT-loop
-Inv-loop vars values n₀ i₀ n i = Passed (λ x. leb 2 (places x (inputs vars values))) vars values i n
+slice-aggregate-copy-inputs : tie.Need-slice-aggregate-copy-inputs
+slice-aggregate-copy-inputs c = search needs
 
-abbrev μ-loop : tie.MeasureT-loop
-μ-loop vars values n₀ i₀ n i = length vars - i
+copy-inputs-requires : tie.Need-copy-inputs-requires
+copy-inputs-requires c κs = search needs
 
-loop-holds : tie.Need-loop-holds Inv-loop μ-loop
-loop-holds c = passed-none
+array-share-prefix-held : tie.Need-array-share-prefix-held
+array-share-prefix-held c = search needs
 
-input-requires : tie.Need-input-requires Inv-loop μ-loop
-input-requires c κs = (c .loop-test .taken, c .before .before .before .pre)
+-- as many as there are places
+many : (c : tie.After-held3) → let vars = c .before .before .before .before .before .args .vars .now in
+    length (take (length vars) (c .before .before .copy-inputs .last .1 .1 .0)) ≡ length vars
+many c =
+    let a = c .before .before .before .before .before .args in
+    ap (λ (xs : List ℤ). length xs) (c .before .before .copy-inputs .ensures) ∙ inputs-length (a .vars .now) (a .values .now)
 
-places-requires : tie.Need-places-requires Inv-loop μ-loop
-places-requires c κs = c .before .before .before .before .pre
+slice-aggregate-sharing-places : tie.Need-slice-aggregate-sharing-places
+slice-aggregate-sharing-places c = sym (many c)
 
-one-if-requires : tie.Need-one-if-requires Inv-loop μ-loop
-one-if-requires c κs = tt
+sharing-places-requires : tie.Need-sharing-places-requires
+sharing-places-requires c κs = omega (arith, many c, c .before .before .before .before .before .pre .0)
 
-number : (c : tie.After-places Inv-loop μ-loop) → let a = c .before .before .before .before .before .args in let xs = inputs (a .vars .now) (a .values .now) in
-    c .places .result ≡ places (inputAt xs (c .before .before .before .loop .i)) xs
-number c = let x = c .before .input in simp (told w32 (x .ok) (x .ensures)) at (c .places .ensures)
-
-loop-again : tie.Need-loop-again Inv-loop μ-loop
-loop-again c =
-    passed-next (c .before .before .before .before .loop .inv) (c .before .before .before .loop-test .taken)
-    (c .one-if .ensures ∙ ap (λ k. cond (leb 2 k) 1 0) (number (c .before)))
-
-add-n : tie.Need-add-n Inv-loop μ-loop
-add-n c = omega (arith, passed-most (loop-again c))
-
-add-i : tie.Need-add-i Inv-loop μ-loop
-add-i c = omega arith
-
-loop-less : tie.Need-loop-less Inv-loop μ-loop
-loop-less c = omega arith
-
-returns : tie.Need-returns Inv-loop μ-loop
-returns c = passed-all (c .before .loop .inv) (c .loop-test .left)
+returns : tie.Need-returns
+returns c = c .sharing-places .ensures ∙ ap sharing (c .before .before .before .copy-inputs .ensures)
 
 pub sharing-spec : {M : Type 1} → statement M
 sharing-spec =
     tie.close
     (tie.spec
-    Inv-loop
-    μ-loop
-    loop-holds
-    input-requires
-    places-requires
-    one-if-requires
-    add-n
-    add-i
-    loop-less
-    loop-again
+    slice-aggregate-copy-inputs
+    copy-inputs-requires
+    array-share-prefix-held
+    slice-aggregate-sharing-places
+    sharing-places-requires
     returns)

@@ -1,5 +1,5 @@
-//! The graphs that are timed, each at three sizes: a day's sheet, the deepest chain, and the extreme graphs and the magic
-//! square of the paper on incremental evaluation, at sizes within the bounds.
+//! The graphs that are timed, each at three sizes: a day's sheet, a depot, the deepest chain, and the extreme graphs and
+//! the magic square of the paper on incremental evaluation, at sizes within the bounds.
 
 use compare::{Case, Row, chain, of_rows};
 
@@ -15,6 +15,7 @@ pub struct Graph {
 /// All of them, from small to large.
 pub fn graphs() -> Vec<Graph> {
     let mut graphs: Vec<Graph> = [56, 225, 900].map(day_sheet).into();
+    graphs.extend([64, 128, 256].map(depot));
     graphs.extend([255, 1023, 4095].map(deepest_chain));
     graphs.extend([16, 64, 255].map(extreme_static));
     graphs.extend([16, 64, 126].map(extreme_dynamic));
@@ -40,6 +41,19 @@ fn day_sheet(windows: u16) -> Graph {
     let asked = sheet.make(1, &crews);
     let build = of_rows(sheet.starts, &sheet.rows);
     Graph { name: "day's sheet", size: windows.into(), build, asked, moves: [vec![(5, 420)], vec![(5, 540)]] }
+}
+
+/// A depot: in each of four shifts every bay has a vehicle, the bays whose vehicle another bay has too are counted, and
+/// the counts are summed. A move gives one bay of every shift another vehicle, by turns one that stands elsewhere too.
+fn depot(bays: u16) -> Graph {
+    let shifts = [0, bays, 2 * bays, 3 * bays];
+    let vehicles: Vec<i32> = (0..bays).map(|bay| i32::from(37 * bay % bays)).collect();
+    let mut sheet = Sheet { starts: vehicles.repeat(shifts.len()), rows: Vec::new() };
+    let clashes = shifts.map(|first| sheet.make(5, &(first..first + bays).collect::<Vec<_>>()));
+    let asked = sheet.make(1, &clashes);
+    let build = of_rows(sheet.starts, &sheet.rows);
+    let moves = [5, 900].map(|vehicle| shifts.map(|first| (first + 3, vehicle)).to_vec());
+    Graph { name: "depot", size: bays.into(), build, asked, moves }
 }
 
 /// A model under construction.
