@@ -2,4 +2,5 @@ pub mod Judged
 pub mod One
 pub mod Two
 pub mod Three
+pub mod Planners
 pub mod NotAllowed

@@ -1,8 +1,10 @@
--- Wrong calls that were tried against the statements, each shown to be no outcome that they allow. Assumes nothing.
+-- Wrong calls that were tried against the statements, each shown to be no outcome that they allow; and that two planners' moves have no variable
+-- in common is needed. Assumes nothing.
 use Prim.Native.Nat.{ℕ, _<_}
 use mathlib.Core.List.{List, [], _∷_}
-use mathlib.Core.Path.{_≡_, ap, sym, _∙_}
-use lib.IntN.{pos}
+use native.Mathlib.Omega.{arith}
+use mathlib.Core.Path.{_≡_, ap, ap₂, sym, _∙_}
+use lib.IntN.{ℤ, pos, natAbs}
 use lib.ListN.{getD}
 use Rattle.paper.specs.Lists.{nat, every}
 use Rattle.paper.specs.Formula.{formula, looked}
@@ -14,7 +16,8 @@ use Rattle.paper.specs.Demands.{Call, State, modelOf, old, renewed}
 use Rattle.paper.specs.Runs.{building, modelA, startA, zeros, zerosZ}
 use Rattle.paper.proofs.Buffers.{over-at}
 use Rattle.demands.specs.Stated.{BuildOutcome, leftBuilt, TrialOutcome, leftTried, KeepOutcome, leftKept}
-use Rattle.demands.specs.Runs.{ownOf, Run}
+use Rattle.demands.specs.Runs.{ownOf, afterBuild, Run}
+use Rattle.demands.specs.Planners.{handsOn, Keeping}
 use Rattle.demands.specs.Demands.{RunRight}
 use Rattle.demands.proofs.Three.{demand3}
 
@@ -47,6 +50,33 @@ module _ (start : BuildOutcome A) where
   pub keep-of-A : (o : KeepOutcome (leftBuilt start .session) (modelLeft (leftBuilt start)) keepEnd) → leftKept o .answer ≡ Accepted 2
   unfolding every formula looked runs rowOf buildVerdict build keepVerdict keep
   keep-of-A o = ap (λ (x : KeepLeft). x .answer) (o .stated ∙ ap (λ (x : BuildLeft). keep (x .session) (modelLeft x) keepEnd) (start .stated))
+
+-- ── two moves of one variable: who keeps first does matter ──
+-- the end to 28500 and the end to 28801
+abbrev keepLater : Kept
+keepLater = record { move = record { pairs = 1; vars = 1 ∷ []; values = pos 28801 ∷ [] }; flags = zeros 6 }
+
+abbrev inTurn : BuildLeft → KeepLeft → Kept → KeepLeft
+inTurn x y c = keep (y .session) (record { tables = modelA; numbers = x .numbers; order = x .order; stored = y .stored }) c
+
+module _ (start : BuildOutcome A) where
+  abbrev begun : State
+  begun = afterBuild (start .done) (start .stored)
+
+  in-turn : (c c′ : Kept) (o : Keeping start begun (c .move) (c .flags)) (q : Keeping start (handsOn begun o) (c′ .move) (c′ .flags))
+      → leftKept q ≡ inTurn (build A) (keep (build A .session) (modelLeft (build A)) c) c′
+  in-turn c c′ o q =
+      q .stated ∙ ap₂ (λ (x : BuildLeft) (y : KeepLeft). inTurn x y c′) (start .stated) (o .stated ∙ ap (λ (x : BuildLeft). keep (x .session) (modelLeft x) c) (start .stated))
+
+  pub variable-in-common : (o : Keeping start begun (keepEnd .move) (keepEnd .flags)) (p : Keeping start begun (keepLater .move) (keepLater .flags))
+      → (q : Keeping start (handsOn begun o) (keepLater .move) (keepLater .flags)) (r : Keeping start (handsOn begun p) (keepEnd .move) (keepEnd .flags))
+      → q .stored ≡ r .stored → ⊥
+  unfolding every formula looked runs rowOf buildVerdict build keepVerdict keep
+  variable-in-common o p q r same =
+      let end : _≡_ {A = ℕ} 28801 28500 =
+      ap (λ (row : List ℤ). natAbs (getD row 1 (pos 0)))
+      (sym (ap (λ (x : KeepLeft). x .stored) (in-turn keepEnd keepLater o q)) ∙ same ∙ ap (λ (x : KeepLeft). x .stored) (in-turn keepLater keepEnd p r)) in
+      omega arith
 
 -- ── after any run ──
 module _ {b : BuildLent} (start : BuildOutcome b) (ok : numberOf (leftBuilt start .answer) ≡ 0) (cs : List Call) (now : State) (r : Run start cs now) where

@@ -12,7 +12,7 @@ use Rattle.demands.specs.Runs.{ownOf, Run, built, then-trial, then-keep}
 use Rattle.demands.specs.Demands.{RunRight, Demand3}
 
 module _ {b : BuildLent} (start : BuildOutcome b) where
-  own-is : ownOf start ≡ ownModel b
+  pub own-is : ownOf start ≡ ownModel b
   own-is = ap (λ (x : BuildLeft). record { tables = b .tables; numbers = x .numbers; order = x .order; stored = own }) (start .stated)
 
   -- ── an outcome over a state that is the paper's ──

@@ -1,4 +1,5 @@
 pub mod Stated
 pub mod Refusals
 pub mod Runs
+pub mod Planners
 pub mod Demands

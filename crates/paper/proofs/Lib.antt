@@ -19,6 +19,7 @@ pub mod Known
 pub mod Outcomes
 pub mod Build
 pub mod Session
+pub mod Moves
 pub mod Windows
 pub mod Extreme
 pub mod Formulas

@@ -5,5 +5,6 @@ pub mod Tables
 pub mod Checks
 pub mod Calls
 pub mod File
+pub mod Moves
 pub mod Demands
 pub mod Runs
