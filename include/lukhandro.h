@@ -14,16 +14,23 @@
  *   starts                                 n         start values; 0 for a variable that a row makes
  *   numbers, stored                        n each    topological numbers and values, filled by build
  *   order                                  m         rows by number, filled by build
+ *   reader_starts                          n + 1     the index of readers, filled by build: the rows that read v,
+ *   reader_places                          e         ascending and each once, stand in reader_places from place
+ *                                                    reader_starts[v] to before reader_starts[v + 1]; places from
+ *                                                    reader_starts[n] on are neither looked at nor changed
  *   move_vars, move_values                 pairs     a move: variable and new value (0 to 64 pairs)
  *   asked_vars, results                    asked     variables asked and their values (0 to 32)
  *   trial, flags                           n each    values as they would be; 1 where a formula was evaluated, else 0
  *   bytes                                            a model file: 24 + 4n + 12m + 4e bytes, little-endian
  *
+ * Parameters stand in groups: record and counts, tables, what build fills, a move, what is asked, what a trial fills.
+ * A parameter that joins a group comes at its end, as the index of readers does behind stored.
+ *
  * VALUES lie in -2,147,483,647 to 2,147,483,647; LUKHANDRO_BLANK is no value.
  *
  * REFUSALS. Number 0 is accepted. Any other number is a refusal: the call has changed no byte that it was lent, and
  * place is the smallest row, variable, pair, asked index or byte that offends. Numbers are the specification's, 1 to 14:
- *    1 a count outside its bound or a short buffer     8 numbers or order that build does not give for these tables
+ *    1 a count outside its bound or a short buffer     8 numbers, order or readers that build does not give
  *    2 no such kind                                    9 no such route
  *    3 variable, input count or part of a row         10 a pair names a made variable or none
  *    4 coefficient or parameter                       11 a pair names an earlier pair's variable
@@ -69,7 +76,7 @@ typedef struct {
     uint32_t n, m, e; /* 0 if refused */
 } lukhandro_read_outcome;
 
-/* Fills numbers, order and stored from tables and start values. Refusals 1 to 7. */
+/* Fills numbers, order, stored and the readers from tables and start values. Refusals 1 to 7. */
 lukhandro_outcome lukhandro_build(
     lukhandro_session *session, size_t n, size_t m, size_t e,
     const uint16_t *kinds, size_t kinds_length, const uint16_t *makes, size_t makes_length,
@@ -77,7 +84,8 @@ lukhandro_outcome lukhandro_build(
     const uint16_t *counts, size_t counts_length, const uint16_t *vars, size_t vars_length,
     const int16_t *coefs, size_t coefs_length, const int32_t *starts, size_t starts_length,
     uint16_t *numbers, size_t numbers_length, uint16_t *order, size_t order_length,
-    int32_t *stored, size_t stored_length);
+    int32_t *stored, size_t stored_length, uint16_t *reader_starts, size_t reader_starts_length,
+    uint16_t *reader_places, size_t reader_places_length);
 
 /* Tries a move by a route (1 input to output, 2 output to input, 3 mark-guided) on what build and keep left, and fills
  * results, trial and flags; stored values stay. Refusals 1 to 13 without 6, 8 before 7. */
@@ -88,6 +96,8 @@ lukhandro_outcome lukhandro_trial(
     const uint16_t *counts, size_t counts_length, const uint16_t *vars, size_t vars_length,
     const int16_t *coefs, size_t coefs_length, const uint16_t *numbers, size_t numbers_length,
     const uint16_t *order, size_t order_length, const int32_t *stored, size_t stored_length,
+    const uint16_t *reader_starts, size_t reader_starts_length,
+    const uint16_t *reader_places, size_t reader_places_length,
     size_t pairs, const uint16_t *move_vars, size_t move_vars_length,
     const int32_t *move_values, size_t move_values_length,
     size_t asked, const uint16_t *asked_vars, size_t asked_vars_length, uint32_t route,
@@ -102,6 +112,8 @@ lukhandro_outcome lukhandro_keep(
     const uint16_t *counts, size_t counts_length, const uint16_t *vars, size_t vars_length,
     const int16_t *coefs, size_t coefs_length, const uint16_t *numbers, size_t numbers_length,
     const uint16_t *order, size_t order_length, int32_t *stored, size_t stored_length,
+    const uint16_t *reader_starts, size_t reader_starts_length,
+    const uint16_t *reader_places, size_t reader_places_length,
     size_t pairs, const uint16_t *move_vars, size_t move_vars_length,
     const int32_t *move_values, size_t move_values_length,
     uint8_t *flags, size_t flags_length);

@@ -171,19 +171,23 @@ def built(starts, lines, entries):
 
 
 # ── build, trial and keep, over what they are lent ──
-def build_left(counts, columns, starts, record, numbered, order, stored):
-    """What a build leaves: answer (number, place, evaluations), record (moves kept, evaluations), numbers, order, stored values. The columns of the
-    tables are lent one by one, each of its own length: kinds, made variables, parameters, firsts, counts; entry variables, coefficients."""
+def build_left(counts, columns, starts, record, numbered, order, stored, reader_starts, reader_places):
+    """What a build leaves: answer (number, place, evaluations), record (moves kept, evaluations), numbers, order, stored values, and the starts and
+    the places of the index of readers. The columns of the tables are lent one by one, each of its own length: kinds, made variables, parameters,
+    firsts, counts; entry variables, coefficients."""
     n, m, e = counts
-    rooms = [(columns[:5], m), (columns[5:], e), ((starts, numbered, stored), n), ((order,), m)]
+    rooms = [(columns[:5], m), (columns[5:], e), ((starts, numbered, stored), n), ((order,), m), ((reader_starts,), n + 1), ((reader_places,), e)]
+    before = record, numbered, order, stored, reader_starts, reader_places
     if not (1 <= n <= 4096 and m <= n and e <= 16384) or any(len(row) < least for rows, least in rooms for row in rows):
-        return (1, 0, 0), record, numbered, order, stored
+        return ((1, 0, 0),) + before
     model = starts[:n], list(zip(*columns[:5]))[:m], list(zip(*columns[5:]))[:e]
     bad = refusal(*model)
     if bad:
-        return bad + (0,), record, numbered, order, stored
+        return (bad + (0,),) + before
     known, values = built(*model)
-    return (0, 0, m), (0, m), filled(known, numbered), filled(in_order(known, model[1]), order), filled(values, stored)
+    first, rows = index(n, *model[1:])
+    return ((0, 0, m), (0, m), filled(known, numbered), filled(in_order(known, model[1]), order), filled(values, stored), filled(first, reader_starts),
+            filled(rows, reader_places))
 
 
 def in_order(known, lines):
@@ -191,13 +195,28 @@ def in_order(known, lines):
     return sorted(range(len(lines)), key=lambda r: (known[lines[r][1]], r))
 
 
-class Lent:
-    """What trial and keep are lent of a model: counts, tables, numbers, order and stored values, each of the length lent."""
+def index(n, lines, entries):
+    """Where the readers of each variable start, and the readers of one variable after another: the rows that name it, each once."""
+    readers = [[] for _ in range(n)]
+    for r, (_, _, _, first, count) in enumerate(lines):
+        for v in {v for v, _ in entries[first:first + count]}:
+            readers[v].append(r)
+    places = [r for rows in readers for r in rows]
+    starts = [0]
+    for rows in readers:
+        starts.append(starts[-1] + len(rows))
+    return starts, places
 
-    def __init__(self, n, lines, entries, numbers, order, stored, e=None):
+
+class Lent:
+    """What trial and keep are lent of a model: counts, tables, numbers, order, stored values and the index of readers (build's where none is given),
+    each of the length lent."""
+
+    def __init__(self, n, lines, entries, numbers, order, stored, e=None, readers=None):
         self.n, self.m, self.e = n, len(lines), len(entries) if e is None else e
         self.lines, self.entries = lines, entries
         self.numbers, self.order, self.stored = numbers, order, stored
+        self.starts, self.places = readers or index(n, lines, entries)
 
 
 def table_refusal(n, lines, entries):
@@ -214,6 +233,12 @@ def rightly_numbered(lent):
     return lent.numbers[:lent.n] == known and lent.order[:lent.m] == in_order(known, lent.lines)
 
 
+def rightly_indexed(lent):
+    """The lent index is the one that build gives, as far as build fills it."""
+    starts, places = index(lent.n, lent.lines, lent.entries)
+    return lent.starts[:lent.n + 1] == starts and lent.places[:len(places)] == places
+
+
 def lent_refusal(lent, pairs, move_vars, move_values, asked=0, asked_vars=(), route=1, rooms=()):
     """Checks 1 to 5, 8, 7 and 9 to 13. A keep asks nothing, by route 1. `rooms` has (length, least length) of the rows to be filled."""
     n, m, e = lent.n, lent.m, lent.e
@@ -221,12 +246,14 @@ def lent_refusal(lent, pairs, move_vars, move_values, asked=0, asked_vars=(), ro
         return 1, 0
     if len(lent.entries) < e or len(lent.numbers) < n or len(lent.order) < m or len(lent.stored) < n:
         return 1, 0
+    if len(lent.starts) < n + 1 or len(lent.places) < e:
+        return 1, 0
     if min(len(move_vars), len(move_values)) < pairs or len(asked_vars) < asked or any(have < least for have, least in rooms):
         return 1, 0
     bad = table_refusal(n, lent.lines, lent.entries[:e])
     if bad:
         return bad
-    if not rightly_numbered(lent):
+    if not (rightly_numbered(lent) and rightly_indexed(lent)):
         return 8, 0
     made = {line[1] for line in lent.lines}
     for v in range(n):

@@ -2,7 +2,7 @@
 use Prim.Native.Nat.{ℕ, _<_}
 use mathlib.Core.List.{List}
 use lib.IntN.{ℤ}
-use Rattle.paper.specs.Tables.{Tables}
+use Rattle.paper.specs.Tables.{Tables, Index, indexIn}
 use Rattle.paper.specs.Checks.{Verdict}
 use Rattle.paper.specs.Calls.{Session, Answer, numberOf, placeOf, evaluationsOf, answered, BuildLeft, TrialLeft, KeepLeft}
 use Rattle.paper.specs.File.{counted}
@@ -19,11 +19,11 @@ inNumbers a = record { number = numberOf a; place = placeOf a; evaluations = eva
 
 -- ── what the caller has, and what the paper's call leaves: the answer in numbers, then the record and the rows ──
 -- build
-abbrev pub leftByBuild : Outcome → code-session.Session → List ℕ → List ℕ → List ℤ → Outcome × (Session × List ℕ × List ℕ × List ℤ)
-leftByBuild r session numbers order stored = (r, (recordIn session, numbers, order, stored))
+abbrev pub leftByBuild : Outcome → code-session.Session → List ℕ → List ℕ → List ℤ → List ℕ → List ℕ → Outcome × (Session × List ℕ × List ℕ × List ℤ × Index)
+leftByBuild r session numbers order stored readerStarts readerPlaces = (r, (recordIn session, numbers, order, stored, indexIn readerStarts readerPlaces))
 
-abbrev pub builtOut : BuildLeft → Outcome × (Session × List ℕ × List ℕ × List ℤ)
-builtOut left = (inNumbers (left .answer), (left .session, left .numbers, left .order, left .stored))
+abbrev pub builtOut : BuildLeft → Outcome × (Session × List ℕ × List ℕ × List ℤ × Index)
+builtOut left = (inNumbers (left .answer), (left .session, left .numbers, left .order, left .stored, left .index))
 
 -- trial
 abbrev pub leftByTrial : Outcome → code-session.Session → List ℤ → List ℤ → List ℕ → Outcome × (Session × List ℤ × List ℤ × List ℕ)

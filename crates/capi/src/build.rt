@@ -25,8 +25,10 @@ pub extern "C" fn lukhandro_build(
     numbers: &mut [u16],
     order: &mut [u16],
     stored: &mut [i32],
+    reader_starts: &mut [u16],
+    reader_places: &mut [u16],
 ) -> Outcome
-    ensures { λ r. ⌜ leftByBuild r (now (session .exit)) (now (numbers .exit)) (now (order .exit)) (now (stored .exit)) ≡ builtOut (built (toBuild (now (session .entry) .kept) (now (session .entry) .evaluations) n m e (now (kinds .entry)) (now (makes .entry)) (now (params .entry)) (now (firsts .entry)) (now (counts .entry)) (now (vars .entry)) (now (coefs .entry)) (now (starts .entry)) (now (numbers .entry)) (now (order .entry)) (now (stored .entry)))) ⌝ }
+    ensures { λ r. ⌜ leftByBuild r (now (session .exit)) (now (numbers .exit)) (now (order .exit)) (now (stored .exit)) (now («reader_starts» .exit)) (now («reader_places» .exit)) ≡ builtOut (built (toBuild (now (session .entry) .kept) (now (session .entry) .evaluations) n m e (now (kinds .entry)) (now (makes .entry)) (now (params .entry)) (now (firsts .entry)) (now (counts .entry)) (now (vars .entry)) (now (coefs .entry)) (now (starts .entry)) (now (numbers .entry)) (now (order .entry)) (now (stored .entry)) (now («reader_starts» .entry)) (now («reader_places» .entry)))) ⌝ }
 {
     let answer = engine::build(
         session,
@@ -44,6 +46,8 @@ pub extern "C" fn lukhandro_build(
         numbers,
         order,
         stored,
+        reader_starts,
+        reader_places,
     );
     in_numbers(answer)
 }

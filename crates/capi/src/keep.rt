@@ -25,12 +25,14 @@ pub extern "C" fn lukhandro_keep(
     numbers: &[u16],
     order: &[u16],
     stored: &mut [i32],
+    reader_starts: &[u16],
+    reader_places: &[u16],
     pairs: usize,
     move_vars: &[u16],
     move_values: &[i32],
     flags: &mut [u8],
 ) -> Outcome
-    ensures { λ r. ⌜ leftByKeep r (now (session .exit)) (now (stored .exit)) (now (flags .exit)) ≡ keptOut (kept (recordIn (now (session .entry))) (toModel n m e (now (kinds .entry)) (now (makes .entry)) (now (params .entry)) (now (firsts .entry)) (now (counts .entry)) (now (vars .entry)) (now (coefs .entry)) (now (numbers .entry)) (now (order .entry)) (now (stored .entry))) (toKeep pairs (now («move_vars» .entry)) (now («move_values» .entry)) (now (flags .entry)))) ⌝ }
+    ensures { λ r. ⌜ leftByKeep r (now (session .exit)) (now (stored .exit)) (now (flags .exit)) ≡ keptOut (kept (recordIn (now (session .entry))) (toModel n m e (now (kinds .entry)) (now (makes .entry)) (now (params .entry)) (now (firsts .entry)) (now (counts .entry)) (now (vars .entry)) (now (coefs .entry)) (now (numbers .entry)) (now (order .entry)) (now (stored .entry)) (now («reader_starts» .entry)) (now («reader_places» .entry))) (toKeep pairs (now («move_vars» .entry)) (now («move_values» .entry)) (now (flags .entry)))) ⌝ }
 {
     let answer = engine::keep(
         session,
@@ -47,6 +49,8 @@ pub extern "C" fn lukhandro_keep(
         numbers,
         order,
         stored,
+        reader_starts,
+        reader_places,
         pairs,
         move_vars,
         move_values,

@@ -36,7 +36,7 @@ abbrev keepEnd : Kept
 keepEnd = record { move = endMoved; flags = zeros 6 }
 
 abbrev modelLeft : BuildLeft → Model
-modelLeft x = record { tables = modelA; numbers = x .numbers; order = x .order; stored = x .stored }
+modelLeft x = record { tables = modelA; numbers = x .numbers; order = x .order; stored = x .stored; index = x .index }
 
 module _ (start : BuildOutcome A) where
   pub build-of-A : leftBuilt start .answer ≡ Accepted 3
@@ -57,7 +57,7 @@ abbrev keepLater : Kept
 keepLater = record { move = record { pairs = 1; vars = 1 ∷ []; values = pos 28801 ∷ [] }; flags = zeros 6 }
 
 abbrev inTurn : BuildLeft → KeepLeft → Kept → KeepLeft
-inTurn x y c = keep (y .session) (record { tables = modelA; numbers = x .numbers; order = x .order; stored = y .stored }) c
+inTurn x y c = keep (y .session) (record { tables = modelA; numbers = x .numbers; order = x .order; stored = y .stored; index = x .index }) c
 
 module _ (start : BuildOutcome A) where
   abbrev begun : State

@@ -28,10 +28,10 @@ use Rattle.demands.proofs.Judged.{judged, judged-then, lineNumber, work
 pub build-numbers : (l : BuildLent) → map lineNumber (buildTable l) ≡ 1 ∷ 2 ∷ 3 ∷ 3 ∷ 4 ∷ 5 ∷ 6 ∷ 7 ∷ []
 build-numbers l = refl
 
-pub trial-numbers : (w : Model) (c : Tried) → map lineNumber (trialTable w c) ≡ 1 ∷ 2 ∷ 3 ∷ 3 ∷ 4 ∷ 5 ∷ 8 ∷ 7 ∷ 9 ∷ 10 ∷ 11 ∷ 12 ∷ 13 ∷ []
+pub trial-numbers : (w : Model) (c : Tried) → map lineNumber (trialTable w c) ≡ 1 ∷ 2 ∷ 3 ∷ 3 ∷ 4 ∷ 5 ∷ 8 ∷ 8 ∷ 7 ∷ 9 ∷ 10 ∷ 11 ∷ 12 ∷ 13 ∷ []
 trial-numbers w c = refl
 
-pub keep-numbers : (w : Model) (c : Kept) → map lineNumber (keepTable w c) ≡ 1 ∷ 2 ∷ 3 ∷ 3 ∷ 4 ∷ 5 ∷ 8 ∷ 7 ∷ 10 ∷ 11 ∷ 12 ∷ []
+pub keep-numbers : (w : Model) (c : Kept) → map lineNumber (keepTable w c) ≡ 1 ∷ 2 ∷ 3 ∷ 3 ∷ 4 ∷ 5 ∷ 8 ∷ 8 ∷ 7 ∷ 10 ∷ 11 ∷ 12 ∷ []
 keep-numbers w c = refl
 
 -- ── each verdict is its table's ──

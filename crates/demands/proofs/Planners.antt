@@ -42,7 +42,7 @@ module _ {b : BuildLent} (start : BuildOutcome b) where
     -- what it leaves passes the checks of the model
     next-known : Accepts o → ModelKnown (lentTo (handsOn now o))
     next-known z =
-        subst⁻¹ (λ (row : List ℤ). ModelKnown (record { tables = b .tables; numbers = start .numbers; order = start .order; stored = row }))
+        subst⁻¹ (λ (row : List ℤ). ModelKnown (record { tables = b .tables; numbers = start .numbers; order = start .order; stored = row; index = start .index }))
         (ap (λ (x : KeepLeft). x .stored) (o .stated ∙ keep-judged (now .session) (lentTo now) (callOf mv flags) .is accepted (verdict-of z)))
         (keep-leaves-known (lentTo now) (callOf mv flags) (known z))
 

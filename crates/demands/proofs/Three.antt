@@ -13,7 +13,7 @@ use Rattle.demands.specs.Demands.{RunRight, Demand3}
 
 module _ {b : BuildLent} (start : BuildOutcome b) where
   pub own-is : ownOf start ≡ ownModel b
-  own-is = ap (λ (x : BuildLeft). record { tables = b .tables; numbers = x .numbers; order = x .order; stored = own }) (start .stated)
+  own-is = ap (λ (x : BuildLeft). record { tables = b .tables; numbers = x .numbers; order = x .order; stored = own; index = x .index }) (start .stated)
 
   -- ── an outcome over a state that is the paper's ──
   module _ (cs : List Call) (now : State) (e : now ≡ after b cs) where

@@ -1,4 +1,4 @@
--- Demand 2: an accepted build's outcome has the paper's numbers, order and values, a build refuses with 6 exactly if some variable depends on
+-- Demand 2: an accepted build's outcome has the paper's numbers, order, index and values, a build refuses with 6 exactly if some variable depends on
 -- itself, and files go there and back. Assumes nothing.
 use Prim.Native.Nat.{ℕ, suc, zero, _<_}
 use mathlib.Core.Bool.{cond}
@@ -35,6 +35,7 @@ module _ {l : BuildLent} (o : BuildOutcome l) where
         ∙ ap (λ xs. cond (isMade t v) (suc (greatest xs)) zero)
         (map-same (number (net t) (t .n)) (nat (o .numbers)) (inputsOf t v) (λ i m. sym (number-at i (inputs-below t sound v i m))));
     ordered = ap (λ (x : BuildLeft). x .order) (o .stated) ∙ right .ordered;
+    indexed = ap (λ (x : BuildLeft). x .index) (o .stated) ∙ right .indexed;
     stored = λ v low.
         value-at v low ∙ right .stored-meet v
         ∙ ap (λ x. cond (isMade t v) x (startValues l v))

@@ -8,7 +8,7 @@ use lib.IntN.{ℤ}
 use lib.ListN.{length, take, drop}
 use Rattle.paper.specs.Lists.{nat, over}
 use Rattle.paper.specs.Net.{valuation, numbering, input-to-output}
-use Rattle.paper.specs.Tables.{Tables, net, valuesIn, order}
+use Rattle.paper.specs.Tables.{Tables, net, valuesIn, order, index}
 use Rattle.paper.specs.Checks.{Verdict, accepted}
 use Rattle.paper.specs.Calls.{Session, Answer, Accepted, Refused, numberOf, placeOf, evaluationsOf, answered, BuildLent, BuildLeft, startValues, Model, Tried, TrialLeft, Kept, KeepLeft}
 use Rattle.paper.specs.File.{endsAt, held, counted}
@@ -66,6 +66,8 @@ pub record BuiltRight {l : BuildLent} (o : BuildOutcome l) : Type 0 where
   pub numbers : (v : ℕ) → v < l .tables .n → nat (o .numbers) v ≡ numbering (net (l .tables)) (nat (o .numbers)) v
   -- the rows by these numbers
   pub ordered : o .order ≡ order (l .tables) ++ drop (l .tables .m) (l .order)
+  -- the rows that read each variable
+  pub indexed : o .index ≡ index (l .tables) (l .index)
   -- each value is the start value at a search variable, and what the formula gives of the inputs' values at a made one
   pub stored : (v : ℕ) → v < l .tables .n → valuesIn (l .tables) (o .stored) v ≡ valuation (net (l .tables)) (startValues l) (valuesIn (l .tables) (o .stored)) v
 

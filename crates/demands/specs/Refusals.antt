@@ -9,7 +9,7 @@ use lib.Dec.{eqb, leb, ltb}
 use lib.ListN.{length, take}
 use Rattle.paper.specs.Lists.{between, total, nat}
 use Rattle.paper.specs.Tables.{Tables, ends}
-use Rattle.paper.specs.Checks.{Verdict, accepted, refused, kindGood, shapeGood, numberGood, madeOnce, startGood, storedGood, numbered, Move, movable, namedOnce, hasValue}
+use Rattle.paper.specs.Checks.{Verdict, accepted, refused, kindGood, shapeGood, numberGood, madeOnce, startGood, storedGood, numbered, indexed, Move, movable, namedOnce, hasValue}
 use Rattle.paper.specs.Calls.{BuildLent, buildFits, startValues, Model, storedValues, Tried, trialFits, Kept, keepFits}
 use Rattle.paper.specs.File.{field, rowsAt, entriesAt, endsAt, held, counted, nIn, mIn, eIn}
 
@@ -29,9 +29,10 @@ tableLines t =
     ∷ places 5 (t .m) (madeOnce t)
     ∷ []
 
--- 8 and then 7, of the model lent to trial and keep
+-- 8 of the numbers and order, 8 of the index, and then 7, of the model lent to trial and keep
 abbrev pub modelLines : Model → List Line
-modelLines w = whole 8 0 (numbered (w .tables) (w .numbers) (w .order)) ∷ places 7 (w .tables .n) (storedGood (w .tables) (storedValues w)) ∷ []
+modelLines w = let t = w .tables in
+    whole 8 0 (numbered t (w .numbers) (w .order)) ∷ whole 8 0 (indexed t (w .index)) ∷ places 7 (t .n) (storedGood t (storedValues w)) ∷ []
 
 -- 10 to 12, of the move
 abbrev pub moveLines : Tables → Move → List Line

@@ -22,9 +22,9 @@ abbrev pub afterKeep : State → Row → Done → List ℤ → State
 afterKeep now row done stored = record { session = recordIn (done .session); stored = rowAfter row stored (now .stored) }
 
 module _ {b : BuildLent} (start : BuildOutcome b) where
-  -- the tables that build was lent, and the numbers, order and stored values that it left
+  -- the tables that build was lent, and the numbers, order, stored values and index that it left
   abbrev pub ownOf : Lends
-  ownOf = record { tables = b .tables; numbers = start .numbers; order = start .order; stored = own }
+  ownOf = record { tables = b .tables; numbers = start .numbers; order = start .order; stored = own; index = start .index }
 
   -- the calls, the latest first, and what stands after them; each accepted call was lent the model's own, refused ones anything
   pub data Run : List Call → State → Type 0 where

@@ -4,7 +4,7 @@ use mathlib.Core.List.{List}
 use mathlib.Core.Path.{_≡_}
 use Prim.Native.Nat.{ℕ}
 use lib.IntN.{ℤ}
-use Rattle.paper.specs.Tables.{Tables}
+use Rattle.paper.specs.Tables.{Tables, Index}
 use Rattle.paper.specs.Checks.{Verdict}
 use Rattle.paper.specs.Calls as call
 use Rattle.paper.specs.Calls.{Session, BuildLent, BuildLeft, Model, Tried, TrialLeft, Kept, KeepLeft}
@@ -22,10 +22,11 @@ pub record BuildOutcome (l : BuildLent) : Type 0 where
   pub numbers : List ℕ
   pub order : List ℕ
   pub stored : List ℤ
-  pub stated : leftByBuild done numbers order stored ≡ call.build l
+  pub index : Index
+  pub stated : leftByBuild done numbers order stored (index .starts) (index .places) ≡ call.build l
 
 abbrev pub leftBuilt : {l : BuildLent} → BuildOutcome l → BuildLeft
-leftBuilt o = leftByBuild (o .done) (o .numbers) (o .order) (o .stored)
+leftBuilt o = leftByBuild (o .done) (o .numbers) (o .order) (o .stored) (o .index .starts) (o .index .places)
 
 -- ── trial: the stored values are lent to read only ──
 pub record TrialOutcome (s : Session) (w : Model) (c : Tried) : Type 0 where

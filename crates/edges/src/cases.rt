@@ -3,13 +3,15 @@
 //  0  length of the case, length of its name, length of its values: all in bytes
 //  6  which call: 1 a trial, 2 a keep, 3 a build
 //  8  n, m, e, pairs, asked
-// 18  the plan of twelve rows: kinds, made variables, firsts, counts, entry variables, numbers, order, move variables and asked variables; then
-//     coefficients; then parameters and new values
-// 66  how many stored values, results, trial values and flags are lent; of a build, start values, numbers, rows of the order and stored values
-// 74  how many results are shown, and how many of each other row
-// 78  moves kept, route
-// 86  the name, and the stored values, zeros past the end; of a build, its start values
+// 18  the plan of fourteen rows: kinds, made variables, firsts, counts, entry variables, numbers, order, reader starts, reader places, move variables
+//     and asked variables; then coefficients; then parameters and new values
+// 74  how many stored values, results, trial values and flags are lent; of a build, start values, numbers, rows of the order, stored values, reader
+//     starts and reader places
+// 86  how many results are shown, of a build how many reader starts and how many reader places, and how many of each other row
+// 90  moves kept, route
+// 98  the name, and the stored values, zeros past the end; of a build, its start values
 use crate::print;
+use engine::Done;
 use engine::Session;
 use pools::calls::build_planned;
 use pools::calls::keep_planned;
@@ -19,6 +21,7 @@ use pools::fields::half;
 use pools::fields::least;
 use pools::fields::part;
 use pools::fields::word;
+use pools::print::numbers;
 use pools::print::text;
 use pools::rows::fill_signed32;
 use pools::rows::fill16;
@@ -33,18 +36,18 @@ fn count(case: &[u8], at: usize) -> usize {
 
 // The name of the case.
 fn name(case: &[u8]) -> &[u8] {
-    part(case, 86, count(case, 2))
+    part(case, 98, count(case, 2))
 }
 
 // The bytes of the stored values.
 fn values_of(case: &[u8]) -> &[u8] {
-    part(case, after(86, count(case, 2)), count(case, 4))
+    part(case, after(98, count(case, 2)), count(case, 4))
 }
 
 // The record before the call.
 fn record(case: &[u8]) -> Session {
     Session {
-        kept: word(case, 78),
+        kept: word(case, 90),
         evaluations: 9,
     }
 }
@@ -61,7 +64,7 @@ fn try_filling(
     trial: &mut [i32],
     flags: &mut [u8],
 ) {
-    let route = word(case, 82);
+    let route = word(case, 94);
     let done = try_planned(
         record(case),
         count(case, 8),
@@ -69,23 +72,23 @@ fn try_filling(
         count(case, 12),
         plan,
         pool,
-        row_signed32(values, plan, 20),
-        row_signed16(coefs, plan, 18),
+        row_signed32(values, plan, 24),
+        row_signed16(coefs, plan, 22),
         stored,
         count(case, 14),
-        row16(pool, plan, 14),
-        row_signed32(values, plan, 22),
+        row16(pool, plan, 18),
+        row_signed32(values, plan, 26),
         count(case, 16),
-        row16(pool, plan, 16),
+        row16(pool, plan, 20),
         route,
         results,
         trial,
         flags,
     );
     print::tried(name(case), route, done);
-    print::values(b"; results", count(case, 74), results);
-    print::values(b"; trial", count(case, 76), trial);
-    print::flags(count(case, 76), flags);
+    print::values(b"; results", count(case, 86), results);
+    print::values(b"; trial", count(case, 88), trial);
+    print::flags(count(case, 88), flags);
 }
 
 // Tries the move of a case.
@@ -95,10 +98,10 @@ fn try_case(case: &[u8], plan: &[u16], pool: &[u16], coefs: &[i16], values: &[i3
     let mut trial = [77i32; 4097];
     let mut flags = [7u8; 4097];
     fill_signed32(&mut stored, values_of(case));
-    let s = least(count(case, 66), 4097);
-    let r = least(count(case, 68), 33);
-    let t = least(count(case, 70), 4097);
-    let f = least(count(case, 72), 4097);
+    let s = least(count(case, 74), 4097);
+    let r = least(count(case, 76), 33);
+    let t = least(count(case, 78), 4097);
+    let f = least(count(case, 80), 4097);
     try_filling(
         case,
         plan,
@@ -129,17 +132,17 @@ fn keep_filling(
         count(case, 12),
         plan,
         pool,
-        row_signed32(values, plan, 20),
-        row_signed16(coefs, plan, 18),
+        row_signed32(values, plan, 24),
+        row_signed16(coefs, plan, 22),
         stored,
         count(case, 14),
-        row16(pool, plan, 14),
-        row_signed32(values, plan, 22),
+        row16(pool, plan, 18),
+        row_signed32(values, plan, 26),
         flags,
     );
     print::kept(name(case), done);
-    print::values(b"; stored", count(case, 76), stored);
-    print::flags(count(case, 76), flags);
+    print::values(b"; stored", count(case, 88), stored);
+    print::flags(count(case, 88), flags);
 }
 
 // Keeps the move of a case.
@@ -147,8 +150,8 @@ fn keep_case(case: &[u8], plan: &[u16], pool: &[u16], coefs: &[i16], values: &[i
     let mut stored = [0i32; 4097];
     let mut flags = [7u8; 4097];
     fill_signed32(&mut stored, values_of(case));
-    let s = least(count(case, 66), 4097);
-    let f = least(count(case, 72), 4097);
+    let s = least(count(case, 74), 4097);
+    let f = least(count(case, 80), 4097);
     keep_filling(
         case,
         plan,
@@ -158,6 +161,24 @@ fn keep_case(case: &[u8], plan: &[u16], pool: &[u16], coefs: &[i16], values: &[i
         &mut stored[0..s],
         &mut flags[0..f],
     );
+}
+
+// Prints what comes back of a build, and what it leaves.
+fn print_built(
+    case: &[u8],
+    done: Done,
+    row: &[u16],
+    order: &[u16],
+    stored: &[i32],
+    reader_starts: &[u16],
+    reader_places: &[u16],
+) {
+    print::built(name(case), done);
+    numbers(b"; numbers", count(case, 88), row);
+    numbers(b"; order", count(case, 88), order);
+    print::values(b"; stored", count(case, 88), stored);
+    numbers(b"; reader starts", count(case, 86), reader_starts);
+    numbers(b"; reader places", count(case, 86), reader_places);
 }
 
 // Builds the model of a case with the rows to fill that are lent, and prints what comes back and what is left.
@@ -171,6 +192,8 @@ fn build_filling(
     numbers: &mut [u16],
     order: &mut [u16],
     stored: &mut [i32],
+    reader_starts: &mut [u16],
+    reader_places: &mut [u16],
 ) {
     let done = build_planned(
         record(case),
@@ -179,17 +202,24 @@ fn build_filling(
         count(case, 12),
         plan,
         pool,
-        row_signed32(values, plan, 20),
-        row_signed16(coefs, plan, 18),
+        row_signed32(values, plan, 24),
+        row_signed16(coefs, plan, 22),
         starts,
         numbers,
         order,
         stored,
+        reader_starts,
+        reader_places,
     );
-    print::built(name(case), done);
-    pools::print::numbers(b"; numbers", count(case, 76), numbers);
-    pools::print::numbers(b"; order", count(case, 76), order);
-    print::values(b"; stored", count(case, 76), stored);
+    print_built(
+        case,
+        done,
+        numbers,
+        order,
+        stored,
+        reader_starts,
+        reader_places,
+    );
 }
 
 // Builds the model of a case.
@@ -198,11 +228,15 @@ fn build_case(case: &[u8], plan: &[u16], pool: &[u16], coefs: &[i16], values: &[
     let mut numbers = [77u16; 4097];
     let mut order = [77u16; 4097];
     let mut stored = [77i32; 4097];
+    let mut reader_starts = [77u16; 4098];
+    let mut reader_places = [77u16; 16385];
     fill_signed32(&mut starts, values_of(case));
-    let s = least(count(case, 66), 4097);
-    let n = least(count(case, 68), 4097);
-    let o = least(count(case, 70), 4097);
-    let t = least(count(case, 72), 4097);
+    let s = least(count(case, 74), 4097);
+    let n = least(count(case, 76), 4097);
+    let o = least(count(case, 78), 4097);
+    let t = least(count(case, 80), 4097);
+    let r = least(count(case, 82), 4098);
+    let p = least(count(case, 84), 16385);
     build_filling(
         case,
         plan,
@@ -213,13 +247,15 @@ fn build_case(case: &[u8], plan: &[u16], pool: &[u16], coefs: &[i16], values: &[
         &mut numbers[0..n],
         &mut order[0..o],
         &mut stored[0..t],
+        &mut reader_starts[0..r],
+        &mut reader_places[0..p],
     );
 }
 
 // Makes the call of a case, and prints its line.
 pub fn make(case: &[u8], pool: &[u16], coefs: &[i16], values: &[i32]) {
-    let mut plan = [0u16; 24];
-    fill16(&mut plan, part(case, 18, 48));
+    let mut plan = [0u16; 28];
+    fill16(&mut plan, part(case, 18, 56));
     let which = half(case, 6);
     if which == 1 {
         try_case(case, &plan, pool, coefs, values);

@@ -15,6 +15,8 @@ use Rattle.paper.proofs.Lists.{each}
 use Rattle.paper.proofs.Verdicts.{require-held}
 use Rattle.paper.proofs.Outcomes.{trial-meets, keep-meets}
 use Rattle.paper.proofs.Known.{ModelKnown, MoveKnown, trial-known, keep-known}
+use Rattle.readers.proofs.Known.{laid-of, indexed-known}
+use Rattle.judges.proofs.Lengths.{index-long}
 use Rattle.fills.specs.Accepted.{Keeping, Trying, TrialFilled, KeepFilled}
 
 -- the first k entries, each below n
@@ -24,22 +26,23 @@ all-low n (suc k) [] h low = absurd (omega arith)
 all-low n (suc k) (x ∷ l) h low = ap₂ _&&_ (lt-ltb x n (low 0 (omega arith))) (all-low n k l (omega arith) (λ i m. low (suc i) (omega arith)))
 
 -- what is known of the model and the move, and flags that are lent
-keeping : (w : Model) (c : Kept) → ModelKnown w → MoveKnown (w .tables) (c .move) → w .tables .n ≤ length (c .flags) → Keeping (w .tables) (w .order) (w .stored) c
-keeping w c k v h = record {
+keeping : (w : Model) (c : Kept) → ModelKnown w → MoveKnown (w .tables) (c .move) → w .tables .n ≤ length (c .flags) → Keeping (w .tables) (w .order) (w .index) (w .stored) c
+keeping w c k v h = let (starts, places) = index-long (w .tables) (w .index) (k .index-fits) in record {
   along = record { sound = k .sound; chains = k .chains; long = k .order-long; order-is = k .order-is };
+  indexed = indexed-known (w .tables) (laid-of (w .tables) (k .sound)) (w .index .starts) (w .index .places) starts places (k .index-is);
   in-stored = k .stored-long;
   in-flags = h;
   pairs = record { in-vars = v .vars-long; in-values = v .values-long; low = v .low };
   search = v .search;
 }
 
-pub keeping-of : (w : Model) (c : Kept) → keepVerdict w c ≡ accepted → Keeping (w .tables) (w .order) (w .stored) c
+pub keeping-of : (w : Model) (c : Kept) → keepVerdict w c ≡ accepted → Keeping (w .tables) (w .order) (w .index) (w .stored) c
 unfolding keepVerdict
 keeping-of w c e =
     let k = keep-known w c e in let fits = each _ (require-held 1 0 (keepFits w c) _ e) in
     keeping w c (k .model) (k .move) (leb-true _ _ (fits .1 .1 .0))
 
-pub trying-of : (w : Model) (c : Tried) → trialVerdict w c ≡ accepted → Trying (w .tables) (w .order) (w .stored) c
+pub trying-of : (w : Model) (c : Tried) → trialVerdict w c ≡ accepted → Trying (w .tables) (w .order) (w .index) (w .stored) c
 unfolding trialVerdict
 trying-of w c e =
     let k = trial-known w c e in let fits = each _ (require-held 1 0 (trialFits w c) _ e) .1 .1 .1 in let long = leb-true (c .asked) (length (c .askedVars)) (fits .0) in

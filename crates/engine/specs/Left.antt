@@ -2,6 +2,7 @@
 use Prim.Native.Nat.{ℕ}
 use mathlib.Core.List.{List}
 use lib.IntN.{ℤ}
+use Rattle.paper.specs.Tables.{indexIn}
 use Rattle.paper.specs.Calls.{Answer, Accepted, Refused, Session, BuildLeft, TrialLeft, KeepLeft}
 use Rattle.tables.specs.declared.Answer as code-answer
 use Rattle.tables.specs.declared.Answer.the-variants as code
@@ -17,14 +18,15 @@ answerIn (code.Refused number place) = Refused number place
 abbrev pub recordIn : code-session.Session → Session
 recordIn s = record { kept = s .kept; evaluations = s .evaluations }
 
--- by build: the answer, the record, and the three rows
-abbrev pub leftByBuild : Done → List ℕ → List ℕ → List ℤ → BuildLeft
-leftByBuild r numbers order stored = record {
+-- by build: the answer, the record, the three rows, and the index of readers
+abbrev pub leftByBuild : Done → List ℕ → List ℕ → List ℤ → List ℕ → List ℕ → BuildLeft
+leftByBuild r numbers order stored readerStarts readerPlaces = record {
   answer = answerIn (r .answer);
   session = recordIn (r .session);
   numbers = numbers;
   order = order;
   stored = stored;
+  index = indexIn readerStarts readerPlaces;
 }
 
 -- by trial: the answer, the record, and the three rows

@@ -26,8 +26,10 @@ pub fn build_core(
     numbers: &mut [u16],
     order: &mut [u16],
     stored: &mut [i32],
+    reader_starts: &mut [u16],
+    reader_places: &mut [u16],
 ) -> Done
-    ensures { λ r. ⌜ leftByBuild r (now (numbers .exit)) (now (order .exit)) (now (stored .exit)) ≡ build (toBuild (session .kept) (session .evaluations) n m e (now (kinds .entry)) (now (makes .entry)) (now (params .entry)) (now (firsts .entry)) (now (counts .entry)) (now (vars .entry)) (now (coefs .entry)) (now (starts .entry)) (now (numbers .entry)) (now (order .entry)) (now (stored .entry))) ⌝ }
+    ensures { λ r. ⌜ leftByBuild r (now (numbers .exit)) (now (order .exit)) (now (stored .exit)) (now («reader_starts» .exit)) (now («reader_places» .exit)) ≡ build (toBuild (session .kept) (session .evaluations) n m e (now (kinds .entry)) (now (makes .entry)) (now (params .entry)) (now (firsts .entry)) (now (counts .entry)) (now (vars .entry)) (now (coefs .entry)) (now (starts .entry)) (now (numbers .entry)) (now (order .entry)) (now (stored .entry)) (now («reader_starts» .entry)) (now («reader_places» .entry))) ⌝ }
 {
     let mut state = [0u16; 4096];
     let judged = judge_build(
@@ -45,6 +47,8 @@ pub fn build_core(
         numbers,
         order,
         stored,
+        reader_starts,
+        reader_places,
         &mut state,
     );
     let Answer::Accepted { .. } = judged else {
@@ -69,6 +73,8 @@ pub fn build_core(
         numbers,
         order,
         stored,
+        reader_starts,
+        reader_places,
     );
     let evaluations = m as u32;
     Done {

@@ -11,7 +11,7 @@ use crate::keeping::keep_core;
 use crate::trying::trial_core;
 use tables::Answer;
 
-// Build: numbers, order and values of a model whose tables and start values are lent.
+// Build: numbers, order, values and index of readers of a model whose tables and start values are lent.
 pub fn build(
     session: &mut Session,
     n: usize,
@@ -28,8 +28,10 @@ pub fn build(
     numbers: &mut [u16],
     order: &mut [u16],
     stored: &mut [i32],
+    reader_starts: &mut [u16],
+    reader_places: &mut [u16],
 ) -> Answer
-    ensures { λ r. ⌜ leftByBuild (record { answer = r; session = now (session .exit) }) (now (numbers .exit)) (now (order .exit)) (now (stored .exit)) ≡ built (toBuild (now (session .entry) .kept) (now (session .entry) .evaluations) n m e (now (kinds .entry)) (now (makes .entry)) (now (params .entry)) (now (firsts .entry)) (now (counts .entry)) (now (vars .entry)) (now (coefs .entry)) (now (starts .entry)) (now (numbers .entry)) (now (order .entry)) (now (stored .entry))) ⌝ }
+    ensures { λ r. ⌜ leftByBuild (record { answer = r; session = now (session .exit) }) (now (numbers .exit)) (now (order .exit)) (now (stored .exit)) (now («reader_starts» .exit)) (now («reader_places» .exit)) ≡ built (toBuild (now (session .entry) .kept) (now (session .entry) .evaluations) n m e (now (kinds .entry)) (now (makes .entry)) (now (params .entry)) (now (firsts .entry)) (now (counts .entry)) (now (vars .entry)) (now (coefs .entry)) (now (starts .entry)) (now (numbers .entry)) (now (order .entry)) (now (stored .entry)) (now («reader_starts» .entry)) (now («reader_places» .entry))) ⌝ }
 {
     let done = build_core(
         *session,
@@ -47,6 +49,8 @@ pub fn build(
         numbers,
         order,
         stored,
+        reader_starts,
+        reader_places,
     );
     set_counts(session, done.session.kept, done.session.evaluations);
     done.answer
@@ -68,8 +72,10 @@ pub fn build_new(
     numbers: &mut [u16],
     order: &mut [u16],
     stored: &mut [i32],
+    reader_starts: &mut [u16],
+    reader_places: &mut [u16],
 ) -> Done
-    ensures { λ r. ⌜ leftByBuild r (now (numbers .exit)) (now (order .exit)) (now (stored .exit)) ≡ built (toBuild 0 0 n m e (now (kinds .entry)) (now (makes .entry)) (now (params .entry)) (now (firsts .entry)) (now (counts .entry)) (now (vars .entry)) (now (coefs .entry)) (now (starts .entry)) (now (numbers .entry)) (now (order .entry)) (now (stored .entry))) ⌝ }
+    ensures { λ r. ⌜ leftByBuild r (now (numbers .exit)) (now (order .exit)) (now (stored .exit)) (now («reader_starts» .exit)) (now («reader_places» .exit)) ≡ built (toBuild 0 0 n m e (now (kinds .entry)) (now (makes .entry)) (now (params .entry)) (now (firsts .entry)) (now (counts .entry)) (now (vars .entry)) (now (coefs .entry)) (now (starts .entry)) (now (numbers .entry)) (now (order .entry)) (now (stored .entry)) (now («reader_starts» .entry)) (now («reader_places» .entry))) ⌝ }
 {
     let mut s = Session {
         kept: 0,
@@ -91,6 +97,8 @@ pub fn build_new(
         numbers,
         order,
         stored,
+        reader_starts,
+        reader_places,
     );
     Done {
         answer: answer,
@@ -114,6 +122,8 @@ pub fn trial(
     numbers: &[u16],
     order: &[u16],
     stored: &[i32],
+    reader_starts: &[u16],
+    reader_places: &[u16],
     pairs: usize,
     move_vars: &[u16],
     move_values: &[i32],
@@ -124,7 +134,7 @@ pub fn trial(
     trial: &mut [i32],
     flags: &mut [u8],
 ) -> Answer
-    ensures { λ r. ⌜ leftByTrial (record { answer = r; session = now (session .exit) }) (now (results .exit)) (now (trial .exit)) (now (flags .exit)) ≡ tried (recordIn (now (session .entry))) (toModel n m e (now (kinds .entry)) (now (makes .entry)) (now (params .entry)) (now (firsts .entry)) (now (counts .entry)) (now (vars .entry)) (now (coefs .entry)) (now (numbers .entry)) (now (order .entry)) (now (stored .entry))) (toTry pairs (now («move_vars» .entry)) (now («move_values» .entry)) asked (now («asked_vars» .entry)) route (now (results .entry)) (now (trial .entry)) (now (flags .entry))) ⌝ }
+    ensures { λ r. ⌜ leftByTrial (record { answer = r; session = now (session .exit) }) (now (results .exit)) (now (trial .exit)) (now (flags .exit)) ≡ tried (recordIn (now (session .entry))) (toModel n m e (now (kinds .entry)) (now (makes .entry)) (now (params .entry)) (now (firsts .entry)) (now (counts .entry)) (now (vars .entry)) (now (coefs .entry)) (now (numbers .entry)) (now (order .entry)) (now (stored .entry)) (now («reader_starts» .entry)) (now («reader_places» .entry))) (toTry pairs (now («move_vars» .entry)) (now («move_values» .entry)) asked (now («asked_vars» .entry)) route (now (results .entry)) (now (trial .entry)) (now (flags .entry))) ⌝ }
 {
     let done = trial_core(
         *session,
@@ -141,6 +151,8 @@ pub fn trial(
         numbers,
         order,
         stored,
+        reader_starts,
+        reader_places,
         pairs,
         move_vars,
         move_values,
@@ -171,12 +183,14 @@ pub fn keep(
     numbers: &[u16],
     order: &[u16],
     stored: &mut [i32],
+    reader_starts: &[u16],
+    reader_places: &[u16],
     pairs: usize,
     move_vars: &[u16],
     move_values: &[i32],
     flags: &mut [u8],
 ) -> Answer
-    ensures { λ r. ⌜ leftByKeep (record { answer = r; session = now (session .exit) }) (now (stored .exit)) (now (flags .exit)) ≡ kept (recordIn (now (session .entry))) (toModel n m e (now (kinds .entry)) (now (makes .entry)) (now (params .entry)) (now (firsts .entry)) (now (counts .entry)) (now (vars .entry)) (now (coefs .entry)) (now (numbers .entry)) (now (order .entry)) (now (stored .entry))) (toKeep pairs (now («move_vars» .entry)) (now («move_values» .entry)) (now (flags .entry))) ⌝ }
+    ensures { λ r. ⌜ leftByKeep (record { answer = r; session = now (session .exit) }) (now (stored .exit)) (now (flags .exit)) ≡ kept (recordIn (now (session .entry))) (toModel n m e (now (kinds .entry)) (now (makes .entry)) (now (params .entry)) (now (firsts .entry)) (now (counts .entry)) (now (vars .entry)) (now (coefs .entry)) (now (numbers .entry)) (now (order .entry)) (now (stored .entry)) (now («reader_starts» .entry)) (now («reader_places» .entry))) (toKeep pairs (now («move_vars» .entry)) (now («move_values» .entry)) (now (flags .entry))) ⌝ }
 {
     let done = keep_core(
         *session,
@@ -193,6 +207,8 @@ pub fn keep(
         numbers,
         order,
         stored,
+        reader_starts,
+        reader_places,
         pairs,
         move_vars,
         move_values,

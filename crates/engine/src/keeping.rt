@@ -26,12 +26,14 @@ pub fn keep_core(
     numbers: &[u16],
     order: &[u16],
     stored: &mut [i32],
+    reader_starts: &[u16],
+    reader_places: &[u16],
     pairs: usize,
     move_vars: &[u16],
     move_values: &[i32],
     flags: &mut [u8],
 ) -> Done
-    ensures { λ r. ⌜ leftByKeep r (now (stored .exit)) (now (flags .exit)) ≡ kept (recordIn session) (toModel n m e (now (kinds .entry)) (now (makes .entry)) (now (params .entry)) (now (firsts .entry)) (now (counts .entry)) (now (vars .entry)) (now (coefs .entry)) (now (numbers .entry)) (now (order .entry)) (now (stored .entry))) (toKeep pairs (now («move_vars» .entry)) (now («move_values» .entry)) (now (flags .entry))) ⌝ }
+    ensures { λ r. ⌜ leftByKeep r (now (stored .exit)) (now (flags .exit)) ≡ kept (recordIn session) (toModel n m e (now (kinds .entry)) (now (makes .entry)) (now (params .entry)) (now (firsts .entry)) (now (counts .entry)) (now (vars .entry)) (now (coefs .entry)) (now (numbers .entry)) (now (order .entry)) (now (stored .entry)) (now («reader_starts» .entry)) (now («reader_places» .entry))) (toKeep pairs (now («move_vars» .entry)) (now («move_values» .entry)) (now (flags .entry))) ⌝ }
 {
     let judged = judge_keep(
         n,
@@ -47,6 +49,8 @@ pub fn keep_core(
         numbers,
         order,
         stored,
+        reader_starts,
+        reader_places,
         pairs,
         move_vars,
         move_values,
@@ -71,6 +75,8 @@ pub fn keep_core(
         coefs,
         order,
         stored,
+        reader_starts,
+        reader_places,
         pairs,
         move_vars,
         move_values,

@@ -25,6 +25,8 @@ pub fn trial_core(
     numbers: &[u16],
     order: &[u16],
     stored: &[i32],
+    reader_starts: &[u16],
+    reader_places: &[u16],
     pairs: usize,
     move_vars: &[u16],
     move_values: &[i32],
@@ -35,7 +37,7 @@ pub fn trial_core(
     trial: &mut [i32],
     flags: &mut [u8],
 ) -> Done
-    ensures { λ r. ⌜ leftByTrial r (now (results .exit)) (now (trial .exit)) (now (flags .exit)) ≡ tried (recordIn session) (toModel n m e (now (kinds .entry)) (now (makes .entry)) (now (params .entry)) (now (firsts .entry)) (now (counts .entry)) (now (vars .entry)) (now (coefs .entry)) (now (numbers .entry)) (now (order .entry)) (now (stored .entry))) (toTry pairs (now («move_vars» .entry)) (now («move_values» .entry)) asked (now («asked_vars» .entry)) route (now (results .entry)) (now (trial .entry)) (now (flags .entry))) ⌝ }
+    ensures { λ r. ⌜ leftByTrial r (now (results .exit)) (now (trial .exit)) (now (flags .exit)) ≡ tried (recordIn session) (toModel n m e (now (kinds .entry)) (now (makes .entry)) (now (params .entry)) (now (firsts .entry)) (now (counts .entry)) (now (vars .entry)) (now (coefs .entry)) (now (numbers .entry)) (now (order .entry)) (now (stored .entry)) (now («reader_starts» .entry)) (now («reader_places» .entry))) (toTry pairs (now («move_vars» .entry)) (now («move_values» .entry)) asked (now («asked_vars» .entry)) route (now (results .entry)) (now (trial .entry)) (now (flags .entry))) ⌝ }
 {
     let judged = judge_trial(
         n,
@@ -51,6 +53,8 @@ pub fn trial_core(
         numbers,
         order,
         stored,
+        reader_starts,
+        reader_places,
         pairs,
         move_vars,
         move_values,
@@ -80,6 +84,8 @@ pub fn trial_core(
         coefs,
         order,
         stored,
+        reader_starts,
+        reader_places,
         pairs,
         move_vars,
         move_values,

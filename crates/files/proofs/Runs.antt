@@ -5,7 +5,8 @@ use mathlib.Core.List.{List, [], _∷_}
 use mathlib.Core.Path.{_≡_, refl, ap, sym, _∙_}
 use lib.ListN.{length}
 use lib.Seq.{sets, length-sets}
-use Rattle.paper.specs.File.{bytesOf, joined}
+use Rattle.paper.specs.Lists.{joined}
+use Rattle.paper.specs.File.{bytesOf}
 use Rattle.paper.proofs.Bytes.{go-on, turn}
 use Rattle.paper.proofs.Fields.{Field, packed, Follow, width-length}
 

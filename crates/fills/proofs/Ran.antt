@@ -1,30 +1,35 @@
 -- What a route leaves of a move, in the calls' words, whatever the route. Assumes nothing.
 use Prim.Native.Nat.{ℕ, _≤_, _<_}
+use native.Mathlib.Nat.{le-refl}
 use native.Mathlib.Omega.{arith}
-use mathlib.Core.Bool.{Bool, true, false, cond, _&&_, _||_}
-use mathlib.Core.List.{List}
+use mathlib.Core.Bool.{Bool, true, false, cond, not, _&&_, _||_}
+use mathlib.Core.List.{List, List·Memᴰ}
 use mathlib.Core.Path.{_≡_, refl, ap, sym, _∙_, fun-ext}
-use lib.Dec.{eqb, ltb}
+use lib.Dec.{eqb, leb, ltb}
 use lib.IntN.{ℤ, pos}
 use lib.ListN.{length, getD, take, List·getD-eq-default}
 use lib.Seq.{getD-take, length-take-le}
-use borrow.Author.Tests.{ltb-true, ltb-false}
-use Rattle.paper.specs.Lists.{nat, size, over}
-use Rattle.paper.specs.Net.{Values, Route, moved, names, live, new, works, evaluated}
-use Rattle.paper.specs.Tables.{Tables, net, isMade, valuesIn}
+use borrow.Author.Tests.{eqb-true, eq-eqb, le-leb, ltb-true, lt-ltb, ltb-false}
+use Rattle.integers.specs.Integers.{eqZ}
+use Rattle.integers.proofs.Order.{eqZ-self}
+use Rattle.paper.specs.Lists.{any, all, nat, size, over}
+use Rattle.paper.specs.Net.{Values, Route, moved, names, differs, live, new, works, evaluated}
+use Rattle.paper.specs.Tables.{Tables, Index, net, isMade, valuesIn}
 use Rattle.paper.specs.Checks.{movePairs}
 use Rattle.paper.specs.Calls.{newValues, evaluates, trialRow, flagRow, Kept}
-use Rattle.paper.proofs.Lists.{clash}
+use Rattle.paper.proofs.Lists.{clash, all-in, any-has, any-at}
+use Rattle.paper.proofs.Least.{firstFail-none}
 use Rattle.paper.proofs.Buffers.{over-length, over-at, over-over, over-same}
 use Rattle.paper.proofs.Count.{size-same}
 use Rattle.paper.proofs.Lawful.{lawful}
 use Rattle.paper.proofs.Fresh.{unnamed}
-use Rattle.routes.specs.Routed.{Begun, Routed}
+use Rattle.tables.proofs.Shapes.{all-first}
+use Rattle.routes.specs.Routed.{Begun, Named, Routed}
 use Rattle.fills.specs.Accepted.{Keeping}
 use Rattle.moves.proofs.Put.{not-named, low-named, moved-at}
 use Rattle.fills.proofs.Settled.{idle-new, all-new}
 
-module _ (t : Tables) (ord : List ℕ) (stored : List ℤ) (c : Kept) (k : Keeping t ord stored c) where
+module _ (t : Tables) (ord : List ℕ) (x : Index) (stored : List ℤ) (c : Kept) (k : Keeping t ord x stored c) where
   -- the pairs, the stored values, and these with the pairs put in
   abbrev mv : List (ℕ × ℤ)
   mv = movePairs (c .move)
@@ -41,6 +46,30 @@ module _ (t : Tables) (ord : List ℕ) (stored : List ℤ) (c : Kept) (k : Keepi
 
   made-same : (v : ℕ) → isMade t v ≡ true → put v ≡ old v
   made-same v e = unnamed mv old v (made-unnamed v e)
+
+  -- the variables that the pairs name
+  abbrev moves : List ℕ
+  moves = take (c .move .pairs) (c .move .vars)
+
+  pub moves-long : length moves ≡ c .move .pairs
+  moves-long = length-take-le (c .move .pairs) (c .move .vars) (k .pairs .in-vars)
+
+  moves-low : (v : ℕ) → List·Memᴰ v moves → v < t .n
+  moves-low v m = ltb-true v (t .n) (all-in low moves every m)
+    where
+      low : ℕ → Bool
+      low u = ltb u (t .n)
+
+      at : (i : ℕ) → i < length moves → low (nat moves i) ≡ true
+      at i h = let l : i < c .move .pairs = let e = moves-long in omega arith in ap low (getD-take (c .move .pairs) (c .move .vars) i 0 l) ∙ lt-ltb _ (t .n) (k .pairs .low i l)
+
+      every : all low moves ≡ true
+      every = all-first low moves ∙ ap (leb (length moves)) (sym (firstFail-none (λ i. low (nat moves i)) (length moves) at)) ∙ le-leb (length moves) (length moves) (le-refl (length moves))
+
+  -- and no pair names another
+  not-moved : (v : ℕ) → any (eqb v) moves ≡ false → names mv v ≡ false
+  not-moved v e = not-named (c .move) v (λ i l q. clash (eq-eqb v (nat (c .move .vars) i) (sym q))
+      (ap (eqb v) (sym (getD-take (c .move .pairs) (c .move .vars) i 0 l)) ∙ any-at (eqb v) moves e i 0 (let s = moves-long in omega arith)))
 
   -- ── a route begun over a row and the flags ──
   module _ (before trial : List ℤ) (flags : List ℕ) (room : t .n ≤ length before)
@@ -71,6 +100,15 @@ module _ (t : Tables) (ord : List ℕ) (stored : List ℤ) (c : Kept) (k : Keepi
       made = λ v e. ap (λ (f : Values). f v) begun-values ∙ made-same v e;
       clear = λ v l. ap (λ row. nat row v) cleared ∙ over-at (λ u. 0) (t .n) (c .flags) v 0 l;
     }
+
+    -- a variable that no pair names has its stored value
+    pub named : Named t stored trial moves
+    named = record { low = moves-low; moved = λ v l e. go v e (any (eqb v) moves) refl }
+      where
+        go : (v : ℕ) → differs (valuesIn t trial) old v ≡ true → (b : Bool) → any (eqb v) moves ≡ b → List·Memᴰ v moves
+        go v e true h = let (i, m, q) = any-has (eqb v) moves h in rw (eqb-true v i q) m
+        go v e false h =
+            clash e (ap (λ z. not (eqZ z (old v))) (ap (λ (f : Values). f v) begun-values ∙ unnamed mv old v (not-moved v h)) ∙ ap not (eqZ-self (old v)))
 
   -- ── and run ──
   module _ (r : Route) (asked : List ℕ) where

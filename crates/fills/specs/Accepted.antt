@@ -8,11 +8,12 @@ use lib.Dec.{ltb}
 use lib.IntN.{ℤ}
 use lib.ListN.{length}
 use Rattle.paper.specs.Lists.{all, nat}
-use Rattle.paper.specs.Tables.{Tables, isMade}
+use Rattle.paper.specs.Tables.{Tables, Index, indexIn, isMade}
 use Rattle.paper.specs.Checks.{accepted}
 use Rattle.paper.specs.Calls.{evaluationsOf, BuildLent, buildVerdict, Tried, TrialLeft, askedList, trialLeaves, Kept, KeepLeft, keepLeaves}
 use Rattle.order.specs.Formed.{bare}
 use Rattle.order.specs.Numbering.{Numbered}
+use Rattle.readers.specs.Index.{Indexed}
 use Rattle.routes.specs.Rows.{Along}
 use Rattle.moves.specs.Put.{PairsFit}
 
@@ -21,10 +22,11 @@ pub record Buildable (l : BuildLent) (state : List ℕ) : Type 0 where
   pub verdict : buildVerdict l ≡ accepted
   pub numbered : let t = l .tables in Numbered (bare (t .n) (t .m) (t .makes) (t .firsts) (t .counts) (t .vars)) state
 
-module _ (t : Tables) (ord : List ℕ) (stored : List ℤ) where
-  -- the model can be worked along its order, the move is one of its search variables, and the flags are lent
+module _ (t : Tables) (ord : List ℕ) (x : Index) (stored : List ℤ) where
+  -- the model can be worked along its order, with its index, the move is one of its search variables, and the flags are lent
   pub record Keeping (c : Kept) : Type 0 where
     pub along : Along t ord
+    pub indexed : Indexed t (x .starts) (x .places)
     pub in-stored : t .n ≤ length stored
     pub in-flags : t .n ≤ length (c .flags)
     pub pairs : PairsFit (t .n) (c .move)
@@ -41,10 +43,10 @@ module _ (t : Tables) (ord : List ℕ) (stored : List ℤ) where
 module _ (t : Tables) (stored : List ℤ) where
   -- what an accepted call leaves
   abbrev pub trialLeft : Tried → TrialLeft
-  trialLeft c = trialLeaves (record { tables = t; numbers = []; order = []; stored = stored }) c (record { kept = 0; evaluations = 0 }) accepted
+  trialLeft c = trialLeaves (record { tables = t; numbers = []; order = []; stored = stored; index = indexIn [] [] }) c (record { kept = 0; evaluations = 0 }) accepted
 
   abbrev pub keepLeft : Kept → KeepLeft
-  keepLeft c = keepLeaves (record { tables = t; numbers = []; order = []; stored = stored }) c (record { kept = 0; evaluations = 0 }) accepted
+  keepLeft c = keepLeaves (record { tables = t; numbers = []; order = []; stored = stored; index = indexIn [] [] }) c (record { kept = 0; evaluations = 0 }) accepted
 
   -- the count and the rows are what it leaves
   pub record TrialFilled (c : Tried) (count : ℕ) (results trial : List ℤ) (flags : List ℕ) : Type 0 where

@@ -1,5 +1,5 @@
 // What an accepted keep writes.
-ghost use Rattle.paper.specs.Tables.{lent};
+ghost use Rattle.paper.specs.Tables.{lent, indexIn};
 ghost use Rattle.judges.specs.Lent.{toKeep};
 ghost use Rattle.fills.specs.Accepted.{Keeping, KeepFilled};
 use moves::begin_route;
@@ -21,12 +21,14 @@ pub fn fill_keep(
     coefs: &[i16],
     order: &[u16],
     stored: &mut [i32],
+    reader_starts: &[u16],
+    reader_places: &[u16],
     pairs: usize,
     move_vars: &[u16],
     move_values: &[i32],
     flags: &mut [u8],
 ) -> u32
-    requires { ⌜ Keeping (lent n m e (now kinds) (now makes) (now params) (now firsts) (now counts) (now vars) (now coefs)) (now order) (now stored) (toKeep pairs (now «move_vars») (now «move_values») (now flags)) ⌝ }
+    requires { ⌜ Keeping (lent n m e (now kinds) (now makes) (now params) (now firsts) (now counts) (now vars) (now coefs)) (now order) (indexIn (now «reader_starts») (now «reader_places»)) (now stored) (toKeep pairs (now «move_vars») (now «move_values») (now flags)) ⌝ }
     ensures { λ r. ⌜ KeepFilled (lent n m e (now (kinds .entry)) (now (makes .entry)) (now (params .entry)) (now (firsts .entry)) (now (counts .entry)) (now (vars .entry)) (now (coefs .entry))) (now (stored .entry)) (toKeep pairs (now («move_vars» .entry)) (now («move_values» .entry)) (now (flags .entry))) r (now (stored .exit)) (now (flags .exit)) ⌝ }
 {
     let mut row = [0i32; 4096];
@@ -43,6 +45,9 @@ pub fn fill_keep(
         vars,
         coefs,
         order,
+        reader_starts,
+        reader_places,
+        &move_vars[..pairs],
         stored,
         &mut row,
         flags,

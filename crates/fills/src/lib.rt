@@ -1,4 +1,4 @@
-// What an accepted call writes: build its numbers, order and values, trial its rows by one of the three routes, keep the new stored values.
+// What an accepted call writes: build its numbers, order, index and values, trial its rows by one of the three routes, keep the new stored values.
 mod keep;
 mod model;
 mod trial;

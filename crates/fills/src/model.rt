@@ -1,5 +1,6 @@
 // What an accepted build writes.
 ghost use mathlib.Core.Path.{_≡_};
+ghost use Rattle.paper.specs.Tables.{indexIn};
 ghost use Rattle.paper.specs.Checks.{accepted};
 ghost use Rattle.paper.specs.Calls.{buildLeaves};
 ghost use Rattle.judges.specs.Lent.{toBuild};
@@ -7,9 +8,10 @@ ghost use Rattle.fills.specs.Accepted.{Buildable};
 use moves::copy_values;
 use order::write_numbers;
 use order::write_order;
+use readers::write_readers;
 use routes::work_out;
 
-// Writes the numbers, the order, and every value.
+// Writes the numbers, the order, the index of readers, and every value.
 pub fn fill_model(
     n: usize,
     m: usize,
@@ -26,14 +28,18 @@ pub fn fill_model(
     numbers: &mut [u16],
     order: &mut [u16],
     stored: &mut [i32],
+    reader_starts: &mut [u16],
+    reader_places: &mut [u16],
 )
-    requires { ⌜ Buildable (toBuild 0 0 n m e (now kinds) (now makes) (now params) (now firsts) (now counts) (now vars) (now coefs) (now starts) (now numbers) (now order) (now stored)) (now state) ⌝ }
-    ensures { λ _. ⌜ now (numbers .exit) ≡ buildLeaves (toBuild 0 0 n m e (now (kinds .entry)) (now (makes .entry)) (now (params .entry)) (now (firsts .entry)) (now (counts .entry)) (now (vars .entry)) (now (coefs .entry)) (now (starts .entry)) (now (numbers .entry)) (now (order .entry)) (now (stored .entry))) accepted .numbers ⌝ }
-    ensures { λ _. ⌜ now (order .exit) ≡ buildLeaves (toBuild 0 0 n m e (now (kinds .entry)) (now (makes .entry)) (now (params .entry)) (now (firsts .entry)) (now (counts .entry)) (now (vars .entry)) (now (coefs .entry)) (now (starts .entry)) (now (numbers .entry)) (now (order .entry)) (now (stored .entry))) accepted .order ⌝ }
-    ensures { λ _. ⌜ now (stored .exit) ≡ buildLeaves (toBuild 0 0 n m e (now (kinds .entry)) (now (makes .entry)) (now (params .entry)) (now (firsts .entry)) (now (counts .entry)) (now (vars .entry)) (now (coefs .entry)) (now (starts .entry)) (now (numbers .entry)) (now (order .entry)) (now (stored .entry))) accepted .stored ⌝ }
+    requires { ⌜ Buildable (toBuild 0 0 n m e (now kinds) (now makes) (now params) (now firsts) (now counts) (now vars) (now coefs) (now starts) (now numbers) (now order) (now stored) (now «reader_starts») (now «reader_places»)) (now state) ⌝ }
+    ensures { λ _. ⌜ now (numbers .exit) ≡ buildLeaves (toBuild 0 0 n m e (now (kinds .entry)) (now (makes .entry)) (now (params .entry)) (now (firsts .entry)) (now (counts .entry)) (now (vars .entry)) (now (coefs .entry)) (now (starts .entry)) (now (numbers .entry)) (now (order .entry)) (now (stored .entry)) (now («reader_starts» .entry)) (now («reader_places» .entry))) accepted .numbers ⌝ }
+    ensures { λ _. ⌜ now (order .exit) ≡ buildLeaves (toBuild 0 0 n m e (now (kinds .entry)) (now (makes .entry)) (now (params .entry)) (now (firsts .entry)) (now (counts .entry)) (now (vars .entry)) (now (coefs .entry)) (now (starts .entry)) (now (numbers .entry)) (now (order .entry)) (now (stored .entry)) (now («reader_starts» .entry)) (now («reader_places» .entry))) accepted .order ⌝ }
+    ensures { λ _. ⌜ now (stored .exit) ≡ buildLeaves (toBuild 0 0 n m e (now (kinds .entry)) (now (makes .entry)) (now (params .entry)) (now (firsts .entry)) (now (counts .entry)) (now (vars .entry)) (now (coefs .entry)) (now (starts .entry)) (now (numbers .entry)) (now (order .entry)) (now (stored .entry)) (now («reader_starts» .entry)) (now («reader_places» .entry))) accepted .stored ⌝ }
+    ensures { λ _. ⌜ indexIn (now («reader_starts» .exit)) (now («reader_places» .exit)) ≡ buildLeaves (toBuild 0 0 n m e (now (kinds .entry)) (now (makes .entry)) (now (params .entry)) (now (firsts .entry)) (now (counts .entry)) (now (vars .entry)) (now (coefs .entry)) (now (starts .entry)) (now (numbers .entry)) (now (order .entry)) (now (stored .entry)) (now («reader_starts» .entry)) (now («reader_places» .entry))) accepted .index ⌝ }
 {
     write_numbers(n, m, makes, firsts, counts, vars, state, numbers);
     write_order(n, m, makes, firsts, counts, vars, state, order);
+    write_readers(n, m, e, firsts, counts, vars, reader_starts, reader_places);
     copy_values(n, starts, stored);
     work_out(
         n,

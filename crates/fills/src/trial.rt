@@ -3,10 +3,11 @@ ghost use mathlib.Core.Bool.{true};
 ghost use mathlib.Core.Path.{_≡_};
 ghost use lib.Dec.{ltb};
 ghost use Rattle.paper.specs.Lists.{all};
-ghost use Rattle.paper.specs.Tables.{lent};
+ghost use Rattle.paper.specs.Tables.{lent, indexIn};
 ghost use Rattle.paper.specs.Calls.{routeOf};
 ghost use Rattle.routes.specs.Rows.{Along};
-ghost use Rattle.routes.specs.Routed.{Begun, Routed};
+ghost use Rattle.readers.specs.Index.{Indexed};
+ghost use Rattle.routes.specs.Routed.{Begun, Named, Routed};
 ghost use Rattle.judges.specs.Lent.{toTry};
 ghost use Rattle.fills.specs.Accepted.{Trying, TrialFilled};
 use moves::begin_route;
@@ -29,6 +30,9 @@ fn run_route(
     vars: &[u16],
     coefs: &[i16],
     order: &[u16],
+    reader_starts: &[u16],
+    reader_places: &[u16],
+    moves: &[u16],
     stored: &[i32],
     asked: &[u16],
     route: u32,
@@ -36,6 +40,8 @@ fn run_route(
     flags: &mut [u8],
 )
     requires along { ⌜ Along (lent n m e (now kinds) (now makes) (now params) (now firsts) (now counts) (now vars) (now coefs)) (now order) ⌝ }
+    requires index { ⌜ Indexed (lent n m e (now kinds) (now makes) (now params) (now firsts) (now counts) (now vars) (now coefs)) (now «reader_starts») (now «reader_places») ⌝ }
+    requires named { ⌜ Named (lent n m e (now kinds) (now makes) (now params) (now firsts) (now counts) (now vars) (now coefs)) (now stored) (now trial) (now moves) ⌝ }
     requires begun { ⌜ Begun (lent n m e (now kinds) (now makes) (now params) (now firsts) (now counts) (now vars) (now coefs)) (now stored) (now trial) (now flags) ⌝ }
     requires asked { ⌜ all (λ v. ltb v n) (now asked) ≡ true ⌝ }
     ensures { λ _. ⌜ Routed (lent n m e (now (kinds .entry)) (now (makes .entry)) (now (params .entry)) (now (firsts .entry)) (now (counts .entry)) (now (vars .entry)) (now (coefs .entry))) (routeOf route) (now (stored .entry)) (now (trial .entry)) (now (flags .entry)) (now (asked .entry)) (now (trial .exit)) (now (flags .exit)) ⌝ }
@@ -53,6 +59,9 @@ fn run_route(
             vars,
             coefs,
             order,
+            reader_starts,
+            reader_places,
+            moves,
             stored,
             trial,
             flags,
@@ -84,6 +93,9 @@ fn run_route(
             counts,
             vars,
             coefs,
+            reader_starts,
+            reader_places,
+            moves,
             asked,
             stored,
             trial,
@@ -106,6 +118,8 @@ pub fn fill_trial(
     coefs: &[i16],
     order: &[u16],
     stored: &[i32],
+    reader_starts: &[u16],
+    reader_places: &[u16],
     pairs: usize,
     move_vars: &[u16],
     move_values: &[i32],
@@ -116,7 +130,7 @@ pub fn fill_trial(
     trial: &mut [i32],
     flags: &mut [u8],
 ) -> u32
-    requires { ⌜ Trying (lent n m e (now kinds) (now makes) (now params) (now firsts) (now counts) (now vars) (now coefs)) (now order) (now stored) (toTry pairs (now «move_vars») (now «move_values») asked (now «asked_vars») route (now results) (now trial) (now flags)) ⌝ }
+    requires { ⌜ Trying (lent n m e (now kinds) (now makes) (now params) (now firsts) (now counts) (now vars) (now coefs)) (now order) (indexIn (now «reader_starts») (now «reader_places»)) (now stored) (toTry pairs (now «move_vars») (now «move_values») asked (now «asked_vars») route (now results) (now trial) (now flags)) ⌝ }
     ensures { λ r. ⌜ TrialFilled (lent n m e (now (kinds .entry)) (now (makes .entry)) (now (params .entry)) (now (firsts .entry)) (now (counts .entry)) (now (vars .entry)) (now (coefs .entry))) (now (stored .entry)) (toTry pairs (now («move_vars» .entry)) (now («move_values» .entry)) asked (now («asked_vars» .entry)) route (now (results .entry)) (now (trial .entry)) (now (flags .entry))) r (now (results .exit)) (now (trial .exit)) (now (flags .exit)) ⌝ }
 {
     begin_route(n, stored, pairs, move_vars, move_values, trial, flags);
@@ -133,6 +147,9 @@ pub fn fill_trial(
         vars,
         coefs,
         order,
+        reader_starts,
+        reader_places,
+        &move_vars[..pairs],
         stored,
         wanted,
         route,

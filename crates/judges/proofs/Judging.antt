@@ -1,5 +1,5 @@
 -- How build's verdict comes out, check by check: it is the first refusal, and acceptance if there is none. Assumes nothing.
-use Prim.Native.Nat.{ℕ, _≤_, _<_}
+use Prim.Native.Nat.{ℕ, suc, _≤_, _<_}
 use mathlib.Core.Bool.{true, false}
 use mathlib.Core.Path.{_≡_, refl, ap, sym, _∙_}
 use mathlib.Core.List.{List}
@@ -16,6 +16,7 @@ use Rattle.paper.proofs.Sizes.{Sized, sized-facts}
 use Rattle.tables.specs.Answers.{answerOf}
 use Rattle.tables.specs.declared.Answer.{Answer}
 use Rattle.tables.specs.declared.Answer.the-variants.{Refused}
+use Rattle.judges.proofs.Lengths.{index-long}
 use Rattle.judges.specs.Judged.{BuildJudged}
 
 module _ (l : BuildLent) where
@@ -27,7 +28,7 @@ module _ (l : BuildLent) where
   fromSix = check 6 (t .n) (ends t) (check 7 (t .n) (startGood t (startValues l)) accepted)
 
   -- the record plays no part
-  pub any-session : (s : Session) → buildVerdict l ≡ buildVerdict (record { session = s; tables = t; starts = l .starts; numbers = l .numbers; order = l .order; stored = l .stored })
+  pub any-session : (s : Session) → buildVerdict l ≡ buildVerdict (record { session = s; tables = t; starts = l .starts; numbers = l .numbers; order = l .order; stored = l .stored; index = l .index })
   unfolding buildVerdict
   any-session s = refl
 
@@ -41,11 +42,21 @@ module _ (l : BuildLent) where
     pub numbers : t .n ≤ length (l .numbers)
     pub order : t .m ≤ length (l .order)
     pub stored : t .n ≤ length (l .stored)
+    pub index-starts : suc (t .n) ≤ length (l .index .starts)
+    pub index-places : t .e ≤ length (l .index .places)
 
   pub fitting : buildFits l ≡ true → Fitting
   fitting h =
       let long = each _ (and-right (sized t) _ h) in
-      record { held = sized-facts t (and-left (sized t) _ h); starts = leb-true _ _ (long .0); numbers = leb-true _ _ (long .1 .0); order = leb-true _ _ (long .1 .1 .0); stored = leb-true _ _ (long .1 .1 .1 .0) }
+      record {
+        held = sized-facts t (and-left (sized t) _ h);
+        starts = leb-true _ _ (long .0);
+        numbers = leb-true _ _ (long .1 .0);
+        order = leb-true _ _ (long .1 .1 .0);
+        stored = leb-true _ _ (long .1 .1 .1 .0);
+        index-starts = index-long t (l .index) (long .1 .1 .1 .1 .0) .0;
+        index-places = index-long t (l .index) (long .1 .1 .1 .1 .0) .1;
+      }
 
   pub stops-1 : buildFits l ≡ false → buildVerdict l ≡ refused 1 0
   unfolding buildVerdict

@@ -1,6 +1,6 @@
 -- How the verdicts of trial and keep come out, check by check: the checks of the model are the same for both, and where they accept the rest
 -- decides. Assumes nothing.
-use Prim.Native.Nat.{ℕ, _≤_, _<_}
+use Prim.Native.Nat.{ℕ, suc, _≤_, _<_}
 use mathlib.Core.Bool.{Bool, true, false}
 use mathlib.Core.Path.{_≡_, refl, ap, sym, _∙_}
 use mathlib.Core.List.{List}
@@ -10,7 +10,7 @@ use borrow.Author.Tests.{leb-true}
 use Rattle.paper.proofs.Lists.{and-left, and-right, each}
 use Rattle.paper.specs.Lists.{nat, between, firstFail}
 use Rattle.paper.specs.Tables.{Tables}
-use Rattle.paper.specs.Checks.{Verdict, accepted, refused, check, require, sized, tableChecks, numbered, storedGood, moveFits, moveChecks, Move, Sound}
+use Rattle.paper.specs.Checks.{Verdict, accepted, refused, check, require, sized, tableChecks, numbered, indexed, storedGood, moveFits, moveChecks, Move, Sound}
 use Rattle.paper.specs.Calls.{Model, Tried, modelFits, storedValues, modelChecks}
 use Rattle.paper.proofs.Verdicts.{andThen, Chain, chain-after, check-then, require-then, refused-not, require-stops, require-next, check-stops, check-passes, Past}
 use Rattle.paper.proofs.Accept.{tables-next, tables-then}
@@ -22,6 +22,7 @@ use Rattle.tables.specs.declared.Answer.the-variants.{Accepted, Refused}
 use Rattle.tables.proofs.Judged.{accepted-is, refused-is}
 use Rattle.moves.specs.Moves.{OfMakers}
 use Rattle.moves.proofs.Judged.{move-then}
+use Rattle.judges.proofs.Lengths.{index-long}
 use Rattle.judges.specs.Judged.{ModelJudged, askChecks}
 
 -- ── an answer, and the checks that come next ──
@@ -48,8 +49,11 @@ module _ (w : Model) where
   abbrev seven : ℕ → Bool
   seven = storedGood t (storedValues w)
 
+  abbrev eightToo : Bool
+  eightToo = indexed t (w .index)
+
   abbrev fromEight : Verdict → Verdict
-  fromEight next = require 8 0 eight (check 7 (t .n) seven next)
+  fromEight next = require 8 0 eight (require 8 0 eightToo (check 7 (t .n) seven next))
 
   -- the buffers, as check 1 leaves them
   pub record ModelFitting : Type 0 where
@@ -57,11 +61,20 @@ module _ (w : Model) where
     pub numbers : t .n ≤ length (w .numbers)
     pub order : t .m ≤ length (w .order)
     pub stored : t .n ≤ length (w .stored)
+    pub starts : suc (t .n) ≤ length (w .index .starts)
+    pub places : t .e ≤ length (w .index .places)
 
   pub model-fitting : modelFits w ≡ true → ModelFitting
   model-fitting h =
       let long = each _ (and-right (sized t) _ h) in
-      record { held = sized-facts t (and-left (sized t) _ h); numbers = leb-true _ _ (long .0); order = leb-true _ _ (long .1 .0); stored = leb-true _ _ (long .1 .1 .0) }
+      record {
+        held = sized-facts t (and-left (sized t) _ h);
+        numbers = leb-true _ _ (long .0);
+        order = leb-true _ _ (long .1 .0);
+        stored = leb-true _ _ (long .1 .1 .0);
+        starts = index-long t (w .index) (long .1 .1 .1 .0) .0;
+        places = index-long t (w .index) (long .1 .1 .1 .0) .1;
+      }
 
   pub model-refused : (by : List ℕ) (r : Answer) (number place : ℕ) → r ≡ Refused number place → modelChecks w accepted ≡ refused number place → ModelJudged w by r
   model-refused by r number place e h = record { verdict = e ∙ ap (answerOf 0) (sym h); makers = λ a. refused-not (sym h ∙ a) }
@@ -75,17 +88,22 @@ module _ (w : Model) where
     stops-8 h = tables-next t s _ ∙ require-stops 8 0 eight _ h
 
     module _ (past₈ : eight ≡ true) where
-      late : modelChecks w accepted ≡ check 7 (t .n) seven accepted
-      late = tables-next t s _ ∙ require-next 8 0 eight _ past₈
+      pub stops-index : eightToo ≡ false → modelChecks w accepted ≡ refused 8 0
+      stops-index h = tables-next t s _ ∙ require-next 8 0 eight _ past₈ ∙ require-stops 8 0 eightToo _ h
 
-      pub stops-7 : (v : ℕ) → v ≡ firstFail seven (t .n) → v < t .n → modelChecks w accepted ≡ refused 7 v
-      stops-7 v e h = late ∙ check-stops 7 (t .n) seven accepted v e h
+      module _ (indexed₈ : eightToo ≡ true) where
+        late : modelChecks w accepted ≡ check 7 (t .n) seven accepted
+        late = tables-next t s _ ∙ require-next 8 0 eight _ past₈ ∙ require-next 8 0 eightToo _ indexed₈
 
-      pub passes : (v : ℕ) → Past seven (t .n) v → modelChecks w accepted ≡ accepted
-      passes v p = late ∙ check-passes 7 (t .n) seven accepted v p
+        pub stops-7 : (v : ℕ) → v ≡ firstFail seven (t .n) → v < t .n → modelChecks w accepted ≡ refused 7 v
+        stops-7 v e h = late ∙ check-stops 7 (t .n) seven accepted v e h
+
+        pub passes : (v : ℕ) → Past seven (t .n) v → modelChecks w accepted ≡ accepted
+        passes v p = late ∙ check-passes 7 (t .n) seven accepted v p
 
   model-then : Chain (modelChecks w)
-  model-then = chain-after (tableChecks t) fromEight (tables-then t) (chain-after (require 8 0 eight) (check 7 (t .n) seven) (require-then 8 0 eight) (check-then 7 (t .n) seven))
+  model-then = chain-after (tableChecks t) fromEight (tables-then t) (chain-after (require 8 0 eight) (λ next. require 8 0 eightToo (check 7 (t .n) seven next)) (require-then 8 0 eight)
+      (chain-after (require 8 0 eightToo) (check 7 (t .n) seven) (require-then 8 0 eightToo) (check-then 7 (t .n) seven)))
 
   -- accepted: the row holds the makers
   module _ (by : List ℕ) (r : Answer) (judged : ModelJudged w by r) (j : ℕ) (e : r ≡ Accepted j) where

@@ -1,25 +1,33 @@
 -- Check 1 as a program tests it, one test after another. Assumes nothing.
+use Prim.Native.Nat.{suc, _≤_}
 use mathlib.Core.Bool.{Bool, true, false, _&&_}
-use mathlib.Core.List.{[], _∷_}
-use mathlib.Core.Path.{_≡_, refl}
+use mathlib.Core.List.{List, _∷_}
+use mathlib.Core.Path.{_≡_, refl, ap, _∙_}
+use lib.Dec.{leb}
+use lib.ListN.{length}
+use borrow.Author.Tests.{leb-true}
 use Rattle.paper.specs.Lists.{every}
+use Rattle.paper.specs.Tables.{Tables, Index}
+use Rattle.paper.specs.Calls.{indexFits}
+use Rattle.paper.proofs.Lists.{and-left, and-right}
+use Rattle.tables.proofs.Tests.{joined, joined-every}
 
-pub four : (s a b c d : Bool) → (s && a && b && c && d) ≡ (s && every (a ∷ b ∷ c ∷ d ∷ []))
+-- the tables, and then the tests that the paper lists
+pub tests : (s : Bool) (bs : List Bool) → joined s bs ≡ (s && every bs)
 unfolding every
-four false a b c d = refl
-four true false b c d = refl
-four true true false c d = refl
-four true true true false d = refl
-four true true true true true = refl
-four true true true true false = refl
+tests s bs = joined-every s bs
 
--- the test that is made first stands last in the paper's list
-pub three : (s a b c : Bool) → (s && c && a && b) ≡ (s && every (a ∷ b ∷ c ∷ []))
+turned : (a b c : Bool) (bs : List Bool) → every (c ∷ a ∷ b ∷ bs) ≡ every (a ∷ b ∷ c ∷ bs)
 unfolding every
-three false a b c = refl
-three true false b false = refl
-three true false b true = refl
-three true true false false = refl
-three true true false true = refl
-three true true true false = refl
-three true true true true = refl
+turned a b true bs = refl
+turned false b false bs = refl
+turned true false false bs = refl
+turned true true false bs = refl
+
+-- the test that is made first stands third in the paper's list
+pub third-first : (s a b c : Bool) (bs : List Bool) → joined s (c ∷ a ∷ b ∷ bs) ≡ (s && every (a ∷ b ∷ c ∷ bs))
+third-first s a b c bs = tests s (c ∷ a ∷ b ∷ bs) ∙ ap (s &&_) (turned a b c bs)
+
+-- the index, as check 1 leaves it
+pub index-long : (t : Tables) (x : Index) → indexFits t x ≡ true → (suc (t .n) ≤ length (x .starts)) × (t .e ≤ length (x .places))
+index-long t x h = (leb-true _ _ (and-left _ _ h), leb-true _ _ (and-right (leb (suc (t .n)) (length (x .starts))) _ h))

@@ -2,24 +2,25 @@
 use Prim.Native.Nat.{ℕ}
 use mathlib.Core.List.{List}
 use lib.IntN.{ℤ}
-use Rattle.paper.specs.Tables.{lent}
+use Rattle.paper.specs.Tables.{lent, indexIn}
 use Rattle.paper.specs.Calls.{BuildLent, Model, Tried, Kept}
 
 -- to build: the record's two counters, the tables, start values, and the rows to fill
-abbrev pub toBuild : ℕ → ℕ → ℕ → ℕ → ℕ → List ℕ → List ℕ → List ℤ → List ℕ → List ℕ → List ℕ → List ℤ → List ℤ → List ℕ → List ℕ → List ℤ → BuildLent
-toBuild kept evaluations n m e kinds makes params firsts counts vars coefs starts numbers order stored = record {
+abbrev pub toBuild : ℕ → ℕ → ℕ → ℕ → ℕ → List ℕ → List ℕ → List ℤ → List ℕ → List ℕ → List ℕ → List ℤ → List ℤ → List ℕ → List ℕ → List ℤ → List ℕ → List ℕ → BuildLent
+toBuild kept evaluations n m e kinds makes params firsts counts vars coefs starts numbers order stored readerStarts readerPlaces = record {
   session = record { kept = kept; evaluations = evaluations };
   tables = lent n m e kinds makes params firsts counts vars coefs;
   starts = starts;
   numbers = numbers;
   order = order;
   stored = stored;
+  index = indexIn readerStarts readerPlaces;
 }
 
 -- to trial and keep: the model
-abbrev pub toModel : ℕ → ℕ → ℕ → List ℕ → List ℕ → List ℤ → List ℕ → List ℕ → List ℕ → List ℤ → List ℕ → List ℕ → List ℤ → Model
-toModel n m e kinds makes params firsts counts vars coefs numbers order stored =
-    record { tables = lent n m e kinds makes params firsts counts vars coefs; numbers = numbers; order = order; stored = stored }
+abbrev pub toModel : ℕ → ℕ → ℕ → List ℕ → List ℕ → List ℤ → List ℕ → List ℕ → List ℕ → List ℤ → List ℕ → List ℕ → List ℤ → List ℕ → List ℕ → Model
+toModel n m e kinds makes params firsts counts vars coefs numbers order stored readerStarts readerPlaces =
+    record { tables = lent n m e kinds makes params firsts counts vars coefs; numbers = numbers; order = order; stored = stored; index = indexIn readerStarts readerPlaces }
 
 -- to trial beside it: the move, what is asked, the route, and the rows to fill
 abbrev pub toTry : ℕ → List ℕ → List ℤ → ℕ → List ℕ → ℕ → List ℤ → List ℤ → List ℕ → Tried

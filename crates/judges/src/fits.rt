@@ -1,9 +1,20 @@
 // Check 1 of each call: the counts within their bounds, and every lent buffer as long as they ask.
+ghost use Prim.Native.Nat.{suc};
+ghost use mathlib.Core.Bool.{_&&_};
 ghost use mathlib.Core.Path.{_≡_};
+ghost use lib.Dec.{leb};
+ghost use lib.ListN.{length};
 ghost use Rattle.paper.specs.Calls.{buildFits, modelFits, trialFits, keepFits};
 ghost use Rattle.judges.specs.Lent.{toBuild, toModel, toTry, toKeep};
 use moves::move_sizes;
 use tables::sizes;
+
+// Check 1 of the index: room for n + 1 starts and a place of every entry.
+fn index_fits(n: usize, e: usize, reader_starts: &[u16], reader_places: &[u16]) -> bool
+    ensures { λ r. ⌜ r ≡ (leb (suc n) (length (now («reader_starts» .entry))) && leb e (length (now («reader_places» .entry)))) ⌝ }
+{
+    (n < reader_starts.len()) & (e <= reader_places.len())
+}
 
 // Check 1 of build.
 pub fn build_fits(
@@ -21,8 +32,10 @@ pub fn build_fits(
     numbers: &[u16],
     order: &[u16],
     stored: &[i32],
+    reader_starts: &[u16],
+    reader_places: &[u16],
 ) -> bool
-    ensures { λ r. ⌜ r ≡ buildFits (toBuild 0 0 n m e (now (kinds .entry)) (now (makes .entry)) (now (params .entry)) (now (firsts .entry)) (now (counts .entry)) (now (vars .entry)) (now (coefs .entry)) (now (starts .entry)) (now (numbers .entry)) (now (order .entry)) (now (stored .entry))) ⌝ }
+    ensures { λ r. ⌜ r ≡ buildFits (toBuild 0 0 n m e (now (kinds .entry)) (now (makes .entry)) (now (params .entry)) (now (firsts .entry)) (now (counts .entry)) (now (vars .entry)) (now (coefs .entry)) (now (starts .entry)) (now (numbers .entry)) (now (order .entry)) (now (stored .entry)) (now («reader_starts» .entry)) (now («reader_places» .entry))) ⌝ }
 {
     sizes(
         n,
@@ -40,6 +53,7 @@ pub fn build_fits(
         & (n <= numbers.len())
         & (m <= order.len())
         & (n <= stored.len())
+        & index_fits(n, e, reader_starts, reader_places)
 }
 
 // Check 1 of the model that trial and keep are lent.
@@ -57,8 +71,10 @@ fn model_fits(
     numbers: &[u16],
     order: &[u16],
     stored: &[i32],
+    reader_starts: &[u16],
+    reader_places: &[u16],
 ) -> bool
-    ensures { λ r. ⌜ r ≡ modelFits (toModel n m e (now (kinds .entry)) (now (makes .entry)) (now (params .entry)) (now (firsts .entry)) (now (counts .entry)) (now (vars .entry)) (now (coefs .entry)) (now (numbers .entry)) (now (order .entry)) (now (stored .entry))) ⌝ }
+    ensures { λ r. ⌜ r ≡ modelFits (toModel n m e (now (kinds .entry)) (now (makes .entry)) (now (params .entry)) (now (firsts .entry)) (now (counts .entry)) (now (vars .entry)) (now (coefs .entry)) (now (numbers .entry)) (now (order .entry)) (now (stored .entry)) (now («reader_starts» .entry)) (now («reader_places» .entry))) ⌝ }
 {
     sizes(
         n,
@@ -75,6 +91,7 @@ fn model_fits(
     )
         & (n <= numbers.len())
         & (m <= order.len())
+        & index_fits(n, e, reader_starts, reader_places)
 }
 
 // Check 1 of trial.
@@ -92,6 +109,8 @@ pub fn trial_fits(
     numbers: &[u16],
     order: &[u16],
     stored: &[i32],
+    reader_starts: &[u16],
+    reader_places: &[u16],
     pairs: usize,
     move_vars: &[u16],
     move_values: &[i32],
@@ -102,7 +121,7 @@ pub fn trial_fits(
     trial: &[i32],
     flags: &[u8],
 ) -> bool
-    ensures { λ r. ⌜ r ≡ trialFits (toModel n m e (now (kinds .entry)) (now (makes .entry)) (now (params .entry)) (now (firsts .entry)) (now (counts .entry)) (now (vars .entry)) (now (coefs .entry)) (now (numbers .entry)) (now (order .entry)) (now (stored .entry))) (toTry pairs (now («move_vars» .entry)) (now («move_values» .entry)) asked (now («asked_vars» .entry)) route (now (results .entry)) (now (trial .entry)) (now (flags .entry))) ⌝ }
+    ensures { λ r. ⌜ r ≡ trialFits (toModel n m e (now (kinds .entry)) (now (makes .entry)) (now (params .entry)) (now (firsts .entry)) (now (counts .entry)) (now (vars .entry)) (now (coefs .entry)) (now (numbers .entry)) (now (order .entry)) (now (stored .entry)) (now («reader_starts» .entry)) (now («reader_places» .entry))) (toTry pairs (now («move_vars» .entry)) (now («move_values» .entry)) asked (now («asked_vars» .entry)) route (now (results .entry)) (now (trial .entry)) (now (flags .entry))) ⌝ }
 {
     model_fits(
         n,
@@ -118,6 +137,8 @@ pub fn trial_fits(
         numbers,
         order,
         stored,
+        reader_starts,
+        reader_places,
     )
         & move_sizes(pairs, move_vars, move_values)
         & (asked <= 32)
@@ -142,12 +163,14 @@ pub fn keep_fits(
     numbers: &[u16],
     order: &[u16],
     stored: &[i32],
+    reader_starts: &[u16],
+    reader_places: &[u16],
     pairs: usize,
     move_vars: &[u16],
     move_values: &[i32],
     flags: &[u8],
 ) -> bool
-    ensures { λ r. ⌜ r ≡ keepFits (toModel n m e (now (kinds .entry)) (now (makes .entry)) (now (params .entry)) (now (firsts .entry)) (now (counts .entry)) (now (vars .entry)) (now (coefs .entry)) (now (numbers .entry)) (now (order .entry)) (now (stored .entry))) (toKeep pairs (now («move_vars» .entry)) (now («move_values» .entry)) (now (flags .entry))) ⌝ }
+    ensures { λ r. ⌜ r ≡ keepFits (toModel n m e (now (kinds .entry)) (now (makes .entry)) (now (params .entry)) (now (firsts .entry)) (now (counts .entry)) (now (vars .entry)) (now (coefs .entry)) (now (numbers .entry)) (now (order .entry)) (now (stored .entry)) (now («reader_starts» .entry)) (now («reader_places» .entry))) (toKeep pairs (now («move_vars» .entry)) (now («move_values» .entry)) (now (flags .entry))) ⌝ }
 {
     model_fits(
         n,
@@ -163,6 +186,8 @@ pub fn keep_fits(
         numbers,
         order,
         stored,
+        reader_starts,
+        reader_places,
     )
         & move_sizes(pairs, move_vars, move_values)
         & (n <= flags.len())

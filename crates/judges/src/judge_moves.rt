@@ -60,6 +60,8 @@ pub fn judge_trial(
     numbers: &[u16],
     order: &[u16],
     stored: &[i32],
+    reader_starts: &[u16],
+    reader_places: &[u16],
     pairs: usize,
     move_vars: &[u16],
     move_values: &[i32],
@@ -70,7 +72,7 @@ pub fn judge_trial(
     trial: &[i32],
     flags: &[u8],
 ) -> Answer
-    ensures { λ r. ⌜ r ≡ answerOf 0 (trialVerdict (toModel n m e (now (kinds .entry)) (now (makes .entry)) (now (params .entry)) (now (firsts .entry)) (now (counts .entry)) (now (vars .entry)) (now (coefs .entry)) (now (numbers .entry)) (now (order .entry)) (now (stored .entry))) (toTry pairs (now («move_vars» .entry)) (now («move_values» .entry)) asked (now («asked_vars» .entry)) route (now (results .entry)) (now (trial .entry)) (now (flags .entry)))) ⌝ }
+    ensures { λ r. ⌜ r ≡ answerOf 0 (trialVerdict (toModel n m e (now (kinds .entry)) (now (makes .entry)) (now (params .entry)) (now (firsts .entry)) (now (counts .entry)) (now (vars .entry)) (now (coefs .entry)) (now (numbers .entry)) (now (order .entry)) (now (stored .entry)) (now («reader_starts» .entry)) (now («reader_places» .entry))) (toTry pairs (now («move_vars» .entry)) (now («move_values» .entry)) asked (now («asked_vars» .entry)) route (now (results .entry)) (now (trial .entry)) (now (flags .entry)))) ⌝ }
 {
     if !trial_fits(
         n,
@@ -86,6 +88,8 @@ pub fn judge_trial(
         numbers,
         order,
         stored,
+        reader_starts,
+        reader_places,
         pairs,
         move_vars,
         move_values,
@@ -113,6 +117,8 @@ pub fn judge_trial(
         numbers,
         order,
         stored,
+        reader_starts,
+        reader_places,
         &mut by,
     );
     let Answer::Accepted { .. } = checked else {
@@ -145,12 +151,14 @@ pub fn judge_keep(
     numbers: &[u16],
     order: &[u16],
     stored: &[i32],
+    reader_starts: &[u16],
+    reader_places: &[u16],
     pairs: usize,
     move_vars: &[u16],
     move_values: &[i32],
     flags: &[u8],
 ) -> Answer
-    ensures { λ r. ⌜ r ≡ answerOf 0 (keepVerdict (toModel n m e (now (kinds .entry)) (now (makes .entry)) (now (params .entry)) (now (firsts .entry)) (now (counts .entry)) (now (vars .entry)) (now (coefs .entry)) (now (numbers .entry)) (now (order .entry)) (now (stored .entry))) (toKeep pairs (now («move_vars» .entry)) (now («move_values» .entry)) (now (flags .entry)))) ⌝ }
+    ensures { λ r. ⌜ r ≡ answerOf 0 (keepVerdict (toModel n m e (now (kinds .entry)) (now (makes .entry)) (now (params .entry)) (now (firsts .entry)) (now (counts .entry)) (now (vars .entry)) (now (coefs .entry)) (now (numbers .entry)) (now (order .entry)) (now (stored .entry)) (now («reader_starts» .entry)) (now («reader_places» .entry))) (toKeep pairs (now («move_vars» .entry)) (now («move_values» .entry)) (now (flags .entry)))) ⌝ }
 {
     if !keep_fits(
         n,
@@ -166,6 +174,8 @@ pub fn judge_keep(
         numbers,
         order,
         stored,
+        reader_starts,
+        reader_places,
         pairs,
         move_vars,
         move_values,
@@ -188,6 +198,8 @@ pub fn judge_keep(
         numbers,
         order,
         stored,
+        reader_starts,
+        reader_places,
         &mut by,
     );
     let Answer::Accepted { .. } = checked else {

@@ -8,6 +8,7 @@ ghost use Rattle.judges.specs.Lent.{toModel};
 ghost use Rattle.judges.specs.Judged.{ModelJudged};
 use moves::first_bad_value;
 use order::numbered_right;
+use readers::readers_right;
 use tables::Answer;
 use tables::makers;
 use tables::refused;
@@ -28,11 +29,13 @@ pub fn model_checks(
     numbers: &[u16],
     order: &[u16],
     stored: &[i32],
+    reader_starts: &[u16],
+    reader_places: &[u16],
     by: &mut [u16],
 ) -> Answer
-    requires { ⌜ modelFits (toModel n m e (now kinds) (now makes) (now params) (now firsts) (now counts) (now vars) (now coefs) (now numbers) (now order) (now stored)) ≡ true ⌝ }
+    requires { ⌜ modelFits (toModel n m e (now kinds) (now makes) (now params) (now firsts) (now counts) (now vars) (now coefs) (now numbers) (now order) (now stored) (now «reader_starts») (now «reader_places»)) ≡ true ⌝ }
     requires { ⌜ n ≤ length (now by) ⌝ }
-    ensures { λ r. ⌜ ModelJudged (toModel n m e (now (kinds .entry)) (now (makes .entry)) (now (params .entry)) (now (firsts .entry)) (now (counts .entry)) (now (vars .entry)) (now (coefs .entry)) (now (numbers .entry)) (now (order .entry)) (now (stored .entry))) (now (by .exit)) r ⌝ }
+    ensures { λ r. ⌜ ModelJudged (toModel n m e (now (kinds .entry)) (now (makes .entry)) (now (params .entry)) (now (firsts .entry)) (now (counts .entry)) (now (vars .entry)) (now (coefs .entry)) (now (numbers .entry)) (now (order .entry)) (now (stored .entry)) (now («reader_starts» .entry)) (now («reader_places» .entry))) (now (by .exit)) r ⌝ }
 {
     let checked = table_checks(n, m, e, kinds, makes, params, firsts, counts, vars, coefs);
     let Answer::Accepted { .. } = checked else {
@@ -40,6 +43,9 @@ pub fn model_checks(
     };
     makers(n, m, makes, by);
     if !numbered_right(n, m, makes, firsts, counts, vars, by, numbers, order) {
+        return refused(8, 0);
+    }
+    if !readers_right(n, m, e, firsts, counts, vars, reader_starts, reader_places) {
         return refused(8, 0);
     }
     let bad = first_bad_value(false, n, by, stored);

@@ -36,6 +36,7 @@ module _ (b : BuildLent) where
     numbers = ap (λ (x : BuildLeft). x .numbers) left;
     numbers-meet = number-right (net t) (lawful t) (t .n) (known .chains);
     ordered = ap (λ (x : BuildLeft). x .order) left;
+    indexed = ap (λ (x : BuildLeft). x .index) left;
     stored = ap (λ (x : BuildLeft). x .stored) left;
     stored-meet = afresh-equation (net t) (lawful t) (t .n) (known .chains) (startValues b);
     session = ap (λ (x : BuildLeft). x .session) left;

@@ -7,7 +7,7 @@ use mathlib.Core.List.{List, [], _∷_, _++_}
 use mathlib.Core.Path.{_≡_, ap, ap₂, sym, _∙_}
 use lib.ListN.{length, drop, set, length-append}
 use lib.Seq.{sets, sets-eq}
-use Rattle.paper.specs.File.{joined}
+use Rattle.paper.specs.Lists.{joined}
 
 sets-then : (xs ys l : List ℕ) (at k : ℕ) → k ≡ at + length xs → sets (sets l at xs) k ys ≡ sets l at (xs ++ ys)
 sets-then [] ys l at k e = let h : k ≡ at = omega arith in rw h

@@ -42,13 +42,32 @@ size-add p q x (suc n) l px qx h = go (eqb n x) refl (size-add p q x n)
         let ne : n ≢ x = λ z. clash (rw z (eqb-self x)) e in
         last (q n) (p n) (h n ne) (ih (omega arith) px qx h)
 
-abbrev pub Distinct : List ℕ → Type 0
-Distinct [] = Unit {0}
-Distinct (x ∷ xs) = (any (eqb x) xs ≡ false) × Distinct xs
-
 size-none : (n : ℕ) → size (λ v. false) n ≡ zero
 size-none zero = refl
 size-none (suc n) = size-none n
+
+-- at most one more passes if x passes too; so of the numbers in a list there are at most as many as it is long
+size-or : (q : ℕ → Bool) (x n : ℕ) → size (λ v. eqb v x || q v) n ≤ suc (size q n)
+size-or q x zero = omega arith
+size-or q x (suc n) = go (eqb n x) refl (q n) (size-or q x n)
+  where
+    go : (a : Bool) → eqb n x ≡ a → (b : Bool) → size (λ v. eqb v x || q v) n ≤ suc (size q n)
+        → cond (a || b) (suc (size (λ v. eqb v x || q v) n)) (size (λ v. eqb v x || q v) n) ≤ suc (cond b (suc (size q n)) (size q n))
+    go true e true ih = omega arith
+    go true e false ih =
+        let same = eqb-true n x e in
+        let s = size-same (λ v. eqb v x || q v) q n (λ v l. ap (_|| q v) (ne-eqb v x (λ z. lt-irrefl v (omega arith)))) in
+        omega arith
+    go false e true ih = omega arith
+    go false e false ih = ih
+
+pub size-in : (xs : List ℕ) (n : ℕ) → size (λ v. any (eqb v) xs) n ≤ length xs
+size-in [] n = let z = size-none n in omega arith
+size-in (x ∷ xs) n = let a = size-or (λ v. any (eqb v) xs) x n in let b = size-in xs n in omega arith
+
+abbrev pub Distinct : List ℕ → Type 0
+Distinct [] = Unit {0}
+Distinct (x ∷ xs) = (any (eqb x) xs ≡ false) × Distinct xs
 
 pub distinct-size : (n : ℕ) (xs : List ℕ) → ((i : ℕ) → List·Memᴰ i xs → i < n) → Distinct xs → size (λ v. any (eqb v) xs) n ≡ length xs
 distinct-size n [] h d = size-none n

@@ -10,8 +10,8 @@ use lib.Dec.{ltb}
 use lib.ListN.{length, drop, drop-of-length-le}
 use lib.Seq.{drop-cons}
 use borrow.Author.Tests.{ltb-true, ltb-false}
-use Rattle.paper.specs.Lists.{nat}
-use Rattle.paper.specs.File.{bytesOf, field, joined}
+use Rattle.paper.specs.Lists.{nat, joined}
+use Rattle.paper.specs.File.{bytesOf, field}
 use Rattle.paper.proofs.Bytes.{length-joined}
 
 -- ── bytes at a place ──

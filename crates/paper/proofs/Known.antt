@@ -13,8 +13,8 @@ use Rattle.paper.specs.Lists.{any, between, nat, below}
 use Rattle.paper.specs.Formula.{blank}
 use Rattle.paper.specs.Net.{able, number, names}
 use Rattle.paper.specs.Tables.{Tables, net, isMade, inputsOf, ends, order}
-use Rattle.paper.specs.Checks.{Verdict, accepted, sized, startGood, storedGood, numbered, Move, movePairs, moveFits, movable, namedOnce, hasValue, moveChecks, Sound}
-use Rattle.paper.specs.Calls.{BuildLent, buildFits, startValues, buildVerdict, Model, modelFits, storedValues, modelChecks, Tried, trialFits, trialVerdict, Kept, keepFits, keepVerdict}
+use Rattle.paper.specs.Checks.{Verdict, accepted, sized, startGood, storedGood, numbered, indexed, Move, movePairs, moveFits, movable, namedOnce, hasValue, moveChecks, Sound}
+use Rattle.paper.specs.Calls.{BuildLent, indexFits, buildFits, startValues, buildVerdict, Model, modelFits, storedValues, modelChecks, Tried, trialFits, trialVerdict, Kept, keepFits, keepVerdict}
 use Rattle.paper.proofs.Lists.{and-left, and-right, each}
 use Rattle.paper.proofs.Verdicts.{check-rest, check-held, require-rest, require-held}
 use Rattle.paper.proofs.Scan.{any-append}
@@ -57,6 +57,8 @@ pub record ModelKnown (w : Model) : Type 0 where
   pub chains : (v : ℕ) → able (inputsOf (w .tables)) (w .tables .n) v ≡ true
   pub numbers-are : (v : ℕ) → v < w .tables .n → nat (w .numbers) v ≡ number (net (w .tables)) (w .tables .n) v
   pub order-is : take (w .tables .m) (w .order) ≡ order (w .tables)
+  pub index-fits : indexFits (w .tables) (w .index) ≡ true
+  pub index-is : indexed (w .tables) (w .index) ≡ true
   pub stored : (v : ℕ) → v < w .tables .n → storedGood (w .tables) (storedValues w) v ≡ true
 
 pub model-known : (w : Model) (next : Verdict) → modelFits w ≡ true → modelChecks w next ≡ accepted → ModelKnown w × (next ≡ accepted)
@@ -64,7 +66,8 @@ model-known w next fits e =
     let t = w .tables in
     let p = tables-passed t (and-left (sized t) _ fits) _ e in
     let eight = require-held 8 0 (numbered t (w .numbers) (w .order)) _ (p .1) in
-    let seven = require-rest 8 0 (numbered t (w .numbers) (w .order)) _ (p .1) in
+    let more = require-rest 8 0 (numbered t (w .numbers) (w .order)) _ (p .1) in
+    let seven = require-rest 8 0 (indexed t (w .index)) _ more in
     let long = each _ (and-right (sized t) _ fits) in (
       record {
         sound = p .0;
@@ -74,6 +77,8 @@ model-known w next fits e =
         chains = sound-ends t (p .0) (numbered-ends t (w .numbers) (w .order) eight);
         numbers-are = numbered-numbers t (w .numbers) (w .order) eight;
         order-is = numbered-order t (w .numbers) (w .order) eight (leb-true (t .m) (length (w .order)) (long .1 .0));
+        index-fits = long .1 .1 .1 .0;
+        index-is = require-held 8 0 (indexed t (w .index)) _ more;
         stored = check-held 7 (t .n) (storedGood t (storedValues w)) next seven;
       },
       check-rest 7 (t .n) (storedGood t (storedValues w)) next seven,

@@ -1,7 +1,10 @@
 pub mod Lists
+pub mod Those
 pub mod Least
 pub mod Count
 pub mod Buffers
+pub mod Sections
+pub mod Indexed
 pub mod Scan
 pub mod Verdicts
 pub mod Sizes

@@ -92,6 +92,10 @@ module _ {A : Type 0} (p : A → Bool) where
   all-at (x ∷ xs) e zero d l = and-left (p x) (all p xs) e
   all-at (x ∷ xs) e (suc i) d l = all-at xs (and-right (p x) (all p xs) e) i d (omega arith)
 
+  pub all-places : (xs : List A) (d : A) → ((i : ℕ) → i < length xs → p (getD xs i d) ≡ true) → all p xs ≡ true
+  all-places [] d h = refl
+  all-places (x ∷ xs) d h = ap₂ _&&_ (h 0 (omega arith)) (all-places xs d (λ i l. h (suc i) (omega arith)))
+
   pub any-at : (xs : List A) → any p xs ≡ false → (i : ℕ) (d : A) → i < length xs → p (getD xs i d) ≡ false
   any-at [] e i d l = absurd (omega arith)
   any-at (x ∷ xs) e zero d l = or-false-left (p x) (any p xs) e

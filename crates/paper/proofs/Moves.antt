@@ -16,7 +16,7 @@ use Rattle.paper.specs.Lists.{any, nat, below, over}
 use Rattle.paper.specs.Formula.{blank}
 use Rattle.paper.specs.Net.{Net, Values, Route, input-to-output, able, new, moved, names}
 use Rattle.paper.specs.Tables.{Tables, net, isMade, valuesIn}
-use Rattle.paper.specs.Checks.{accepted, numbered, storedGood, Move, movePairs, moveFits, movable, namedOnce, hasValue}
+use Rattle.paper.specs.Checks.{accepted, numbered, indexed, storedGood, Move, movePairs, moveFits, movable, namedOnce, hasValue}
 use Rattle.paper.specs.Calls.{newValues, Model, modelFits, storedValues, Kept, keepFits, keepVerdict}
 use Rattle.paper.proofs.Lists.{clash, eqb-self, all-yes, any-at}
 use Rattle.paper.proofs.Buffers.{length-below, getD-below, over-length, over-front}
@@ -251,13 +251,14 @@ unfolding keepVerdict
 keep-accepts w c model move room = let t = w .tables in let mv = c .move in
     require-next 1 0 (keepFits w c) _ fits ∙ tables-next t (model .sound) _
     ∙ require-next 8 0 (numbered t (w .numbers) (w .order)) _ (numbered-of t (w .numbers) (w .order) (λ v l. model .chains v) (model .numbers-are) (model .order-is))
+    ∙ require-next 8 0 (indexed t (w .index)) _ (model .index-is)
     ∙ check-next 7 (t .n) (storedGood t (storedValues w)) _ (model .stored)
     ∙ check-next 10 (mv .pairs) (movable mv t) _ (λ i l. ap₂ _&&_ (lt-ltb (nat (mv .vars) i) (t .n) (move .low i l)) (ap not (move .search i l)))
     ∙ check-next 11 (mv .pairs) (namedOnce mv) _ (λ i l. ap not (move .once i l))
     ∙ check-next 12 (mv .pairs) (hasValue mv) accepted (λ i l. ap not (move .full i l))
   where
     model-fits : modelFits w ≡ true
-    model-fits = ap₂ _&&_ (model .sound .sized) (all-yes _ (le-leb _ _ (model .numbers-long), (le-leb _ _ (model .order-long), (le-leb _ _ (model .stored-long), tt))))
+    model-fits = ap₂ _&&_ (model .sound .sized) (all-yes _ (le-leb _ _ (model .numbers-long), (le-leb _ _ (model .order-long), (le-leb _ _ (model .stored-long), (model .index-fits, tt)))))
 
     move-fits : moveFits (c .move) ≡ true
     move-fits = all-yes _ (le-leb _ _ (move .few), (le-leb _ _ (move .vars-long), (le-leb _ _ (move .values-long), tt)))
@@ -273,7 +274,7 @@ new-search N L k ends r old s v e = new-equation N L k ends r old s v ∙ rw e
 abbrev pub rowKept : (w : Model) (c : Kept) → List ℤ
 rowKept w c = over (w .tables .n) (newValues (w .tables) (storedValues w) input-to-output (movePairs (c .move)) []) (w .stored)
 
-pub keep-leaves-known : (w : Model) (c : Kept) → KeepKnown w c → ModelKnown (record { tables = w .tables; numbers = w .numbers; order = w .order; stored = rowKept w c })
+pub keep-leaves-known : (w : Model) (c : Kept) → KeepKnown w c → ModelKnown (record { tables = w .tables; numbers = w .numbers; order = w .order; stored = rowKept w c; index = w .index })
 keep-leaves-known w c known = let m = known .model in record {
   sound = m .sound;
   numbers-long = m .numbers-long;
@@ -282,6 +283,8 @@ keep-leaves-known w c known = let m = known .model in record {
   chains = m .chains;
   numbers-are = m .numbers-are;
   order-is = m .order-is;
+  index-fits = m .index-fits;
+  index-is = m .index-is;
   stored = λ v l. good v l (isMade t v) refl;
 }
   where

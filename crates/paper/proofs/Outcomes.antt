@@ -8,7 +8,7 @@ use lib.Dec.{eqb, leb, ltb}
 use lib.ListN.{take}
 use Rattle.paper.specs.Lists.{between, total, nat, firstFail}
 use Rattle.paper.specs.Tables.{Tables, ends}
-use Rattle.paper.specs.Checks.{Verdict, accepted, refused, check, require, kindGood, shapeGood, numberGood, madeOnce, tableChecks, startGood, storedGood, numbered, Move, movable, namedOnce, hasValue, moveChecks}
+use Rattle.paper.specs.Checks.{Verdict, accepted, refused, check, require, kindGood, shapeGood, numberGood, madeOnce, tableChecks, startGood, storedGood, numbered, indexed, Move, movable, namedOnce, hasValue, moveChecks}
 use Rattle.paper.specs.Calls.{Session, Answer, numberOf, BuildLent, BuildLeft, buildFits, startValues, buildVerdict, buildLeaves, build, Model, storedValues, modelChecks, Tried, TrialLeft, trialFits, trialVerdict, trialLeaves, trial, Kept, KeepLeft, keepFits, keepVerdict, keepLeaves, keep}
 use Rattle.paper.specs.Demands.{buildAsWas, trialAsWas, keepAsWas}
 use Rattle.paper.proofs.Verdicts.{refused-not}
@@ -54,7 +54,7 @@ build-gives l = let t = l .tables in let ok = buildNumber in
 module _ (ok : ℕ → Bool) where
   model-gives : (w : Model) {next : Verdict} → ok 2 ≡ true → ok 3 ≡ true → ok 4 ≡ true → ok 5 ≡ true → ok 8 ≡ true → ok 7 ≡ true → Gives ok next → Gives ok (modelChecks w next)
   model-gives w o₂ o₃ o₄ o₅ o₈ o₇ h = let t = w .tables in
-      tables-give ok t o₂ o₃ o₄ o₅ (lacks ok 7 0 (numbered t (w .numbers) (w .order)) o₈ (fails ok 6 (t .n) (storedGood t (storedValues w)) o₇ h))
+      tables-give ok t o₂ o₃ o₄ o₅ (lacks ok 7 0 (numbered t (w .numbers) (w .order)) o₈ (lacks ok 7 0 (indexed t (w .index)) o₈ (fails ok 6 (t .n) (storedGood t (storedValues w)) o₇ h)))
 
   move-gives : (t : Tables) (mv : Move) {next : Verdict} → ok 10 ≡ true → ok 11 ≡ true → ok 12 ≡ true → Gives ok next → Gives ok (moveChecks mv t next)
   move-gives t mv o₁₀ o₁₁ o₁₂ h = fails ok 9 (mv .pairs) (movable mv t) o₁₀ (fails ok 10 (mv .pairs) (namedOnce mv) o₁₁ (fails ok 11 (mv .pairs) (hasValue mv) o₁₂ h))
@@ -115,8 +115,8 @@ keep-judged s w c = judge (λ (x : KeepLeft). x .answer) (keepLeaves w c s) (kee
 -- ── how a program meets a call's equation: by its verdict, and field by field ──
 pub build-meets : (l : BuildLent) (x : BuildLeft) (v : Verdict) → buildVerdict l ≡ v
     → x .answer ≡ buildLeaves l v .answer → x .session ≡ buildLeaves l v .session → x .numbers ≡ buildLeaves l v .numbers
-    → x .order ≡ buildLeaves l v .order → x .stored ≡ buildLeaves l v .stored → x ≡ build l
-build-meets l x v e a s n o w = (λ i. record { answer = a i; session = s i; numbers = n i; order = o i; stored = w i }) ∙ sym (build-judged l .is v e)
+    → x .order ≡ buildLeaves l v .order → x .stored ≡ buildLeaves l v .stored → x .index ≡ buildLeaves l v .index → x ≡ build l
+build-meets l x v e a s n o w k = (λ i. record { answer = a i; session = s i; numbers = n i; order = o i; stored = w i; index = k i }) ∙ sym (build-judged l .is v e)
 
 pub trial-meets : (s : Session) (w : Model) (c : Tried) (x : TrialLeft) (v : Verdict) → trialVerdict w c ≡ v
     → x .answer ≡ trialLeaves w c s v .answer → x .session ≡ trialLeaves w c s v .session → x .results ≡ trialLeaves w c s v .results

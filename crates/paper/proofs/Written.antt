@@ -10,7 +10,8 @@ use lib.Seq.{sets}
 use borrow.Author.Tests.{le-leb, lt-leb}
 use Rattle.paper.specs.Tables.{Tables}
 use Rattle.paper.specs.Checks.{Verdict, accepted, refused}
-use Rattle.paper.specs.File.{fileBytes, headBytes, startBytes, rowBytes, entryBytes, joined, rowsAt, entriesAt, endsAt, held, writeVerdict, write}
+use Rattle.paper.specs.Lists.{joined}
+use Rattle.paper.specs.File.{fileBytes, headBytes, startBytes, rowBytes, entryBytes, rowsAt, entriesAt, endsAt, held, writeVerdict, write}
 use Rattle.paper.proofs.Bytes.{length-joined, go-on, sets-front}
 
 module _ (t : Tables) (starts : List ℤ) where

@@ -9,8 +9,8 @@ use lib.Dec.{eqb, leb, ltb}
 use lib.ListN.{length, take, drop}
 use Rattle.paper.specs.Lists.{every, between, nat, size, over}
 use Rattle.paper.specs.Net.{Values, Route, input-to-output, output-to-input, mark-guided, number, afresh, new, evaluated, moved, names}
-use Rattle.paper.specs.Tables.{Tables, net, valuesIn, ends, order}
-use Rattle.paper.specs.Checks.{Verdict, accepted, refused, check, require, leaves, sized, tableChecks, startGood, numbered, storedGood, Move, movePairs, moveFits, moveChecks}
+use Rattle.paper.specs.Tables.{Tables, Index, net, valuesIn, ends, order, index}
+use Rattle.paper.specs.Checks.{Verdict, accepted, refused, check, require, leaves, sized, tableChecks, startGood, numbered, indexed, storedGood, Move, movePairs, moveFits, moveChecks}
 
 -- the session record: moves kept, and evaluations of the last accepted call
 pub record Session : Type 0 where
@@ -57,6 +57,10 @@ module _ (t : Tables) (old : Values) (r : Route) (mv : List (ℕ × ℤ)) (asked
   abbrev pub flagRow : List ℕ → List ℕ
   flagRow = over (t .n) (λ v. cond (evaluates v) 1 0)
 
+-- 1: room for n + 1 starts and for a place of every entry
+abbrev pub indexFits : Tables → Index → Bool
+indexFits t x = leb (suc (t .n)) (length (x .starts)) && leb (t .e) (length (x .places))
+
 -- ── build ──
 pub record BuildLent : Type 0 where
   pub session : Session
@@ -65,6 +69,7 @@ pub record BuildLent : Type 0 where
   pub numbers : List ℕ
   pub order : List ℕ
   pub stored : List ℤ
+  pub index : Index
 
 pub record BuildLeft : Type 0 where
   pub answer : Answer
@@ -72,11 +77,14 @@ pub record BuildLeft : Type 0 where
   pub numbers : List ℕ
   pub order : List ℕ
   pub stored : List ℤ
+  pub index : Index
 
 module _ (l : BuildLent) where
   abbrev pub buildFits : Bool
   buildFits = let t = l .tables in
-      sized t && every (leb (t .n) (length (l .starts)) ∷ leb (t .n) (length (l .numbers)) ∷ leb (t .m) (length (l .order)) ∷ leb (t .n) (length (l .stored)) ∷ [])
+      sized t
+      && every (
+      leb (t .n) (length (l .starts)) ∷ leb (t .n) (length (l .numbers)) ∷ leb (t .m) (length (l .order)) ∷ leb (t .n) (length (l .stored)) ∷ indexFits t (l .index) ∷ [])
 
   abbrev pub startValues : Values
   startValues = valuesIn (l .tables) (l .starts)
@@ -92,6 +100,7 @@ module _ (l : BuildLent) where
     numbers = leaves v (over (t .n) (number (net t) (t .n)) (l .numbers)) (l .numbers);
     order = leaves v (order t ++ drop (t .m) (l .order)) (l .order);
     stored = leaves v (over (t .n) (afresh (net t) startValues (t .n)) (l .stored)) (l .stored);
+    index = leaves v (index t (l .index)) (l .index);
   }
 
   unfoldable pub build : BuildLeft
@@ -103,11 +112,12 @@ pub record Model : Type 0 where
   pub numbers : List ℕ
   pub order : List ℕ
   pub stored : List ℤ
+  pub index : Index
 
 module _ (w : Model) where
   abbrev pub modelFits : Bool
   modelFits = let t = w .tables in
-      sized t && every (leb (t .n) (length (w .numbers)) ∷ leb (t .m) (length (w .order)) ∷ leb (t .n) (length (w .stored)) ∷ [])
+      sized t && every (leb (t .n) (length (w .numbers)) ∷ leb (t .m) (length (w .order)) ∷ leb (t .n) (length (w .stored)) ∷ indexFits t (w .index) ∷ [])
 
   abbrev pub storedValues : Values
   storedValues = valuesIn (w .tables) (w .stored)
@@ -115,7 +125,7 @@ module _ (w : Model) where
   -- checks 2, 3, 4, 5, 8, 7
   abbrev pub modelChecks : Verdict → Verdict
   modelChecks next = let t = w .tables in
-      tableChecks t (require 8 0 (numbered t (w .numbers) (w .order)) (check 7 (t .n) (storedGood t storedValues) next))
+      tableChecks t (require 8 0 (numbered t (w .numbers) (w .order)) (require 8 0 (indexed t (w .index)) (check 7 (t .n) (storedGood t storedValues) next)))
 
 -- ── trial ──
 pub record Tried : Type 0 where

@@ -1,5 +1,5 @@
 -- The checks on tables and moves, and what passed ones say. Assumes nothing.
-use Prim.Native.Nat.{ℕ, pred, _+_, _<_}
+use Prim.Native.Nat.{ℕ, suc, pred, _+_, _<_}
 use mathlib.Core.Bool.{Bool, true, cond, not, _&&_, _||_}
 use mathlib.Core.List.{List, [], _∷_}
 use mathlib.Core.Path.{_≡_}
@@ -7,10 +7,10 @@ use lib.IntN.{ℤ, pos, natAbs}
 use lib.Dec.{eqb, leb, ltb}
 use lib.ListN.{length, getD, take}
 use Rattle.integers.specs.Integers.{eqZ}
-use Rattle.paper.specs.Lists.{any, all, every, between, total, nat, firstFail, allBelow, below}
+use Rattle.paper.specs.Lists.{any, all, every, between, total, nat, firstFail, joined, allBelow, below}
 use Rattle.paper.specs.Formula.{blank}
 use Rattle.paper.specs.Net.{Values, number}
-use Rattle.paper.specs.Tables.{Tables, part, isMade, net, ends, order}
+use Rattle.paper.specs.Tables.{Tables, Index, part, isMade, net, ends, order, readers, readersStart}
 
 pub data Verdict : Type 0 where
   accepted : Verdict
@@ -83,6 +83,13 @@ module _ (t : Tables) where
       every (
       allBelow (ends t) (t .n) ∷ allBelow (λ v. eqb (nat nums v) (number (net t) (t .n) v)) (t .n)
       ∷ allBelow (λ i. eqb (nat ord i) (nat (order t) i)) (t .m) ∷ [])
+
+  -- 8: and so is the lent index, as far as build fills it
+  abbrev pub indexed : Index → Bool
+  indexed x =
+      every (
+      allBelow (λ v. eqb (nat (x .starts) v) (readersStart t v)) (suc (t .n))
+      ∷ allBelow (λ i. eqb (nat (x .places) i) (nat (joined (readers t) (t .n)) i)) (readersStart t (t .n)) ∷ [])
 
 -- ── a move: the variables and the new values of its pairs ──
 pub record Move : Type 0 where

@@ -10,7 +10,7 @@ use mir.Syntax.{w16, w32}
 use mir.Val.{SFits}
 use Rattle.paper.specs.Lists.{nat, size, tally, over}
 use Rattle.paper.specs.Net.{Net, Values, Route, Depends, numbering, number, valuation, afresh, moved, names, evaluated, input-to-output}
-use Rattle.paper.specs.Tables.{Tables, lent, net, inputsOf, order}
+use Rattle.paper.specs.Tables.{Tables, Index, lent, net, inputsOf, order, index}
 use Rattle.paper.specs.Checks.{Verdict, accepted, refused, require, leaves, tableChecks, Move, movePairs}
 use Rattle.paper.specs.Calls.{Session, Answer, Accepted, numberOf, placeOf, evaluationsOf, BuildLent, BuildLeft, startValues, buildFits, build, Model, Tried, TrialLeft, askedList, routeOf, trial, trialVerdict, Kept, KeepLeft, keep, keepVerdict}
 use Rattle.paper.specs.File.{endsAt, held, write, counted, read}
@@ -18,7 +18,7 @@ use Rattle.paper.specs.File.{endsAt, held, write, counted, read}
 -- ── demand 1: a call works, or refuses with a number of its own and changes nothing ──
 -- everything but the answer as it was
 abbrev pub buildAsWas : BuildLent → Answer → BuildLeft
-buildAsWas l answer = record { answer = answer; session = l .session; numbers = l .numbers; order = l .order; stored = l .stored }
+buildAsWas l answer = record { answer = answer; session = l .session; numbers = l .numbers; order = l .order; stored = l .stored; index = l .index }
 
 abbrev pub trialAsWas : Session → Tried → Answer → TrialLeft
 trialAsWas s c answer = record { answer = answer; session = s; results = c .results; trial = c .trial; flags = c .flags }
@@ -77,6 +77,8 @@ module _ (b : BuildLent) where
     pub numbers : build b .numbers ≡ over (t .n) (number (net t) (t .n)) (b .numbers)
     pub numbers-meet : (v : ℕ) → number (net t) (t .n) v ≡ numbering (net t) (number (net t) (t .n)) v
     pub ordered : build b .order ≡ order t ++ drop (t .m) (b .order)
+    -- the index has the rows that read each variable
+    pub indexed : build b .index ≡ index t (b .index)
     -- the stored values are the start values at search variables, and the formula over the inputs' at made ones
     pub stored : build b .stored ≡ over (t .n) (afresh (net t) (startValues b) (t .n)) (b .stored)
     pub stored-meet : (v : ℕ) → afresh (net t) (startValues b) (t .n) v ≡ valuation (net t) (startValues b) (afresh (net t) (startValues b) (t .n)) v
@@ -130,6 +132,7 @@ pub record Lends : Type 0 where
   pub numbers : List ℕ
   pub order : List ℕ
   pub stored : Row
+  pub index : Index
 
 pub data Call : Type 0 where
   tries : Lends → Tried → Call
@@ -155,7 +158,7 @@ rowAfter (another row) left mine = mine
 
 module _ (now : State) where
   abbrev pub modelOf : Lends → Model
-  modelOf l = record { tables = l .tables; numbers = l .numbers; order = l .order; stored = rowLent (l .stored) (now .stored) }
+  modelOf l = record { tables = l .tables; numbers = l .numbers; order = l .order; stored = rowLent (l .stored) (now .stored); index = l .index }
 
   abbrev pub verdictOf : Call → Verdict
   verdictOf (tries l c) = trialVerdict (modelOf l) c
@@ -179,7 +182,7 @@ applied s (mv ∷ earlier) = moved mv (applied s earlier)
 module _ (b : BuildLent) where
   -- what build was lent and left
   abbrev pub ownModel : Lends
-  ownModel = record { tables = b .tables; numbers = build b .numbers; order = build b .order; stored = own }
+  ownModel = record { tables = b .tables; numbers = build b .numbers; order = build b .order; stored = own; index = build b .index }
 
   -- values worked out afresh from the start values with these moves applied
   abbrev pub fresh : List (List (ℕ × ℤ)) → Values

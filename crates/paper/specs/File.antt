@@ -7,7 +7,7 @@ use lib.Dec.{eqb, leb}
 use lib.ListN.{length, getD, drop}
 use mir.Syntax.{w16, w32}
 use mir.Val.{ofZ, toZ}
-use Rattle.paper.specs.Lists.{between, nat, over}
+use Rattle.paper.specs.Lists.{between, nat, joined, over}
 use Rattle.paper.specs.Tables.{Tables, lent}
 use Rattle.paper.specs.Checks.{Verdict, accepted, require, leaves, sized}
 
@@ -20,11 +20,6 @@ bytesOf (suc w) x = x % 256 ∷ bytesOf w (x / 256)
 abbrev pub field : ℕ → ℕ → List ℕ → ℕ
 field zero k bytes = 0
 field (suc w) k bytes = nat bytes k + 256 * field w (suc k) bytes
-
--- f 0, f 1, .. below n, one after another
-abbrev pub joined : (ℕ → List ℕ) → ℕ → List ℕ
-joined f zero = []
-joined f (suc n) = joined f n ++ f n
 
 -- where rows and entries begin, and where the file ends
 abbrev pub rowsAt : ℕ → ℕ

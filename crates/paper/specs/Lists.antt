@@ -60,6 +60,16 @@ firstFail p (suc n) = cond (ltb (firstFail p n) n) (firstFail p n) (cond (p n) (
 abbrev pub allBelow : (ℕ → Bool) → ℕ → Bool
 allBelow p n = eqb (firstFail p n) n
 
+-- the numbers below n that pass, ascending
+abbrev pub those : (ℕ → Bool) → ℕ → List ℕ
+those p zero = []
+those p (suc n) = those p n ++ cond (p n) (n ∷ []) []
+
+-- the lists that f gives of the numbers below n, one after another
+abbrev pub joined : (ℕ → List ℕ) → ℕ → List ℕ
+joined f zero = []
+joined f (suc n) = joined f n ++ f n
+
 -- f of each number below n, in order
 abbrev pub below : {A : Type 0} → (ℕ → A) → ℕ → List A
 below f zero = []

@@ -45,6 +45,7 @@ building t s = record {
   numbers = zeros (t .n);
   order = zeros (t .m);
   stored = zerosZ (t .n);
+  index = record { starts = zeros (suc (t .n)); places = zeros (t .e) };
 }
 
 -- the same answer
@@ -62,7 +63,7 @@ comesOut (builds t s nums vals) =
 comesOut (refuses t number place) = answers (build (building t []) .answer) (Refused number place)
 comesOut (tries t s mv asked route vals count) =
     let built = build (building t s) in
-    let own : Model = record { tables = t; numbers = built .numbers; order = built .order; stored = built .stored } in
+    let own : Model = record { tables = t; numbers = built .numbers; order = built .order; stored = built .stored; index = built .index } in
     let move : Move = record { pairs = length mv; vars = map (λ p. p .0) mv; values = map (λ p. p .1) mv } in
     let left = trial (built .session) own (record {
       move = move;

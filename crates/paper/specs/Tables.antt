@@ -1,11 +1,11 @@
--- The lent tables, the model that they describe, and the order of its rows. Assumes nothing.
+-- The lent tables, the model that they describe, the order of its rows, and the index of the rows that read each variable. Assumes nothing.
 use Prim.Native.Nat.{ℕ, zero, suc, _+_}
 use mathlib.Core.Bool.{Bool, cond}
 use mathlib.Core.List.{List, [], _∷_, _++_, map}
 use lib.IntN.{ℤ, pos}
 use lib.Dec.{eqb, leb, ltb}
 use lib.ListN.{length, getD, take, drop}
-use Rattle.paper.specs.Lists.{every, nat, seek}
+use Rattle.paper.specs.Lists.{any, every, nat, seek, those, joined, over}
 use Rattle.paper.specs.Formula.{formula, looked}
 use Rattle.paper.specs.Net.{Net, Values, able, number}
 
@@ -31,6 +31,14 @@ abbrev pub partAsked : ℕ → ℕ → List ℕ → List ℕ → List ℕ → �
 partAsked m e firsts counts vars row =
     let end = nat firsts row + nat counts row in
     cond (every (ltb row m ∷ ltb row (length firsts) ∷ ltb row (length counts) ∷ leb end e ∷ leb end (length vars) ∷ [])) (nat firsts row, nat counts row) (0, 0)
+
+-- an index of readers: where the rows that read each variable start among the places, and the rows
+pub record Index : Type 0 where
+  pub starts : List ℕ
+  pub places : List ℕ
+
+abbrev pub indexIn : List ℕ → List ℕ → Index
+indexIn starts places = record { starts = starts; places = places }
 
 module _ (t : Tables) where
   -- the part of an entry list that row r names
@@ -67,13 +75,30 @@ module _ (t : Tables) where
 
   -- the rows below k whose variable has the number d, ascending
   abbrev pub level : (ℕ → ℕ) → ℕ → ℕ → List ℕ
-  level num d zero = []
-  level num d (suc k) = level num d k ++ cond (eqb (num (nat (t .makes) k)) d) (k ∷ []) []
+  level num d = those (λ r. eqb (num (nat (t .makes) r)) d)
 
   abbrev pub levels : (ℕ → ℕ) → ℕ → List ℕ
-  levels num zero = []
-  levels num (suc d) = levels num d ++ level num d (t .m)
+  levels num = joined (λ d. level num d (t .m))
 
   -- the rows by the number of the variable made, ties by row number
   abbrev pub order : List ℕ
   order = levels (number net (t .n)) (suc (t .n))
+
+  -- ── the readers of a variable ──
+  abbrev pub reads : ℕ → ℕ → Bool
+  reads v r = any (eqb v) (part r (t .vars))
+
+  -- the rows that read v, ascending, each once even if it reads v twice
+  abbrev pub readers : ℕ → List ℕ
+  readers v = those (reads v) (t .m)
+
+  -- where they start among the readers of all variables, one variable after another
+  abbrev pub readersStart : ℕ → ℕ
+  readersStart v = length (joined readers v)
+
+  -- the index in lent rows: n + 1 starts and the readers of every variable, and beyond them what stood there before
+  abbrev pub index : Index → Index
+  index before = record {
+    starts = over (suc (t .n)) readersStart (before .starts);
+    places = joined readers (t .n) ++ drop (readersStart (t .n)) (before .places);
+  }

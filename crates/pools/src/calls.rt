@@ -1,5 +1,5 @@
 // The engine's calls, with the rows of unsigned numbers in a pool. The plan names these in this order: kinds, made variables, firsts, counts, entry
-// variables, numbers and order.
+// variables, numbers, order, and the starts and the places of the index of readers.
 use crate::rows::row16;
 use engine::Done;
 use engine::Session;
@@ -18,6 +18,8 @@ pub fn build_planned(
     numbers: &mut [u16],
     order: &mut [u16],
     stored: &mut [i32],
+    reader_starts: &mut [u16],
+    reader_places: &mut [u16],
 ) -> Done {
     engine::build_core(
         session,
@@ -35,6 +37,8 @@ pub fn build_planned(
         numbers,
         order,
         stored,
+        reader_starts,
+        reader_places,
     )
 }
 
@@ -74,6 +78,8 @@ pub fn try_planned(
         row16(pool, plan, 10),
         row16(pool, plan, 12),
         stored,
+        row16(pool, plan, 14),
+        row16(pool, plan, 16),
         pairs,
         move_vars,
         move_values,
@@ -117,6 +123,8 @@ pub fn keep_planned(
         row16(pool, plan, 10),
         row16(pool, plan, 12),
         stored,
+        row16(pool, plan, 14),
+        row16(pool, plan, 16),
         pairs,
         move_vars,
         move_values,

@@ -1,5 +1,5 @@
-// A change of one field of what is lent, or of the record. Rows 1 to 10 are kinds, made variables, parameters, firsts, counts, entry variables,
-// coefficients, numbers, order and stored values; row 0 is the record's moves kept.
+// A change of one field of what is lent, or of the record. Rows 1 to 12 are kinds, made variables, parameters, firsts, counts, entry variables,
+// coefficients, numbers, order, stored values, and of the index of readers the starts and the places; row 0 is the record's moves kept.
 use crate::model::start;
 use crate::print;
 use engine::Session;

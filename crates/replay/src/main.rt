@@ -58,8 +58,8 @@ fn calls_after(told: Answer, calls: &[u8]) -> &[u8] {
     calls
 }
 
-// Builds a model that was read and prints what comes back; numbers and order go into the pool. The record before it is not all 0, so that what build
-// makes of it shows.
+// Builds a model that was read and prints what comes back; numbers, order and readers go into the pool. The record before it is not all 0, so that
+// what build makes of it shows.
 fn build(
     n: usize,
     m: usize,
@@ -72,6 +72,8 @@ fn build(
 ) -> Done {
     let mut numbers = [0u16; 16];
     let mut order = [0u16; 16];
+    let mut reader_starts = [0u16; 17];
+    let mut reader_places = [0u16; 64];
     let done = build_planned(
         Session {
             kept: 7,
@@ -88,9 +90,12 @@ fn build(
         &mut numbers,
         &mut order,
         stored,
+        &mut reader_starts,
+        &mut reader_places,
     );
     print::built(done, n, m, &numbers, &order, stored);
-    put_built(pool, &numbers, &order);
+    print::readers(done, n, e, &reader_starts, &reader_places);
+    put_built(pool, &numbers, &order, &reader_starts, &reader_places);
     done
 }
 
@@ -125,7 +130,7 @@ fn read(
 
 // Reads a model file, builds the model if that is accepted, and makes the calls if that is too.
 fn read_and_go_on(file: &[u8], calls: &[u8]) {
-    let mut pool = [0u16; 160];
+    let mut pool = [0u16; 241];
     let mut params = [0i32; 16];
     let mut coefs = [0i16; 64];
     let mut starts = [0i32; 16];

@@ -1,10 +1,29 @@
 // The rows of a session's model that are unsigned numbers stand in one pool: kinds, made variables, firsts and counts (16 each), entry variables (64),
-// numbers and order (16 each).
+// numbers and order (16 each), and of the index of readers the starts (17) and the places (64).
 use pools::rows::copy16;
 
 // Where each of these rows stands in the pool.
-pub fn plan() -> [u16; 14] {
-    [0, 16, 16, 16, 32, 16, 48, 16, 64, 64, 128, 16, 144, 16]
+pub fn plan() -> [u16; 18] {
+    [
+        0,
+        16,
+        16,
+        16,
+        32,
+        16,
+        48,
+        16,
+        64,
+        64,
+        128,
+        16,
+        144,
+        16,
+        160,
+        17,
+        177,
+        64,
+    ]
 }
 
 // Where the row that a change names starts in the pool, or where the pool ends.
@@ -17,7 +36,9 @@ pub fn start(row: u32) -> usize {
         6 => 64,
         8 => 128,
         9 => 144,
-        _ => 160,
+        11 => 160,
+        12 => 177,
+        _ => 241,
     }
 }
 
@@ -38,7 +59,15 @@ pub fn put_tables(
 }
 
 // Puts what build filled into the pool.
-pub fn put_built(pool: &mut [u16], numbers: &[u16], order: &[u16]) {
+pub fn put_built(
+    pool: &mut [u16],
+    numbers: &[u16],
+    order: &[u16],
+    reader_starts: &[u16],
+    reader_places: &[u16],
+) {
     copy16(pool, start(8), numbers);
     copy16(pool, start(9), order);
+    copy16(pool, start(11), reader_starts);
+    copy16(pool, start(12), reader_places);
 }

@@ -2,6 +2,7 @@
 // call leaves, a bar before each.
 use engine::Done;
 use files::Reading;
+use pools::fields::after;
 use pools::print::answer;
 use pools::print::flags;
 use pools::print::number;
@@ -69,13 +70,20 @@ fn left_flags(told: Answer, n: usize, row: &[u8]) {
     flags(b" |", n, row);
 }
 
-// Prints the line of a build.
+// Prints the line of a build as far as the stored values.
 pub fn built(done: Done, n: usize, m: usize, row: &[u16], order: &[u16], stored: &[i32]) {
     let told = done.answer;
     come_to(b"build", done);
     left_numbers(told, n, row);
     left_numbers(told, m, order);
     left_values(told, n, stored);
+}
+
+// Prints the rest of the line of a build: the index of readers.
+pub fn readers(done: Done, n: usize, e: usize, starts: &[u16], places: &[u16]) {
+    let told = done.answer;
+    left_numbers(told, after(n, 1), starts);
+    left_numbers(told, e, places);
     text(b"\n");
 }
 

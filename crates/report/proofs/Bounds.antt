@@ -1,6 +1,6 @@
 -- Every text fits in 98,304 bytes: a list has at most 4,096 lines, a topological number is at most n, and a value is a number of the range or
 -- blank. Assumes nothing.
-use Prim.Native.Nat.{ℕ, zero, suc, _-_, _≤_, _<_, zero-le}
+use Prim.Native.Nat.{ℕ, zero, suc, _-_, _≤_, _<_}
 use native.Mathlib.Omega.{arith}
 use mathlib.Core.Bool.{Bool, true, false, cond, _||_}
 use mathlib.Core.List.{List, [], _∷_, map}
@@ -14,9 +14,9 @@ use mir.Syntax.{w32}
 use mir.Val.{toZ}
 use Rattle.integers.specs.Integers.{eqZ}
 use Rattle.integers.proofs.Order.{eqZ-yes}
-use Rattle.paper.specs.Lists.{all, greatest}
+use Rattle.paper.specs.Lists.{all}
 use Rattle.paper.specs.Formula.{blank}
-use Rattle.paper.specs.Net.{Net, Values, runs, number, afresh}
+use Rattle.paper.specs.Net.{Values, runs, number, afresh}
 use Rattle.paper.specs.Tables.{Tables, net, isMade, inputsOf, rowOf, formOf, valuesIn}
 use Rattle.paper.specs.Checks.{Verdict, accepted, refused, leaves, Sound}
 use Rattle.paper.specs.Calls.{BuildLent, BuildLeft, buildVerdict, buildLeaves, build, startValues}
@@ -24,26 +24,13 @@ use Rattle.paper.specs.File.{column, counted, laid, nIn, mIn, eIn, startsIn, re
 use Rattle.paper.proofs.Buffers.{over-at}
 use Rattle.paper.proofs.Accept.{sound-row, made-row}
 use Rattle.paper.proofs.Sizes.{sized-facts}
+use Rattle.paper.proofs.Numbers.{number-le}
 use Rattle.paper.proofs.Known.{BuildKnown, build-known}
 use Rattle.paper.proofs.Outcomes.{build-judged}
 use Rattle.paper.proofs.Ranges.{good, formula-good}
 use Rattle.text.specs.Lines.{refusal}
 use Rattle.text.proofs.Lengths.{list-length, refusal-length}
 use Rattle.report.specs.Printed.{said, fresh, ofTables, ofRead, empty, printed}
-
--- ── topological numbers ──
-greatest-most : (f : ℕ → ℕ) (k : ℕ) → ((i : ℕ) → f i ≤ k) → (xs : List ℕ) → greatest (map f xs) ≤ k
-greatest-most f k h [] = zero-le
-greatest-most f k h (x ∷ xs) = let a = h x in let b = greatest-most f k h xs in omega arith
-
-number-most : (N : Net) (k v : ℕ) → number N k v ≤ k
-unfolding runs
-number-most N zero v = zero-le
-number-most N (suc k) v = go (N .made v) (greatest-most (number N k) k (number-most N k) (N .ins v))
-  where
-    go : (b : Bool) → greatest (map (number N k) (N .ins v)) ≤ k → cond b (suc (greatest (map (number N k) (N .ins v)))) zero ≤ suc k
-    go true h = omega arith
-    go false h = zero-le
 
 -- ── values ──
 good-near : (z : ℤ) → good z ≡ true → natAbs z ≤ 2147483648
@@ -107,7 +94,7 @@ module _ (b : BuildLent) (from : (v : ℕ) → v < b .tables .n → good (getD (
       let values = afresh (net t) (startValues b) (t .n) in
       let most = sized-facts t (k .sound .sized) .n-most in
       list-length (t .n) _ _ most
-      (λ v l. let e = over-at numbers (t .n) (b .numbers) v 0 l in let h = number-most (net t) (t .n) v in omega arith)
+      (λ v l. let e = over-at numbers (t .n) (b .numbers) v 0 l in let h = number-le (net t) (t .n) v in omega arith)
       (λ v l. rw (over-at values (t .n) (b .stored) v (pos 0) l) (good-near (values v) (afresh-good t (k .sound) (startValues b) (values-good t (b .starts) from) (t .n) v)))
 
   built-length : length (text (build b)) ≤ 90112

@@ -5,7 +5,7 @@ use mathlib.Core.List.{List, []}
 use lib.Dec.{ltb}
 use lib.IntN.{ℤ, pos}
 use lib.ListN.{length, replicate}
-use Rattle.paper.specs.Tables.{Tables, lent}
+use Rattle.paper.specs.Tables.{Tables, lent, indexIn}
 use Rattle.paper.specs.Checks.{Verdict, accepted, refused}
 use Rattle.paper.specs.Calls.{Answer, Accepted, Refused, BuildLent, build}
 use Rattle.paper.specs.File.{read}
@@ -27,6 +27,7 @@ fresh t starts = record {
   numbers = replicate 4096 0;
   order = replicate 4096 0;
   stored = replicate 4096 (pos 0);
+  index = indexIn (replicate 4097 0) (replicate 16384 0);
 }
 
 -- the text for tables and start values: what is said of what build leaves of them

@@ -101,6 +101,8 @@ fn list_built(
     let mut numbers = [0u16; 4096];
     let mut order = [0u16; 4096];
     let mut stored = [0i32; 4096];
+    let mut reader_starts = [0u16; 4097];
+    let mut reader_places = [0u16; 16384];
     let done = engine::build_new(
         n,
         m,
@@ -116,6 +118,8 @@ fn list_built(
         &mut numbers,
         &mut order,
         &mut stored,
+        &mut reader_starts,
+        &mut reader_places,
     );
     let answer = done.answer;
     let Answer::Accepted { .. } = answer else {

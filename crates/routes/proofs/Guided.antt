@@ -8,29 +8,26 @@ use mathlib.Core.Logic.{_⊎_, inl, inr}
 use mathlib.Core.Path.{_≡_, refl, ap, sym, _∙_, subst}
 use lib.Dec.{eqb, ltb}
 use lib.IntN.{ℤ, pos}
-use lib.ListN.{length, getD, drop, replicate, length-drop, length-replicate, getD-replicate}
+use lib.ListN.{length, getD, drop, replicate, length-drop, getD-replicate}
 use lib.Seq.{getD-take, getD-drop, ext-getD}
 use borrow.Author.Tests.{ltb-true, lt-ltb, eq-eqb}
-use Rattle.paper.specs.Lists.{nat, over}
+use Rattle.paper.specs.Lists.{nat}
 use Rattle.paper.specs.Net.{Values, Route, output-to-input, mark-guided, marked, live, works, needed}
 use Rattle.paper.specs.Tables.{Tables, net, isMade, formOf, asksOf, valuesIn}
 use Rattle.paper.proofs.Lists.{clash}
-use Rattle.paper.proofs.Buffers.{over-at, over-of}
+use Rattle.paper.proofs.Buffers.{over-of}
 use Rattle.paper.proofs.Sizes.{sized-facts}
 use Rattle.paper.proofs.Accept.{made-below, inputs-below}
 use Rattle.paper.proofs.Lawful.{lawful}
 use Rattle.paper.proofs.Fresh.{form-same, afresh-unique}
 use Rattle.paper.proofs.Routes.{new-equation}
 use Rattle.paper.proofs.Needed.{needed-least, needed-asked, needed-closed}
-use Rattle.order.proofs.Bare.{bareOf}
 use Rattle.routes.specs.Rows.{Ended, valuesOf}
 use Rattle.routes.specs.Reach.{Follows, Either}
 use Rattle.routes.specs.Routed.{Begun, newOf, evaluatedOf, Routed}
 use Rattle.routes.specs.Work.{worksOut, workedOut, asksOut, AllAsked}
 use Rattle.routes.specs.Plan.{Guides}
-use Rattle.routes.specs.Readers.{markOf}
 use Rattle.routes.proofs.Asks.{lawful-work}
-use Rattle.routes.proofs.Readable.{mark-bare}
 use Rattle.routes.proofs.Planned.{rowsOf, does, work, left, does-below, works-is, form-is, asks-is, workable}
 
 -- ── marks that guide a route ──
@@ -44,31 +41,16 @@ guides-all t d stored trial = record {
 }
 
 -- route 3 those that are marked
-pub guides-marked : (t : Tables) → Ended t → (stored trial : List ℤ) (before marks : List ℕ) → marks ≡ over (t .n) (markOf (bareOf t) stored trial) before
+pub guides-marked : (t : Tables) (stored trial : List ℤ) (marks : List ℕ) → ((v : ℕ) → nat marks v ≡ cond (marked (net t) (valuesIn t stored) (valuesIn t trial) (t .n) v) 1 0)
     → Guides t mark-guided stored trial marks
-guides-marked t d stored trial before marks e = record {
+guides-marked t stored trial marks e = record {
   asks = λ asked v. refl;
-  shows = λ v m.
-      ap (λ l. eqb (nat l v) 1) (e ∙ ap (λ (f : ℕ → ℕ). over (t .n) f before) (mark-bare t stored trial))
-      ∙ ap (λ k. eqb k 1) (over-at (markOf t stored trial) (t .n) before v 0 (made-below t (d .sound) v m))
-      ∙ one (marked (net t) (valuesIn t stored) (valuesIn t trial) (t .n) v);
+  shows = λ v m. ap (λ k. eqb k 1) (e v) ∙ one (marked (net t) (valuesIn t stored) (valuesIn t trial) (t .n) v);
 }
   where
     one : (b : Bool) → eqb (cond b 1 0) 1 ≡ b
     one true = refl
     one false = refl
-
--- a new row of marks is clear
-pub clear-marks : (t : Tables) → Ended t → (stored trial : List ℤ) (flags : List ℕ) → Begun t stored trial flags → Begun t stored trial (replicate 4096 0)
-clear-marks t d stored trial flags b =
-    let k = sized-facts t (d .sound .sized) .n-most in
-    record {
-      in-stored = b .in-stored;
-      in-trial = b .in-trial;
-      in-flags = let l = length-replicate {A = ℕ} 4096 0 in omega arith;
-      made = b .made;
-      clear = λ v h. getD-replicate {A = ℕ} 4096 v 0 0 (omega arith);
-    }
 
 -- ── asking by them ──
 -- rows that hold the same from place n on

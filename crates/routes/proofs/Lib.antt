@@ -1,5 +1,8 @@
 pub mod Walks
 pub mod Worked
+pub mod Read
+pub mod Flags
+pub mod Spreads
 pub mod Sweeps
 pub mod Reach
 pub mod Places
@@ -7,6 +10,5 @@ pub mod Asks
 pub mod InTurn
 pub mod Planned
 pub mod Readers
-pub mod Readable
 pub mod Marks
 pub mod Guided

@@ -1,163 +1,220 @@
 -- What the walks from all that moved have marked is what route 3 marks: it holds every search variable that differs and goes on to what is made
 -- from it, and nothing more. Assumes nothing.
-use Prim.Native.Nat.{ℕ, zero, suc, _+_, _-_, _≤_, _<_}
+use Prim.Native.Nat.{ℕ, zero, suc, _+_, _≤_, _<_}
 use native.Mathlib.Nat.{lt-irrefl}
 use native.Mathlib.Omega.{arith}
 use mathlib.Core.Bool.{Bool, true, false, cond, not, false≢true}
-use mathlib.Core.List.{List, [], List·Memᴰ, List·Memᴰ·not-nil}
+use mathlib.Core.List.{List, [], _∷_, map, List·Memᴰ, List·Memᴰ·not-nil, List·Memᴰ·cases-cons}
 use mathlib.Core.Logic.{_⊎_, inl, inr}
-use mathlib.Core.Path.{_≡_, refl, ap, ap₂, sym, _∙_}
+use mathlib.Core.Path.{_≡_, refl, ap, ap₂, sym, _∙_, subst}
 use lib.Dec.{eqb, ltb}
 use lib.IntN.{ℤ, pos}
-use lib.ListN.{length, take, drop, length-drop, length-take, List·getD-eq-default}
-use lib.Seq.{getD-take, getD-drop, ext-getD}
-use borrow.Author.Tests.{ltb-true, ltb-false, lt-ltb, eqb-true, eqb-false}
+use lib.ListN.{length, take, drop, length-take, drop-of-length-le, List·getD-eq-default}
+use lib.Seq.{getD-take, length-take-le}
+use borrow.Author.Tests.{ltb-true, ltb-false, eqb-true}
 use Rattle.integers.specs.Integers.{eqZ}
 use Rattle.integers.proofs.Order.{eqZ-self}
-use Rattle.paper.specs.Lists.{any, nat, over}
+use Rattle.paper.specs.Lists.{any, nat}
 use Rattle.paper.specs.Net.{Values, runs, able, differs, marked}
-use Rattle.paper.specs.Tables.{Tables, net, isMade, inputsOf, rowOf, part, valuesIn}
+use Rattle.paper.specs.Tables.{Tables, net, isMade, inputsOf, valuesIn}
 use Rattle.paper.proofs.Lists.{clash, any-in, any-has}
-use Rattle.paper.proofs.Buffers.{over-of}
+use Rattle.paper.proofs.Scan.{next}
+use Rattle.paper.proofs.Sizes.{sized-facts}
+use Rattle.paper.proofs.Accept.{sound-row, inputs-below}
 use Rattle.paper.proofs.Lawful.{lawful}
 use Rattle.paper.proofs.Routes.{marked-equation}
-use Rattle.order.specs.Formed.{Formed}
-use Rattle.routes.specs.Rows.{valuesOf}
+use Rattle.paper.proofs.Those.{those-in}
+use Rattle.order.specs.Numbering.{Clean}
+use Rattle.order.proofs.Visits.{left-none}
+use Rattle.readers.specs.Index.{Indexed}
+use Rattle.routes.specs.Rows.{Ended, valuesOf}
+use Rattle.routes.specs.Sections.{section, madeFrom}
 use Rattle.routes.specs.Reach.{Closed, Follows, Either, Reached, Reaching}
-use Rattle.routes.specs.Routed.{Begun}
-use Rattle.routes.specs.Readers.{readers, Moved, none, Readable, markOf}
+use Rattle.routes.specs.Routed.{Begun, Named}
+use Rattle.routes.specs.Readers.{variables, readFrom, Upward, Markable, Movable, Moved, none}
+use Rattle.routes.proofs.Walks.{at-place}
+use Rattle.routes.proofs.Read.{mapped, input-made, section-reads, section-input, input-section}
 use Rattle.routes.proofs.Reach.{reaching-start, reaching-step, reaching-skip}
-use Rattle.routes.proofs.Readable.{Chained, reader-reads, reads-reader}
+use Rattle.routes.proofs.Readers.{able-fewer}
 
--- ── one variable after another ──
--- those below v have been passed
-abbrev pub Passed : (ℕ → List ℕ) → ℕ → List ℤ → List ℤ → List ℕ → ℕ → List ℕ → Type 0
-Passed to n stored trial before v marks = Reaching (λ u. true) to (Moved n stored trial) (λ i. v ≤ i) before marks
+-- ── one named variable after another ──
+-- those from place i on are left
+abbrev pub Passed : (ℕ → List ℕ) → List ℕ → List ℤ → List ℤ → List ℕ → ℕ → List ℕ → Type 0
+Passed to moves stored trial before i marks = Reaching (λ u. true) to (Moved moves stored trial) (λ u. List·Memᴰ u (drop i moves)) before marks
 
-module _ (to : ℕ → List ℕ) (n : ℕ) (stored trial : List ℤ) (before : List ℕ) where
-  pub passed-start : Closed (λ u. true) to before → Passed to n stored trial before 0 before
+module _ (to : ℕ → List ℕ) (moves : List ℕ) (stored trial : List ℤ) (before : List ℕ) where
+  pub passed-start : Closed (λ u. true) to before → Passed to moves stored trial before 0 before
   passed-start c =
-      reaching-skip (λ u. true) to (Moved n stored trial) (Moved n stored trial) (λ i. 0 ≤ i) before before
-      (reaching-start (λ u. true) to (Moved n stored trial) before c) (λ i g h. omega arith)
+      reaching-skip (λ u. true) to (Moved moves stored trial) (Moved moves stored trial) (λ u. List·Memᴰ u moves) before before
+      (reaching-start (λ u. true) to (Moved moves stored trial) before c) (λ u g h. h .0)
 
-  module _ (v : ℕ) (marks : List ℕ) (P : Passed to n stored trial before v marks) (b : Bool) (e : b ≡ differs (valuesOf trial) (valuesOf stored) v) where
-    pub passed-yes : v < n → b ≡ true → (after : List ℕ) → Reached (λ u. true) to v marks after → Passed to n stored trial before (v + 1) after
-    passed-yes l q after r =
-        reaching-step (λ u. true) to (Moved n stored trial) (λ i. v ≤ i) (λ i. v + 1 ≤ i) before marks P v after (l, sym e ∙ q) (λ i h. go i h (eqb i v) refl) r
-      where
-        go : (i : ℕ) → v ≤ i → (c : Bool) → eqb i v ≡ c → (i ≡ v) ⊎ (v + 1 ≤ i)
-        go i h true w = inl (eqb-true i v w)
-        go i h false w = let ne = eqb-false i v w in inr (omega arith)
+  module _ (i : ℕ) (marks : List ℕ) (P : Passed to moves stored trial before i marks) where
+    module _ (l : i < length moves) (v : ℕ) (q : v ≡ nat moves i) (b : Bool) (e : b ≡ differs (valuesOf trial) (valuesOf stored) v) where
+      first : (u : ℕ) → List·Memᴰ u (drop i moves) → (u ≡ v) ⊎ List·Memᴰ u (drop (i + 1) moves)
+      first u m = List·Memᴰ·cases-cons (subst (List·Memᴰ u) (next moves i 0 l ∙ ap (_∷ drop (i + 1) moves) (sym q)) m)
 
-    pub passed-no : b ≡ false → Passed to n stored trial before (v + 1) marks
-    passed-no q =
-        reaching-skip (λ u. true) to (Moved n stored trial) (λ i. v ≤ i) (λ i. v + 1 ≤ i) before marks P (λ i g h. go i g h (eqb i v) refl)
-      where
-        go : (i : ℕ) → Moved n stored trial i → v ≤ i → (c : Bool) → eqb i v ≡ c → v + 1 ≤ i
-        go i g h true w = clash (g .1) (ap (differs (valuesOf trial) (valuesOf stored)) (eqb-true i v w) ∙ sym e ∙ q)
-        go i g h false w = let ne = eqb-false i v w in omega arith
+      pub passed-yes : b ≡ true → (after : List ℕ) → Reached (λ u. true) to v marks after → Passed to moves stored trial before (i + 1) after
+      passed-yes h after r =
+          reaching-step (λ u. true) to (Moved moves stored trial) (λ u. List·Memᴰ u (drop i moves)) (λ u. List·Memᴰ u (drop (i + 1) moves)) before marks P v after
+          (subst (λ z. List·Memᴰ z moves) (sym q) (at-place moves i l), sym e ∙ h) first r
 
-  pub passed-end : (v : ℕ) (marks : List ℕ) → Passed to n stored trial before v marks → n ≤ v → Reaching (λ u. true) to (Moved n stored trial) none before marks
-  passed-end v marks P h =
-      reaching-skip (λ u. true) to (Moved n stored trial) (λ i. v ≤ i) none before marks P (λ i g k. let l = g .0 in lt-irrefl i (omega arith))
+      pub passed-no : b ≡ false → Passed to moves stored trial before (i + 1) marks
+      passed-no h =
+          reaching-skip (λ u. true) to (Moved moves stored trial) (λ u. List·Memᴰ u (drop i moves)) (λ u. List·Memᴰ u (drop (i + 1) moves)) before marks P
+          (λ u g m. go u g (first u m))
+        where
+          go : (u : ℕ) → Moved moves stored trial u → (u ≡ v) ⊎ List·Memᴰ u (drop (i + 1) moves) → List·Memᴰ u (drop (i + 1) moves)
+          go u g (inl w) = clash (g .1) (ap (differs (valuesOf trial) (valuesOf stored)) w ∙ sym e ∙ h)
+          go u g (inr m) = m
 
--- ── the marks of route 3 ──
-module _ (t : Tables) (F : Formed t) (ends : (v : ℕ) → able (inputsOf t) (t .n) v ≡ true) (to : ℕ → List ℕ)
-    (reads : (v x : ℕ) → List·Memᴰ x (to v) → List·Memᴰ v (inputsOf t x)) (back : (v x : ℕ) → List·Memᴰ v (inputsOf t x) → List·Memᴰ x (to v))
-    (stored trial : List ℤ) (before after : List ℕ) (B : Begun t stored trial before)
-    (r : Reaching (λ u. true) to (Moved (t .n) stored trial) none before after) where
-  abbrev old : Values
-  old = valuesIn t stored
+    pub passed-end : length moves ≤ i → Reaching (λ u. true) to (Moved moves stored trial) none before marks
+    passed-end h =
+        reaching-skip (λ u. true) to (Moved moves stored trial) (λ u. List·Memᴰ u (drop i moves)) none before marks P
+        (λ u g m. List·Memᴰ·not-nil (subst (List·Memᴰ u) (drop-of-length-le moves {i = i} h) m))
 
-  abbrev new : Values
-  new = valuesIn t trial
+-- ── the index of the tables ──
+module _ (t : Tables) (d : Ended t) (starts places : List ℕ) (x : Indexed t starts places) where
+  -- the starts of the variables, and that of the end
+  abbrev front : List ℕ
+  front = take (t .n + 1) starts
 
-  abbrev is : ℕ → Bool
-  is = marked (net t) old new (t .n)
+  abbrev from : ℕ → List ℕ
+  from = madeFrom (t .makes) front places
 
-  -- what reads is made
-  is-made : (v x : ℕ) → List·Memᴰ v (inputsOf t x) → isMade t x ≡ true
-  is-made v x m = go (isMade t x) refl m
+  front-long : length front ≡ suc (t .n)
+  front-long = let h = x .long in let z : suc (t .n) ≡ t .n + 1 = omega arith in rw z (length-take-le (t .n + 1) starts (omega arith))
+
+  same-section : (v : ℕ) → v < t .n → section front places v ≡ section starts places v
+  same-section v l = rw (getD-take (t .n + 1) starts v 0 (omega arith), getD-take (t .n + 1) starts (suc v) 0 (omega arith)) refl
+
+  -- nothing is made from what is no variable
+  no-section : (v : ℕ) → t .n ≤ v → section front places v ≡ []
+  no-section v h =
+      let long = front-long in let z : nat front (suc v) ≡ 0 = List·getD-eq-default front 0 (omega arith) in
+      rw z (left-none places (nat front v) 0 (omega arith))
+
+  from-low : (v u : ℕ) → List·Memᴰ u (from v) → v < t .n
+  from-low v u m = go (ltb v (t .n)) refl
     where
-      go : (b : Bool) → isMade t x ≡ b → List·Memᴰ v (cond b (part t (rowOf t x) (t .vars)) []) → isMade t x ≡ true
-      go true e h = e
-      go false e h = absurd (List·Memᴰ·not-nil h)
+      go : (b : Bool) → ltb v (t .n) ≡ b → v < t .n
+      go true q = ltb-true v (t .n) q
+      go false q = absurd (List·Memᴰ·not-nil (subst (λ (rs : List ℕ). List·Memᴰ u (map (nat (t .makes)) rs)) (no-section v (ltb-false v (t .n) q)) m))
 
-  same : (v : ℕ) → v < t .n → differs (valuesOf trial) (valuesOf stored) v ≡ differs new old v
-  same v l = ap₂ (λ (x y : ℤ). not (eqZ x y)) (sym (getD-take (t .n) trial v (pos 0) l)) (sym (getD-take (t .n) stored v (pos 0) l))
+  section-low : (v r : ℕ) → List·Memᴰ r (section front places v) → r < t .m
+  section-low v r m =
+      let l = from-low v (nat (t .makes) r) (mapped (nat (t .makes)) (section front places v) m) in
+      section-reads t (d .sound) starts places x v l r (subst (List·Memᴰ r) (same-section v l) m) .0
 
-  equal : (v : ℕ) → new v ≡ old v → differs new old v ≡ false
-  equal v e = ap not (sym (ap (eqZ (new v)) e) ∙ eqZ-self (new v))
+  -- u is made from v exactly if v is among its inputs
+  from-input : (v u : ℕ) → List·Memᴰ u (from v) → List·Memᴰ v (inputsOf t u)
+  from-input v u m =
+      let l = from-low v u m in
+      section-input t (d .sound) starts places x v l u (subst (λ (rs : List ℕ). List·Memᴰ u (map (nat (t .makes)) rs)) (same-section v l) m)
 
-  -- marks go on to readers, and begin at what moved
-  go-on : Follows (λ u. true) to is
-  go-on = record {
-    on = λ a i h w m. let q = reads a i m in
-        marked-equation (net t) (lawful t) (t .n) ends old new i
-        ∙ ap (λ b. cond b (any is (inputsOf t i)) (differs new old i)) (is-made a i q) ∙ any-in is (inputsOf t i) q h;
+  input-from : (v u : ℕ) → List·Memᴰ v (inputsOf t u) → List·Memᴰ u (from v)
+  input-from v u m =
+      let l = inputs-below t (d .sound) u v m in
+      subst (λ (rs : List ℕ). List·Memᴰ u (map (nat (t .makes)) rs)) (sym (same-section v l)) (input-section t (d .sound) starts places x v l u m)
+
+  pub upward : Upward (t .makes) front places
+  unfolding readFrom
+  upward = record {
+    inside = λ v l. let long = front-long in rw (getD-take (t .n + 1) starts (suc v) 0 (omega arith)) (x .inside v (omega arith));
+    row = λ v r m. let h = section-low v r m in let k = sized-facts t (d .sound .sized) .makes in omega arith;
+    below = λ v r m. let h = sound-row t (d .sound) r (section-low v r m) .makes in let long = front-long in omega arith;
+    ends = λ v.
+        let n : t .n ≡ variables front = let long = front-long in omega arith in
+        subst (λ k. able (readFrom (t .makes) front places) k v ≡ true) n (able-fewer (inputsOf t) (readFrom (t .makes) front places) fewer (t .n) v (d .chains v));
+  }
+    where
+      mem : (u : ℕ) (xs : List ℕ) → any (eqb u) xs ≡ true → List·Memᴰ u xs
+      mem u xs h = let (y, m, q) = any-has (eqb u) xs h in subst (λ z. List·Memᴰ z xs) (sym (eqb-true u y q)) m
+
+      fewer : (u v : ℕ) → List·Memᴰ v (readFrom (t .makes) front places u) → List·Memᴰ v (inputsOf t u)
+      fewer u v m = from-input v u (mem u (from v) (those-in (λ w. any (eqb u) (from w)) (variables front) v m .1))
+
+  -- no mark is set yet, so none lacks what is made from it
+  pub clean-markable : (marks : List ℕ) → Clean (t .n) marks → Markable (t .makes) front places marks
+  clean-markable marks c = record {
+    room = let long = front-long in let k = c .long in omega arith;
+    closed = record { on = λ a i h m w. absurd (let z = c .at a in lt-irrefl 0 (omega arith)) };
   }
 
-  begin : (i : ℕ) → Moved (t .n) stored trial i → is i ≡ true
-  begin i (l, d) = marked-equation (net t) (lawful t) (t .n) ends old new i ∙ go (isMade t i) refl
-    where
-      go : (b : Bool) → isMade t i ≡ b → cond b (any is (inputsOf t i)) (differs new old i) ≡ true
-      go true e = clash (sym (same i l) ∙ d) (equal i (B .made i e))
-      go false e = sym (same i l) ∙ d
+  module _ (stored trial : List ℤ) (flags moves : List ℕ) (B : Begun t stored trial flags) (N : Named t stored trial moves) where
+    pub named-movable : Movable front moves stored trial
+    named-movable = record {
+      low = λ v m. let h = N .low v m in let long = front-long in omega arith;
+      in-stored = let h = B .in-stored in let long = front-long in omega arith;
+      in-trial = let h = B .in-trial in let long = front-long in omega arith;
+    }
 
-  -- a value beyond the variables is 0
-  beyond-zero : (l : List ℤ) (v : ℕ) → t .n ≤ v → valuesIn t l v ≡ pos 0
-  beyond-zero l v h = List·getD-eq-default (take (t .n) l) (pos 0) (simp length-take (omega arith))
+    -- ── the marks of route 3 ──
+    abbrev old : Values
+    old = valuesIn t stored
 
-  comes : (k v : ℕ) → marked (net t) old new k v ≡ true → nat after v ≡ 1
-  unfolding runs
-  comes zero v e = absurd (false≢true e)
-  comes (suc k) v e = go (isMade t v) refl e (comes k)
-    where
-      out : (nat after v ≡ 1) ⊎ ⊥ → nat after v ≡ 1
-      out (inl h) = h
-      out (inr h) = absurd h
+    abbrev new : Values
+    new = valuesIn t trial
 
-      search : (b : Bool) → ltb v (t .n) ≡ b → differs new old v ≡ true → nat after v ≡ 1
-      search true q d = let l = ltb-true v (t .n) q in out (r .passed v (l, same v l ∙ d) refl)
-      search false q d = let h = ltb-false v (t .n) q in clash d (equal v (beyond-zero trial v h ∙ sym (beyond-zero stored v h)))
+    abbrev is : ℕ → Bool
+    is = marked (net t) old new (t .n)
 
-      go : (b : Bool) → isMade t v ≡ b → cond b (any (marked (net t) old new k) (inputsOf t v)) (differs new old v) ≡ true
-          → ((i : ℕ) → marked (net t) old new k i ≡ true → nat after i ≡ 1) → nat after v ≡ 1
-      go true q h more = let (i, m, w) = any-has (marked (net t) old new k) (inputsOf t v) h in r .closed .on i v (more i w) (back i v m) refl
-      go false q h more = search (ltb v (t .n)) refl h
+    same : (v : ℕ) → v < t .n → differs (valuesOf trial) (valuesOf stored) v ≡ differs new old v
+    same v l = ap₂ (λ (a b : ℤ). not (eqZ a b)) (sym (getD-take (t .n) trial v (pos 0) l)) (sym (getD-take (t .n) stored v (pos 0) l))
 
-  each : (v : ℕ) → v < t .n → nat after v ≡ markOf t stored trial v
-  each v l = go (is v) refl
-    where
-      unmarked : is v ≡ false → Either (λ u. true) to is before after v → nat after v ≡ 0
-      unmarked e (inl h) = h ∙ B .clear v l
-      unmarked e (inr h) = clash (h .1) e
+    equal : (v : ℕ) → new v ≡ old v → differs new old v ≡ false
+    equal v e = ap not (sym (ap (eqZ (new v)) e) ∙ eqZ-self (new v))
 
-      go : (b : Bool) → is v ≡ b → nat after v ≡ cond b 1 0
-      go true e = comes (t .n) v e
-      go false e = unmarked e (r .only is go-on begin v)
+    -- marks go on to what is made, and begin at what moved
+    go-on : Follows (λ u. true) from is
+    go-on = record {
+      on = λ a i h w m. let q = from-input a i m in
+          marked-equation (net t) (lawful t) (t .n) (d .chains) old new i
+          ∙ ap (λ b. cond b (any is (inputsOf t i)) (differs new old i)) (input-made t (d .sound) a i q) ∙ any-in is (inputsOf t i) q h;
+    }
 
-  rest : drop (t .n) after ≡ drop (t .n) before
-  rest = ext-getD 0 (drop (t .n) after) (drop (t .n) before) (length-drop (t .n) after ∙ ap (λ k. k - t .n) (r .long) ∙ sym (length-drop (t .n) before))
-      (λ i l. getD-drop (t .n) after i 0 ∙ beyond (t .n + i) (omega arith) ∙ sym (getD-drop (t .n) before i 0))
-    where
-      inside : Follows (λ u. true) to (λ u. ltb u (t .n))
-      inside = record { on = λ a i h w m. lt-ltb i (t .n) (F .made-below i (is-made a i (reads a i m))) }
+    begin : (i : ℕ) → Moved moves stored trial i → is i ≡ true
+    begin i (m, h) = marked-equation (net t) (lawful t) (t .n) (d .chains) old new i ∙ go (isMade t i) refl
+      where
+        differ : differs new old i ≡ true
+        differ = sym (same i (N .low i m)) ∙ h
 
-      out : (v : ℕ) → t .n ≤ v → Either (λ u. true) to (λ u. ltb u (t .n)) before after v → nat after v ≡ nat before v
-      out v h (inl e) = e
-      out v h (inr e) = absurd (let l = ltb-true v (t .n) (e .1) in lt-irrefl v (omega arith))
+        go : (b : Bool) → isMade t i ≡ b → cond b (any is (inputsOf t i)) (differs new old i) ≡ true
+        go true e = clash differ (equal i (B .made i e))
+        go false e = differ
 
-      beyond : (v : ℕ) → t .n ≤ v → nat after v ≡ nat before v
-      beyond v h = out v h (r .only (λ u. ltb u (t .n)) inside (λ i g. lt-ltb i (t .n) (g .0)) v)
+    -- a value beyond the variables is 0
+    beyond-zero : (l : List ℤ) (v : ℕ) → t .n ≤ v → valuesIn t l v ≡ pos 0
+    beyond-zero l v h = List·getD-eq-default (take (t .n) l) (pos 0) (simp length-take (omega arith))
 
-  pub marks-are : after ≡ over (t .n) (markOf t stored trial) before
-  marks-are = over-of (markOf t stored trial) (t .n) before after 0 (r .long) (B .in-flags) each rest
+    module _ (before after : List ℕ) (c : Clean (t .n) before) (r : Reaching (λ u. true) from (Moved moves stored trial) none before after) where
+      comes : (k v : ℕ) → marked (net t) old new k v ≡ true → nat after v ≡ 1
+      unfolding runs
+      comes zero v e = absurd (false≢true e)
+      comes (suc k) v e = go (isMade t v) refl e (comes k)
+        where
+          out : (nat after v ≡ 1) ⊎ ⊥ → nat after v ≡ 1
+          out (inl h) = h
+          out (inr h) = absurd h
 
--- what all walks along the chains of the tables leave
-pub chains-mark : (t : Tables) (e : ℕ) (F : Formed t) (R : Readable t e) (heads links made : List ℕ) → Chained t e heads links made
-    → (stored trial : List ℤ) (before after : List ℕ) → Begun t stored trial before
-    → Reaching (λ u. true) (readers heads links made) (Moved (length heads) stored trial) none before after → after ≡ over (t .n) (markOf t stored trial) before
-chains-mark t e F R heads links made C stored trial before after B r =
-    marks-are t F (R .ends) (readers heads links made) (reader-reads t e F R heads links made C) (reads-reader t e F R heads links made C) stored trial before after B
-    (rw (C .heads-long) at r)
+          search-variable : (b : Bool) → ltb v (t .n) ≡ b → differs new old v ≡ true → nat after v ≡ 1
+          search-variable true q h = let l = ltb-true v (t .n) q in out (r .passed v (N .moved v l h, same v l ∙ h) refl)
+          search-variable false q h = let l = ltb-false v (t .n) q in clash h (equal v (beyond-zero trial v l ∙ sym (beyond-zero stored v l)))
+
+          go : (b : Bool) → isMade t v ≡ b → cond b (any (marked (net t) old new k) (inputsOf t v)) (differs new old v) ≡ true
+              → ((i : ℕ) → marked (net t) old new k i ≡ true → nat after i ≡ 1) → nat after v ≡ 1
+          go true q h more = let (i, m, w) = any-has (marked (net t) old new k) (inputsOf t v) h in r .closed .on i v (more i w) (input-from i v m) refl
+          go false q h more = search-variable (ltb v (t .n)) refl h
+
+      pub marks-are : (v : ℕ) → nat after v ≡ cond (is v) 1 0
+      marks-are v = go (is v) refl
+        where
+          unmarked : is v ≡ false → Either (λ u. true) from is before after v → nat after v ≡ 0
+          unmarked e (inl h) = h ∙ c .at v
+          unmarked e (inr h) = clash (h .1) e
+
+          go : (b : Bool) → is v ≡ b → nat after v ≡ cond b 1 0
+          go true e = comes (t .n) v e
+          go false e = unmarked e (r .only is go-on begin v)
+
+      pub marks-long : t .n ≤ length after
+      marks-long = let k = c .long in let l = r .long in omega arith

@@ -1,4 +1,5 @@
 pub mod Rows
+pub mod Sections
 pub mod Routed
 pub mod Reach
 pub mod Work

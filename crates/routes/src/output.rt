@@ -8,7 +8,8 @@ ghost use Rattle.paper.specs.Lists.{all};
 ghost use Rattle.paper.specs.Net.{output-to-input, mark-guided};
 ghost use Rattle.paper.specs.Tables.{lent};
 ghost use Rattle.routes.specs.Rows.{Ended};
-ghost use Rattle.routes.specs.Routed.{Begun, Routed};
+ghost use Rattle.readers.specs.Index.{Indexed};
+ghost use Rattle.routes.specs.Routed.{Begun, Named, Routed};
 ghost use Rattle.routes.specs.Work.{rows, Ready, AllAsked};
 ghost use Rattle.routes.specs.Plan.{workOf};
 use crate::ask::ask_all;
@@ -107,25 +108,27 @@ pub fn mark_guided(
     counts: &[u16],
     vars: &[u16],
     coefs: &[i16],
+    starts: &[u16],
+    places: &[u16],
+    moves: &[u16],
     asked: &[u16],
     stored: &[i32],
     trial: &mut [i32],
     flags: &mut [u8],
 )
     requires ended { ⌜ Ended (lent n m e (now kinds) (now makes) (now params) (now firsts) (now counts) (now vars) (now coefs)) ⌝ }
+    requires index { ⌜ Indexed (lent n m e (now kinds) (now makes) (now params) (now firsts) (now counts) (now vars) (now coefs)) (now starts) (now places) ⌝ }
+    requires named { ⌜ Named (lent n m e (now kinds) (now makes) (now params) (now firsts) (now counts) (now vars) (now coefs)) (now stored) (now trial) (now moves) ⌝ }
     requires begun { ⌜ Begun (lent n m e (now kinds) (now makes) (now params) (now firsts) (now counts) (now vars) (now coefs)) (now stored) (now trial) (now flags) ⌝ }
     requires asked { ⌜ all (λ v. ltb v n) (now asked) ≡ true ⌝ }
     ensures { λ _. ⌜ Routed (lent n m e (now (kinds .entry)) (now (makes .entry)) (now (params .entry)) (now (firsts .entry)) (now (counts .entry)) (now (vars .entry)) (now (coefs .entry))) mark-guided (now (stored .entry)) (now (trial .entry)) (now (flags .entry)) (now (asked .entry)) (now (trial .exit)) (now (flags .exit)) ⌝ }
 {
     let mut marks = [0u8; 4096];
     mark_moved(
-        n,
-        m,
-        e,
+        moves,
         makes,
-        firsts,
-        counts,
-        vars,
+        &starts[..n + 1],
+        places,
         stored,
         trial,
         &mut marks,

@@ -3,7 +3,6 @@ mod change;
 mod count;
 mod plan;
 
-pub use change::changed;
 pub use change::moved;
 pub use count::evaluations;
 pub use plan::plan_work;

@@ -11,9 +11,8 @@ use lib.ListN.{length, getD, length-append}
 use lib.Signed.{ltZ}
 use Rattle.io.specs.Digits.{digits}
 use Rattle.integers.specs.Integers.{eqZ}
-use Rattle.paper.specs.Lists.{nat}
+use Rattle.paper.specs.Lists.{nat, joined}
 use Rattle.paper.specs.Formula.{blank}
-use Rattle.paper.specs.File.{joined}
 use Rattle.text.specs.Lines.{places, decimal, sign, value, line, list, refusal}
 
 -- ── numbers ──

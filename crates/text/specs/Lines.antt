@@ -8,9 +8,8 @@ use lib.ListN.{length, getD}
 use lib.Signed.{ltZ}
 use Rattle.io.specs.Digits.{digits}
 use Rattle.integers.specs.Integers.{eqZ}
-use Rattle.paper.specs.Lists.{nat}
+use Rattle.paper.specs.Lists.{nat, joined}
 use Rattle.paper.specs.Formula.{blank}
-use Rattle.paper.specs.File.{joined}
 
 -- how many decimal digits n has, if it has at most `most`
 abbrev pub places : ℕ → ℕ → ℕ

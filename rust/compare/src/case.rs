@@ -8,7 +8,7 @@ use crate::{Buffer, Guarded};
 /// Which call.
 #[derive(Clone, Copy, Debug, Default, PartialEq, Eq)]
 pub enum Call {
-    /// Numbers, order and values from tables and start values.
+    /// Numbers, order, values and readers from tables and start values.
     #[default]
     Build,
     /// A move tried by a route.
@@ -41,6 +41,8 @@ pub struct Case {
     pub numbers: Guarded<u16>,
     pub order: Guarded<u16>,
     pub stored: Guarded<i32>,
+    pub reader_starts: Guarded<u16>,
+    pub reader_places: Guarded<u16>,
     pub pairs: usize,
     pub move_vars: Guarded<u16>,
     pub move_values: Guarded<i32>,
@@ -68,6 +70,8 @@ macro_rules! buffers_of {
             ("numbers", $($borrowed)+ $case.numbers),
             ("order", $($borrowed)+ $case.order),
             ("stored", $($borrowed)+ $case.stored),
+            ("reader_starts", $($borrowed)+ $case.reader_starts),
+            ("reader_places", $($borrowed)+ $case.reader_places),
             ("move_vars", $($borrowed)+ $case.move_vars),
             ("move_values", $($borrowed)+ $case.move_values),
             ("asked_vars", $($borrowed)+ $case.asked_vars),
@@ -99,13 +103,13 @@ impl Case {
 
     /// Every buffer by name, in the order of the fields.
     #[must_use]
-    pub fn buffers(&self) -> [(&'static str, &dyn Buffer); 18] {
+    pub fn buffers(&self) -> [(&'static str, &dyn Buffer); 20] {
         buffers_of!(self, &)
     }
 
     /// Every buffer by name, to be changed.
     #[must_use]
-    pub fn buffers_mut(&mut self) -> [(&'static str, &mut dyn Buffer); 18] {
+    pub fn buffers_mut(&mut self) -> [(&'static str, &mut dyn Buffer); 20] {
         buffers_of!(self, &mut)
     }
 

@@ -8,6 +8,7 @@ use crate::{Call, Case, Element, Guarded, Random, value};
 pub fn damage(random: &mut Random, case: &mut Case) {
     match case.call {
         Call::Build if random.once_in(4) => damage_starts(random, case),
+        Call::Trial | Call::Keep if random.once_in(6) => damage_index(random, case),
         Call::Trial | Call::Keep if random.once_in(2) => damage_change(random, case),
         Call::Read => damage_bytes(random, case),
         _ => damage_tables(random, case),
@@ -84,6 +85,33 @@ fn any_variable(random: &mut Random, case: &Case) -> u16 {
 fn damage_starts(random: &mut Random, case: &mut Case) {
     let variable = random.below(case.n);
     case.starts.put(variable, random.pick(&[BLANK, 1, -1, 0, i32::MAX, -i32::MAX]));
+}
+
+/// A start of the index of readers, a place of it, or two places exchanged; at times beyond the last reader.
+fn damage_index(random: &mut Random, case: &mut Case) {
+    let (variable, place, other) = (random.below(case.n.saturating_add(1)), random.below(case.e), random.below(case.e));
+    let start = case.reader_starts.get(variable).copied().unwrap_or(0);
+    let row = case.reader_places.get(place).copied().unwrap_or(0);
+    match random.below(5) {
+        0 => case.reader_starts.put(variable, random.pick(&[start.wrapping_add(1), start.wrapping_sub(1), 0, 65535])),
+        1 => case.reader_starts.iter_mut().for_each(|start| *start = start.wrapping_add(1)),
+        2 => {
+            let next = next_row(usize::from(row), case.m);
+            case.reader_places.put(place, random.pick(&[next, row.wrapping_sub(1), case.m as u16, 65535]));
+        }
+        3 if place.max(other) < case.reader_places.len() => case.reader_places.swap(place, other),
+        _ => list_again(case, place),
+    }
+}
+
+/// Lists a row of the index a second time, where there is room.
+fn list_again(case: &mut Case, place: usize) {
+    let Some(&row) = case.reader_places.get(place) else { return };
+    case.reader_places[place..].rotate_right(1);
+    case.reader_places[place] = row;
+    for start in case.reader_starts.iter_mut().filter(|start| usize::from(**start) > place) {
+        *start = start.wrapping_add(1);
+    }
 }
 
 /// Numbers, order, stored values, the move, the asked list or the route.
@@ -180,21 +208,12 @@ fn buffers(case: &mut Case) -> Vec<(&mut dyn Length, usize)> {
         (&mut case.coefs, e),
     ];
     match case.call {
-        Call::Read => lent.push((&mut case.starts, n)),
+        Call::Read | Call::Build => lent.push((&mut case.starts, n)),
         Call::Write => {
             lent.push((&mut case.starts, n));
             lent.push((&mut case.bytes, total.saturating_add(24)));
         }
-        Call::Build => {
-            lent.push((&mut case.starts, n));
-            lent.push((&mut case.numbers, n));
-            lent.push((&mut case.order, m));
-            lent.push((&mut case.stored, n));
-        }
         Call::Trial | Call::Keep => {
-            lent.push((&mut case.numbers, n));
-            lent.push((&mut case.order, m));
-            lent.push((&mut case.stored, n));
             lent.push((&mut case.move_vars, pairs));
             lent.push((&mut case.move_values, pairs));
             lent.push((&mut case.flags, n));
@@ -204,6 +223,13 @@ fn buffers(case: &mut Case) -> Vec<(&mut dyn Length, usize)> {
         lent.push((&mut case.trial, n));
         lent.push((&mut case.asked_vars, asked));
         lent.push((&mut case.results, asked));
+    }
+    if matches!(case.call, Call::Build | Call::Trial | Call::Keep) {
+        lent.push((&mut case.numbers, n));
+        lent.push((&mut case.order, m));
+        lent.push((&mut case.stored, n));
+        lent.push((&mut case.reader_starts, n.saturating_add(1)));
+        lent.push((&mut case.reader_places, e));
     }
     lent
 }

@@ -2,7 +2,7 @@
 
 use second::BLANK;
 
-use crate::runs::{built, keep, model_a, trial};
+use crate::runs::{built, keep, model_a, read_twice, trial};
 use crate::{Call, Case, Engine, Row, Side, Test, chain, of_rows, one_short};
 
 /// A change to a case, and what it is.
@@ -95,6 +95,7 @@ fn refusal_1_buffers(engine: &dyn Engine) {
                 case.kinds.fill(0);
                 case.starts.fill(BLANK);
                 case.numbers.fill(9);
+                case.reader_starts.fill(9);
                 case.route = 9;
                 case.move_vars.fill(99);
                 case.asked_vars.fill(99);
@@ -150,6 +151,7 @@ fn refusal_3_places(engine: &dyn Engine) {
             case.e = 8;
             case.vars.edit(|vars| vars.push(0));
             case.coefs.edit(|coefs| coefs.push(1));
+            case.reader_places.edit(|places| places.push(0));
         });
         gives(engine, "only the total differs from e", &surplus, 3, 2);
     }
@@ -157,6 +159,7 @@ fn refusal_3_places(engine: &dyn Engine) {
         case.e = 1;
         case.vars = vec![0].into();
         case.coefs = vec![1].into();
+        case.reader_places = vec![0].into();
     });
     gives(engine, "an entry without rows", &surplus, 3, 0);
     gives(engine, "made variable n - 1", &of_rows(vec![1, 0], &[Row::plain(1, 1, &[0])]), 0, 0);
@@ -232,6 +235,18 @@ fn refusal_7(engine: &dyn Engine) {
     }
 }
 
+/// Asserts that each change gives 8, also where a search variable is blank.
+fn each_gives_8(engine: &dyn Engine, call: &Case, changes: &[Change]) {
+    for (what, change) in changes {
+        gives(engine, what, &with(call, change), 8, 0);
+        let blank = with(call, |case| {
+            change(case);
+            case.stored[0] = BLANK;
+        });
+        gives(engine, "8 before 7", &blank, 8, 0);
+    }
+}
+
 fn refusal_8(engine: &dyn Engine) {
     for call in &all_calls(engine)[1..3] {
         let changes: [Change; 9] = [
@@ -245,14 +260,7 @@ fn refusal_8(engine: &dyn Engine) {
             ("no such row", |case| case.order[2] = 3),
             ("a circular table", |case| case.vars[0] = 5),
         ];
-        for (what, change) in changes {
-            gives(engine, what, &with(call, change), 8, 0);
-            let blank = with(call, |case| {
-                change(case);
-                case.stored[0] = BLANK;
-            });
-            gives(engine, "8 before 7", &blank, 8, 0);
-        }
+        each_gives_8(engine, call, &changes);
         let beyond = with(call, |case| {
             case.numbers.edit(|numbers| numbers.push(9));
             case.order.edit(|order| order.push(9));
@@ -266,6 +274,37 @@ fn refusal_8_unread(engine: &dyn Engine) {
     for call in [trial(&model, &[], &[], 1), keep(&model, &[])] {
         gives(engine, "as built", &call, 0, 0);
         gives(engine, "the number of a variable that no row reads", &with(&call, |case| case.numbers[1] = 1), 8, 0);
+    }
+}
+
+fn refusal_8_index(engine: &dyn Engine) {
+    let model = built(engine, &read_twice());
+    assert_eq!((&*model.reader_starts, &model.reader_places[..4]), (&[0, 2, 3, 4, 4][..], &[0, 1, 0, 1][..]));
+    for call in [trial(&model, &[(1, 6)], &[3], 1), keep(&model, &[(1, 6)])] {
+        gives(engine, "as built", &call, 0, 0);
+        let changes: [Change; 12] = [
+            ("the first start", |case| case.reader_starts[0] = 1),
+            ("a start one less", |case| case.reader_starts[1] = 1),
+            ("a start one more", |case| case.reader_starts[2] = 4),
+            ("the last start one less", |case| case.reader_starts[4] = 3),
+            ("the last start one more", |case| case.reader_starts[4] = 5),
+            ("all starts one more", |case| case.reader_starts.iter_mut().for_each(|start| *start += 1)),
+            ("starts far out", |case| case.reader_starts.fill(65535)),
+            ("two readers exchanged", |case| case.reader_places.swap(0, 1)),
+            ("another row", |case| case.reader_places[2] = 1),
+            ("no such row", |case| case.reader_places[3] = 2),
+            ("a row far out", |case| case.reader_places[0] = 65535),
+            ("a row twice where it reads twice", |case| {
+                case.reader_starts.copy_from_slice(&[0, 4, 5, 6, 6]);
+                case.reader_places.copy_from_slice(&[0, 0, 1, 1, 0, 1]);
+            }),
+        ];
+        each_gives_8(engine, &call, &changes);
+        let beyond = with(&call, |case| {
+            case.reader_starts.edit(|starts| starts.push(9));
+            case.reader_places[4..].fill(65535);
+        });
+        gives(engine, "beyond the last reader", &beyond, 0, 0);
     }
 }
 
@@ -428,6 +467,7 @@ pub const EDGES: &[Test] = &[
     ("7", refusal_7),
     ("8", refusal_8),
     ("8: a variable that no row reads", refusal_8_unread),
+    ("8: the index", refusal_8_index),
     ("9", refusal_9),
     ("10 to 12", refusals_10_to_12),
     ("13", refusal_13),

@@ -1,6 +1,6 @@
 //! Who answers a case.
 
-use lent::{Asked, Built, Move, Session, State, Tables, TablesMut, Tried};
+use lent::{Asked, Built, Keep, Move, Session, State, Tables, TablesMut, Trial, Tried};
 
 use crate::{Answer, Call, Case};
 
@@ -15,30 +15,14 @@ pub type Test = (&'static str, fn(&dyn Engine));
 
 /// The five calls over what is lent to them.
 pub trait Calls {
-    /// Numbers, order and values from tables and start values.
+    /// Numbers, order, values and readers from tables and start values.
     fn build(session: &mut Session, tables: Tables<'_>, starts: &[i32], built: Built<'_>) -> Answer;
 
     /// A move tried by a route.
-    fn trial(
-        session: &mut Session,
-        tables: Tables<'_>,
-        state: State<'_>,
-        moved: Move<'_>,
-        asked: Asked<'_>,
-        route: u32,
-        tried: Tried<'_>,
-    ) -> Answer;
+    fn trial(session: &mut Session, tables: Tables<'_>, lent: Trial<'_>) -> Answer;
 
     /// A move kept.
-    fn keep(
-        session: &mut Session,
-        tables: Tables<'_>,
-        numbers: &[u16],
-        order: &[u16],
-        stored: &mut [i32],
-        moved: Move<'_>,
-        flags: &mut [u8],
-    ) -> Answer;
+    fn keep(session: &mut Session, tables: Tables<'_>, lent: Keep<'_>) -> Answer;
 
     /// Tables from a file.
     fn read(bytes: &[u8], tables: TablesMut<'_>) -> Answer;
@@ -52,15 +36,21 @@ impl<C: Calls> Engine for C {
         let Case { call, session, n, m, e, starts, kinds, makes, params, firsts, counts, vars, coefs, .. } = case;
         let tables = Tables { n: *n, m: *m, e: *e, kinds, makes, params, firsts, counts, vars, coefs };
         let moved = Move { pairs: case.pairs, vars: &case.move_vars, values: &case.move_values };
-        let (numbers, order, stored) = (&mut case.numbers, &mut case.order, &mut case.stored);
+        let (numbers, order, stored, flags) = (&mut case.numbers, &mut case.order, &mut case.stored, &mut case.flags);
+        let (reader_starts, reader_places) = (&mut case.reader_starts, &mut case.reader_places);
         match call {
-            Call::Build => C::build(session, tables, starts, Built { numbers, order, stored }),
-            Call::Trial => {
-                let asked = Asked { asked: case.asked, vars: &case.asked_vars };
-                let tried = Tried { results: &mut case.results, trial: &mut case.trial, flags: &mut case.flags };
-                C::trial(session, tables, State { numbers, order, stored }, moved, asked, case.route, tried)
+            Call::Build => {
+                C::build(session, tables, starts, Built { numbers, order, stored, reader_starts, reader_places })
             }
-            Call::Keep => C::keep(session, tables, numbers, order, stored, moved, &mut case.flags),
+            Call::Trial => {
+                let state = State { numbers, order, stored, reader_starts, reader_places };
+                let asked = Asked { asked: case.asked, vars: &case.asked_vars };
+                let tried = Tried { results: &mut case.results, trial: &mut case.trial, flags };
+                C::trial(session, tables, Trial { state, moved, asked, route: case.route, tried })
+            }
+            Call::Keep => {
+                C::keep(session, tables, Keep { numbers, order, stored, reader_starts, reader_places, moved, flags })
+            }
             Call::Read => C::read(&case.bytes, TablesMut { starts, kinds, makes, params, firsts, counts, vars, coefs }),
             Call::Write => C::write(tables, starts, &mut case.bytes),
         }
@@ -76,28 +66,12 @@ impl Calls for Second {
         Answer::of_call(second::build(session, tables, starts, built))
     }
 
-    fn trial(
-        session: &mut Session,
-        tables: Tables<'_>,
-        state: State<'_>,
-        moved: Move<'_>,
-        asked: Asked<'_>,
-        route: u32,
-        tried: Tried<'_>,
-    ) -> Answer {
-        Answer::of_call(second::trial(session, tables, state, moved, asked, route, tried))
+    fn trial(session: &mut Session, tables: Tables<'_>, lent: Trial<'_>) -> Answer {
+        Answer::of_call(second::trial(session, tables, lent))
     }
 
-    fn keep(
-        session: &mut Session,
-        tables: Tables<'_>,
-        numbers: &[u16],
-        order: &[u16],
-        stored: &mut [i32],
-        moved: Move<'_>,
-        flags: &mut [u8],
-    ) -> Answer {
-        Answer::of_call(second::keep(session, tables, numbers, order, stored, moved, flags))
+    fn keep(session: &mut Session, tables: Tables<'_>, lent: Keep<'_>) -> Answer {
+        Answer::of_call(second::keep(session, tables, lent))
     }
 
     fn read(bytes: &[u8], tables: TablesMut<'_>) -> Answer {

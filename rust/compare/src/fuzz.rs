@@ -80,14 +80,8 @@ fn scrambled_calls(engine: &dyn Engine, seed: u64) {
 fn read_and_build(engine: &dyn Engine, bytes: &[u8], random: &mut Random) -> Option<Case> {
     let name = || format!("file {}", bytes.iter().map(|byte| format!("{byte:02x}")).collect::<String>());
     let read = agree(engine, &reading(bytes), name)?;
-    let building = Case {
-        call: Call::Build,
-        numbers: vec![0; read.n].into(),
-        order: vec![0; read.m].into(),
-        stored: vec![0; read.n].into(),
-        ..read
-    };
-    let built = agree(engine, &building, name)?;
+    let building = Case { call: Call::Build, ..read };
+    let built = agree(engine, &building.with_room(), name)?;
     agree(engine, &trial_of(random, &built), name);
     agree(engine, &keep_of(random, &built), name)
 }

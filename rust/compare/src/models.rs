@@ -147,10 +147,24 @@ pub fn of_rows(starts: Vec<i32>, rows: &[Row]) -> Case {
         vars: vars.into(),
         coefs: coefs.into(),
         starts: starts.into(),
-        numbers: vec![0; n].into(),
-        order: vec![0; m].into(),
-        stored: vec![0; n].into(),
         ..Case::default()
+    }
+    .with_room()
+}
+
+impl Case {
+    /// The case with buffers for a build that are just as long as its counts ask.
+    #[must_use]
+    pub fn with_room(self) -> Case {
+        let Case { n, m, e, .. } = self;
+        Case {
+            numbers: vec![0; n].into(),
+            order: vec![0; m].into(),
+            stored: vec![0; n].into(),
+            reader_starts: vec![0; n + 1].into(),
+            reader_places: vec![0; e].into(),
+            ..self
+        }
     }
 }
 
@@ -159,6 +173,8 @@ fn junk(random: &mut Random, case: &mut Case) {
     case.numbers = Guarded::junk(random, case.n);
     case.order = Guarded::junk(random, case.m);
     case.stored = Guarded::junk(random, case.n);
+    case.reader_starts = Guarded::junk(random, case.n + 1);
+    case.reader_places = Guarded::junk(random, case.e);
     case.session.kept = random.pick(&[0, 1, u32::MAX - 1, u32::MAX]);
     case.session.evaluations = random.bits() as u32;
 }

@@ -1,5 +1,6 @@
 //! Random calls one after another: models of every size, the calls on each, whole and damaged.
 
+use crate::shrink::rebuilt;
 use crate::{
     Call, Case, Difference, Engine, Guarded, Random, Second, Sizes, chain, compare, damage, lengthen, model, model_of,
     shorten, shrink, value,
@@ -21,6 +22,8 @@ pub struct Tally {
     pub by_number: [usize; 15],
     /// The accepted calls by call: build, trial, keep, read, write.
     pub accepted: [usize; 5],
+    /// The calls refused with 8 by the index of readers alone.
+    pub by_index: usize,
 }
 
 impl Tally {
@@ -30,14 +33,33 @@ impl Tally {
         self.by_number.iter().sum()
     }
 
-    fn note(&mut self, call: Call, number: u32) {
+    fn note(&mut self, case: &Case, number: u32) {
         if let Some(calls) = self.by_number.get_mut(number as usize) {
             *calls += 1;
         }
         if number == 0 {
-            self.accepted[call as usize] += 1;
+            self.accepted[case.call as usize] += 1;
         }
+        self.by_index += usize::from(number == 8 && passes_with_its_index(case));
     }
+
+    /// Asserts that every number, every accepted call and a wrong index came often.
+    ///
+    /// # Panics
+    /// If one hardly ever came.
+    pub fn assert_wide(&self) {
+        println!("{self:?}");
+        assert!(self.by_number.iter().all(|&calls| calls > 100), "every number comes back often: {self:?}");
+        assert!(self.accepted.iter().all(|&calls| calls > 1_000), "every call is accepted often: {self:?}");
+        assert!(self.by_index > 1_000, "the index alone is often wrong: {self:?}");
+    }
+}
+
+/// Whether check 8 passes once the index of a case is put right.
+fn passes_with_its_index(case: &Case) -> bool {
+    rebuilt(case).is_some_and(|Case { reader_starts, reader_places, .. }| {
+        Second.answer(&mut Case { reader_starts, reader_places, ..case.clone() }).number != 8
+    })
 }
 
 /// Compares two engines on random calls, at least as many as told, over models that `draw` gives.
@@ -57,7 +79,7 @@ pub fn run(
         let model = draw(&mut random);
         for case in calls_on(&mut random, &model) {
             let answer = compare(one, other, &case).map_err(|found| shrink(one, other, found))?;
-            tally.note(case.call, answer.number);
+            tally.note(&case, answer.number);
         }
     }
     Ok(tally)

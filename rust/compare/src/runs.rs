@@ -91,13 +91,34 @@ fn tries(engine: &dyn Engine, case: &Case, results: &[i32], evaluated: &[u16]) {
     assert_eq!(side.left.stored, case.stored, "a trial leaves the stored values");
 }
 
-/// Numbers, order, values and record of model A.
+/// Numbers, order, values, readers and record of model A.
 fn model_a_is_built(engine: &dyn Engine) {
     let left = built(engine, &model_a());
     assert_eq!(*left.stored, [25200, 28800, 600, 6, 28200, 26]);
     assert_eq!(*left.numbers, [0, 0, 0, 1, 1, 2]);
     assert_eq!(*left.order, [0, 1, 2]);
+    assert_eq!(*left.reader_starts, [0, 2, 4, 6, 7, 7, 7]);
+    assert_eq!(*left.reader_places, [0, 1, 0, 1, 0, 1, 2]);
     assert_eq!((left.session.kept, left.session.evaluations), (0, 3));
+}
+
+/// Two rows of which each reads variable 0 in two places: row 0 makes 2 from 0, 1 and 0, row 1 makes 3 from 2, 0 and 0.
+#[must_use]
+pub fn read_twice() -> Case {
+    of_rows(vec![3, 5, 0, 0], &[Row::plain(1, 2, &[0, 1, 0]), Row::plain(1, 3, &[2, 0, 0])])
+}
+
+/// The rows that read each variable: ascending, each once, and nothing written beyond the last.
+fn the_readers(engine: &dyn Engine) {
+    let mut build = read_twice();
+    build.reader_places.fill(7);
+    let left = built(engine, &build);
+    assert_eq!(*left.reader_starts, [0, 2, 3, 4, 4]);
+    assert_eq!(*left.reader_places, [0, 1, 0, 1, 7, 7]);
+    let none = built(engine, &of_rows(vec![1, 2], &[]));
+    assert_eq!((&*none.reader_starts, &*none.reader_places), (&[0; 3][..], &[][..]));
+    tries(engine, &trial(&left, &[(1, 6)], &[3], 1), &[18], &[2, 3]);
+    tries(engine, &trial(&left, &[(1, 6)], &[2], 3), &[12], &[2]);
 }
 
 /// End 28801: one departure more.
@@ -279,8 +300,11 @@ fn longer_buffers(engine: &dyn Engine) {
     build.numbers.edit(|numbers| numbers.push(77));
     build.order.edit(|order| order.push(78));
     build.stored.edit(|stored| stored.push(79));
+    build.reader_starts.edit(|starts| starts.push(83));
+    build.reader_places.edit(|places| places.push(84));
     let model = built(engine, &build);
     assert_eq!((model.numbers.last(), model.order.last(), model.stored.last()), (Some(&77), Some(&78), Some(&79)));
+    assert_eq!((model.reader_starts.last(), model.reader_places.last()), (Some(&83), Some(&84)));
     let mut tried = trial(&model, &[(1, 28801)], &[4], 1);
     tried.results.edit(|results| results.push(80));
     tried.trial.edit(|trial| trial.push(81));
@@ -292,6 +316,7 @@ fn longer_buffers(engine: &dyn Engine) {
 /// All runs by name.
 pub const RUNS: &[Test] = &[
     ("model A", model_a_is_built),
+    ("the readers", the_readers),
     ("end after the last departure", end_after_the_last_departure),
     ("end that changes no departure", end_that_changes_no_departure),
     ("headway 0 and an empty window", headway_0_and_an_empty_window),

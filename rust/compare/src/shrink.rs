@@ -2,10 +2,10 @@
 
 use std::time::{Duration, Instant};
 
-use lent::{Built, Session};
+use lent::Session;
 use second::BLANK;
 
-use crate::{Case, Difference, Element, Engine, Guarded, compare};
+use crate::{Call, Case, Difference, Element, Engine, Guarded, Second, compare};
 
 /// How long a smaller case is looked for.
 const PATIENCE: Duration = Duration::from_secs(10);
@@ -59,7 +59,7 @@ impl Search<'_> {
         smaller
     }
 
-    /// Takes a changed case if the two still differ on it, as it is or with its numbers and its order put right.
+    /// Takes a changed case if the two still differ on it, as it is or with its numbers, order and index put right.
     fn try_case(&mut self, change: impl FnOnce(&mut Case) -> bool) -> bool {
         let mut case = self.best.case.clone();
         if Instant::now() > self.until || !change(&mut case) {
@@ -84,6 +84,7 @@ fn cut(case: &mut Case) -> bool {
     any |= shorter(&mut case.params, m) | shorter(&mut case.vars, e) | shorter(&mut case.coefs, e);
     any |= shorter(&mut case.numbers, n) | shorter(&mut case.flags, n);
     any |= shorter(&mut case.starts, n) | shorter(&mut case.stored, n) | shorter(&mut case.trial, n);
+    any |= shorter(&mut case.reader_starts, n.saturating_add(1)) | shorter(&mut case.reader_places, e);
     any |= shorter(&mut case.move_vars, pairs) | shorter(&mut case.move_values, pairs);
     any | shorter(&mut case.asked_vars, asked) | shorter(&mut case.results, asked)
 }
@@ -196,6 +197,7 @@ fn remove_variable(case: &mut Case, variable: usize) -> bool {
     remove(&mut case.starts, variable);
     remove(&mut case.numbers, variable);
     remove(&mut case.stored, variable);
+    remove(&mut case.reader_starts, variable);
     remove(&mut case.trial, variable);
     remove(&mut case.flags, variable);
     case.n -= 1;
@@ -224,14 +226,16 @@ fn plain<T: Element>(row: &mut Guarded<T>, place: usize, element: T) -> bool {
     other
 }
 
-/// Puts the numbers and the order of a model right, if it can be built.
+/// Puts the numbers, the order and the index of a model right, if it can be built.
 fn number(case: &mut Case) {
-    let starts = vec![0; case.stored.len()];
-    let mut stored = starts.clone();
-    let (mut numbers, mut order) = (case.numbers.clone(), case.order.clone());
-    let built = Built { numbers: &mut numbers, order: &mut order, stored: &mut stored };
-    if second::build(&mut Session::default(), case.tables(), &starts, built).is_ok() {
-        case.numbers = numbers;
-        case.order = order;
+    if let Some(Case { numbers, order, reader_starts, reader_places, .. }) = rebuilt(case) {
+        *case = Case { numbers, order, reader_starts, reader_places, ..std::mem::take(case) };
     }
+}
+
+/// The model of a case built anew over start values of 0, if it can be.
+pub(crate) fn rebuilt(case: &Case) -> Option<Case> {
+    let starts = vec![0; case.stored.len()].into();
+    let mut model = Case { call: Call::Build, starts, ..case.clone() };
+    (Second.answer(&mut model).number == 0).then_some(model)
 }

@@ -20,9 +20,7 @@ pub fn random_calls(engine: &dyn Engine) {
     let tally = run(engine, &Second, seed, 200_000, Sizes::any_model);
     let tally =
         tally.unwrap_or_else(|difference| panic!("seed {seed}: the engine is one, the second the other\n{difference}"));
-    println!("{tally:?}");
-    assert!(tally.by_number.iter().all(|&calls| calls > 100), "every number comes back often: {tally:?}");
-    assert!(tally.accepted.iter().all(|&calls| calls > 1_000), "every call is accepted often: {tally:?}");
+    tally.assert_wide();
 }
 
 /// The tests of an engine: the runs that the specification names, both sides of the edge of every refusal, files there

@@ -110,12 +110,22 @@ fn has_every_kind_route_and_row() {
     let rows: BTreeSet<u16> = sessions.iter().flat_map(|session| session.second_numbers("change ")).collect();
     assert_eq!(kinds, (1..=9).collect());
     assert_eq!(routes, (1..=3).collect());
-    assert_eq!(rows, (0..=10).collect());
+    assert_eq!(rows, (0..=12).collect());
+}
+
+/// How often a line that starts in one of these ways is followed by one that starts in one of those.
+fn followed(these: &[&str], those: &[&str]) -> usize {
+    let starts = |line: &str, ways: &[&str]| ways.iter().any(|way| line.starts_with(way));
+    let both = |lines: &&[String]| starts(&lines[0], these) && starts(&lines[1], those);
+    sessions().iter().map(|session| session.lines.windows(2).filter(both).count()).sum()
 }
 
 #[test]
 fn has_trials_after_keeps() {
-    let after_keep = |lines: &[String]| lines[0].starts_with("keep 0 ") && lines[1].starts_with("trial 0 ");
-    let trials = |session: &Session| session.lines.windows(2).filter(|lines| after_keep(lines)).count();
-    assert!(sessions().iter().map(trials).sum::<usize>() > 20);
+    assert!(followed(&["keep 0 "], &["trial 0 "]) > 20);
+}
+
+#[test]
+fn has_calls_refused_for_the_index() {
+    assert!(followed(&["change 11 ", "change 12 "], &["trial 8 ", "keep 8 "]) > 20);
 }

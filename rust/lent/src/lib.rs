@@ -60,7 +60,7 @@ pub struct TablesMut<'a> {
     pub coefs: &'a mut [i16],
 }
 
-/// Buffers for `build` to fill: n numbers, m places of the order, n values.
+/// Buffers for `build` to fill: n numbers, m places of the order, n values, n + 1 starts and room for e readers.
 #[derive(Debug)]
 pub struct Built<'a> {
     /// Each variable's topological number.
@@ -69,6 +69,10 @@ pub struct Built<'a> {
     pub order: &'a mut [u16],
     /// Each variable's value.
     pub stored: &'a mut [i32],
+    /// Where the readers of each variable start, and where the last one's end.
+    pub reader_starts: &'a mut [u16],
+    /// The rows that read each variable, ascending, each once; what lies beyond the last is not written.
+    pub reader_places: &'a mut [u16],
 }
 
 /// What build left, lent to a trial.
@@ -80,6 +84,10 @@ pub struct State<'a> {
     pub order: &'a [u16],
     /// Each variable's value.
     pub stored: &'a [i32],
+    /// Where the readers of each variable start, and where the last one's end.
+    pub reader_starts: &'a [u16],
+    /// The rows that read each variable, ascending, each once.
+    pub reader_places: &'a [u16],
 }
 
 /// A move: at most 64 pairs of a search variable and its new value.
@@ -109,6 +117,40 @@ pub struct Tried<'a> {
     pub results: &'a mut [i32],
     /// The new value of each variable moved or evaluated, and the stored one elsewhere.
     pub trial: &'a mut [i32],
+    /// 1 for each variable that was evaluated, 0 elsewhere.
+    pub flags: &'a mut [u8],
+}
+
+/// What a trial is lent besides the record and the tables.
+#[derive(Debug)]
+pub struct Trial<'a> {
+    /// What build left.
+    pub state: State<'a>,
+    /// The move to try.
+    pub moved: Move<'a>,
+    /// The variables asked.
+    pub asked: Asked<'a>,
+    /// 1 input to output, 2 output to input, 3 mark-guided.
+    pub route: u32,
+    /// What the trial fills.
+    pub tried: Tried<'a>,
+}
+
+/// What a keep is lent besides the record and the tables.
+#[derive(Debug)]
+pub struct Keep<'a> {
+    /// Each variable's topological number.
+    pub numbers: &'a [u16],
+    /// The rows by the number of the variable made, ties by row.
+    pub order: &'a [u16],
+    /// Each variable's value, which the move changes.
+    pub stored: &'a mut [i32],
+    /// Where the readers of each variable start, and where the last one's end.
+    pub reader_starts: &'a [u16],
+    /// The rows that read each variable, ascending, each once.
+    pub reader_places: &'a [u16],
+    /// The move to keep.
+    pub moved: Move<'a>,
     /// 1 for each variable that was evaluated, 0 elsewhere.
     pub flags: &'a mut [u8],
 }

@@ -3,7 +3,7 @@
 #![warn(missing_docs)]
 
 use compare::{Answer, Calls};
-use lent::{Asked, Built, Move, Session, State, Tables, TablesMut, Tried};
+use lent::{Built, Keep, Session, Tables, TablesMut, Trial};
 use lukhandro::sys::{Outcome, ReadOutcome};
 
 /// The engine that the archive holds.
@@ -15,28 +15,12 @@ impl Calls for Proved {
         answer(lukhandro::lent::build(session, tables, starts, built))
     }
 
-    fn trial(
-        session: &mut Session,
-        tables: Tables<'_>,
-        state: State<'_>,
-        moved: Move<'_>,
-        asked: Asked<'_>,
-        route: u32,
-        tried: Tried<'_>,
-    ) -> Answer {
-        answer(lukhandro::lent::trial(session, tables, state, moved, asked, route, tried))
+    fn trial(session: &mut Session, tables: Tables<'_>, lent: Trial<'_>) -> Answer {
+        answer(lukhandro::lent::trial(session, tables, lent))
     }
 
-    fn keep(
-        session: &mut Session,
-        tables: Tables<'_>,
-        numbers: &[u16],
-        order: &[u16],
-        stored: &mut [i32],
-        moved: Move<'_>,
-        flags: &mut [u8],
-    ) -> Answer {
-        answer(lukhandro::lent::keep(session, tables, numbers, order, stored, moved, flags))
+    fn keep(session: &mut Session, tables: Tables<'_>, lent: Keep<'_>) -> Answer {
+        answer(lukhandro::lent::keep(session, tables, lent))
     }
 
     fn read(bytes: &[u8], tables: TablesMut<'_>) -> Answer {

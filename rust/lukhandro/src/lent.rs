@@ -5,13 +5,14 @@
 //! changed. A refused call changes nothing.
 
 use crate::sys::{self, Outcome, ReadOutcome};
-pub use ::lent::{Asked, Built, Move, Session, State, Tables, TablesMut, Tried};
+pub use ::lent::{Asked, Built, Keep, Move, Session, State, Tables, TablesMut, Trial, Tried};
 
-/// Fills numbers, order and stored values from tables and start values; gives the evaluations, m. Refusals 1 to 7.
+/// Fills numbers, order, stored values and the index of readers from tables and start values; gives the evaluations, m.
+/// Refusals 1 to 7.
 #[rustfmt::skip]
 pub fn build(session: &mut Session, tables: Tables<'_>, starts: &[i32], built: Built<'_>) -> Outcome {
     let Tables { n, m, e, kinds, makes, params, firsts, counts, vars, coefs } = tables;
-    let Built { numbers, order, stored } = built;
+    let Built { numbers, order, stored, reader_starts, reader_places } = built;
     // SAFETY: each pointer goes with the length of its own slice, and no slice that is written overlaps another.
     unsafe {
         sys::lukhandro_build(
@@ -20,7 +21,8 @@ pub fn build(session: &mut Session, tables: Tables<'_>, starts: &[i32], built: B
             firsts.as_ptr(), firsts.len(), counts.as_ptr(), counts.len(), vars.as_ptr(), vars.len(),
             coefs.as_ptr(), coefs.len(), starts.as_ptr(), starts.len(),
             numbers.as_mut_ptr(), numbers.len(), order.as_mut_ptr(), order.len(),
-            stored.as_mut_ptr(), stored.len(),
+            stored.as_mut_ptr(), stored.len(), reader_starts.as_mut_ptr(), reader_starts.len(),
+            reader_places.as_mut_ptr(), reader_places.len(),
         )
     }
 }
@@ -28,12 +30,10 @@ pub fn build(session: &mut Session, tables: Tables<'_>, starts: &[i32], built: B
 /// Tries a move by a route, and fills results, trial values and flags; gives the evaluations. Refusals 1 to 13
 /// without 6.
 #[rustfmt::skip]
-pub fn trial(
-    session: &mut Session, tables: Tables<'_>, state: State<'_>, moved: Move<'_>, asked: Asked<'_>, route: u32,
-    tried: Tried<'_>,
-) -> Outcome {
+pub fn trial(session: &mut Session, tables: Tables<'_>, lent: Trial<'_>) -> Outcome {
     let Tables { n, m, e, kinds, makes, params, firsts, counts, vars, coefs } = tables;
-    let State { numbers, order, stored } = state;
+    let Trial { state, moved, asked, route, tried } = lent;
+    let State { numbers, order, stored, reader_starts, reader_places } = state;
     let Tried { results, trial, flags } = tried;
     // SAFETY: each pointer goes with the length of its own slice, and no slice that is written overlaps another.
     unsafe {
@@ -42,7 +42,8 @@ pub fn trial(
             kinds.as_ptr(), kinds.len(), makes.as_ptr(), makes.len(), params.as_ptr(), params.len(),
             firsts.as_ptr(), firsts.len(), counts.as_ptr(), counts.len(), vars.as_ptr(), vars.len(),
             coefs.as_ptr(), coefs.len(), numbers.as_ptr(), numbers.len(), order.as_ptr(), order.len(),
-            stored.as_ptr(), stored.len(), moved.pairs, moved.vars.as_ptr(), moved.vars.len(),
+            stored.as_ptr(), stored.len(), reader_starts.as_ptr(), reader_starts.len(),
+            reader_places.as_ptr(), reader_places.len(), moved.pairs, moved.vars.as_ptr(), moved.vars.len(),
             moved.values.as_ptr(), moved.values.len(), asked.asked, asked.vars.as_ptr(), asked.vars.len(), route,
             results.as_mut_ptr(), results.len(), trial.as_mut_ptr(), trial.len(), flags.as_mut_ptr(), flags.len(),
         )
@@ -52,11 +53,9 @@ pub fn trial(
 /// Keeps a move by route 1: changes the stored values, and fills the flags; gives the evaluations. Refusals 1 to 12
 /// without 6 and 9.
 #[rustfmt::skip]
-pub fn keep(
-    session: &mut Session, tables: Tables<'_>, numbers: &[u16], order: &[u16], stored: &mut [i32], moved: Move<'_>,
-    flags: &mut [u8],
-) -> Outcome {
+pub fn keep(session: &mut Session, tables: Tables<'_>, lent: Keep<'_>) -> Outcome {
     let Tables { n, m, e, kinds, makes, params, firsts, counts, vars, coefs } = tables;
+    let Keep { numbers, order, stored, reader_starts, reader_places, moved, flags } = lent;
     // SAFETY: each pointer goes with the length of its own slice, and no slice that is written overlaps another.
     unsafe {
         sys::lukhandro_keep(
@@ -64,7 +63,8 @@ pub fn keep(
             kinds.as_ptr(), kinds.len(), makes.as_ptr(), makes.len(), params.as_ptr(), params.len(),
             firsts.as_ptr(), firsts.len(), counts.as_ptr(), counts.len(), vars.as_ptr(), vars.len(),
             coefs.as_ptr(), coefs.len(), numbers.as_ptr(), numbers.len(), order.as_ptr(), order.len(),
-            stored.as_mut_ptr(), stored.len(), moved.pairs, moved.vars.as_ptr(), moved.vars.len(),
+            stored.as_mut_ptr(), stored.len(), reader_starts.as_ptr(), reader_starts.len(),
+            reader_places.as_ptr(), reader_places.len(), moved.pairs, moved.vars.as_ptr(), moved.vars.len(),
             moved.values.as_ptr(), moved.values.len(), flags.as_mut_ptr(), flags.len(),
         )
     }

@@ -1,6 +1,6 @@
 //! A model that owns its buffers.
 
-use crate::lent::{self, Asked, Built, Move, Session, State, Tables, TablesMut, Tried};
+use crate::lent::{self, Asked, Built, Keep, Move, Session, State, Tables, TablesMut, Tried};
 use crate::{BLANK, MOST_ASKED, MOST_ENTRIES, MOST_PAIRS, MOST_VARIABLES, Refused, Route, Row};
 
 /// A model with its values, built and ready to try and keep moves.
@@ -35,6 +35,8 @@ pub struct Model {
     numbers: Vec<u16>,
     order: Vec<u16>,
     stored: Vec<i32>,
+    reader_starts: Vec<u16>,
+    reader_places: Vec<u16>,
     results: [i32; MOST_ASKED],
     trial: Vec<i32>,
     flags: Vec<u8>,
@@ -57,7 +59,7 @@ pub struct Trial<'a> {
 macro_rules! tables_of {
     ($model:expr) => {
         Tables {
-            n: $model.stored.len(),
+            n: $model.numbers.len(),
             m: $model.kinds.len(),
             e: $model.vars.len(),
             kinds: &$model.kinds,
@@ -150,16 +152,20 @@ impl Model {
     /// Refusal 1 for more than 64 pairs or more than 32 asked variables, and refusals 10 to 13.
     pub fn trial(&mut self, pairs: &[(u16, i32)], asked: &[u16], route: Route) -> Result<Trial<'_>, Refused> {
         let moved = Pairs::of(pairs);
-        let evaluations = lent::trial(
-            &mut self.session,
-            tables_of!(self),
-            State { numbers: &self.numbers, order: &self.order, stored: &self.stored },
-            moved.lent(),
-            Asked { asked: asked.len(), vars: asked },
-            route as u32,
-            Tried { results: &mut self.results, trial: &mut self.trial, flags: &mut self.flags },
-        )
-        .judged()?;
+        let trial = lent::Trial {
+            state: State {
+                numbers: &self.numbers,
+                order: &self.order,
+                stored: &self.stored,
+                reader_starts: &self.reader_starts,
+                reader_places: &self.reader_places,
+            },
+            moved: moved.lent(),
+            asked: Asked { asked: asked.len(), vars: asked },
+            route: route as u32,
+            tried: Tried { results: &mut self.results, trial: &mut self.trial, flags: &mut self.flags },
+        };
+        let evaluations = lent::trial(&mut self.session, tables_of!(self), trial).judged()?;
         let results = self.results.get(..asked.len()).unwrap_or(&[]);
         Ok(Trial { evaluations, results, values: &self.trial, flags: &self.flags })
     }
@@ -183,9 +189,16 @@ impl Model {
     /// Refusal 1 for more than 64 pairs, and refusals 10 to 12.
     pub fn keep(&mut self, pairs: &[(u16, i32)]) -> Result<u32, Refused> {
         let moved = Pairs::of(pairs);
-        let tables = tables_of!(self);
-        let (numbers, order) = (&self.numbers, &self.order);
-        lent::keep(&mut self.session, tables, numbers, order, &mut self.stored, moved.lent(), &mut self.flags).judged()
+        let keep = Keep {
+            numbers: &self.numbers,
+            order: &self.order,
+            stored: &mut self.stored,
+            reader_starts: &self.reader_starts,
+            reader_places: &self.reader_places,
+            moved: moved.lent(),
+            flags: &mut self.flags,
+        };
+        lent::keep(&mut self.session, tables_of!(self), keep).judged()
     }
 
     /// The model's file, which starts from the values that search variables have now.
@@ -225,6 +238,23 @@ impl Model {
         &self.order
     }
 
+    /// The rows that read a variable, ascending; none if there is no such variable.
+    ///
+    /// ```
+    /// use lukhandro::{Model, Row};
+    ///
+    /// let sheet = Model::build(&[5, 8, 0, 0], &[Row::over(2, 1, 0), Row::max(3, &[0, 2, 0])])?;
+    /// assert_eq!(sheet.readers(0), [0, 1]);
+    /// # Ok::<(), lukhandro::Refused>(())
+    /// ```
+    #[must_use]
+    pub fn readers(&self, variable: u16) -> &[u16] {
+        match self.reader_starts.get(usize::from(variable)..) {
+            Some(&[start, end, ..]) => &self.reader_places[usize::from(start)..usize::from(end)],
+            _ => &[],
+        }
+    }
+
     /// Moves kept.
     #[must_use]
     pub fn kept(&self) -> u32 {
@@ -251,16 +281,25 @@ impl Model {
             numbers: vec![0; n],
             order: vec![0; m],
             stored: vec![0; n],
+            reader_starts: vec![0; n + 1],
+            reader_places: Vec::new(),
             results: [0; MOST_ASKED],
             trial: vec![0; n],
             flags: vec![0; n],
         }
     }
 
-    /// The model with its numbers, order and values.
+    /// The model with its numbers, order, values and readers.
     fn built(mut self, starts: &[i32]) -> Result<Model, Refused> {
+        self.reader_places.resize(self.vars.len(), 0);
         let tables = Tables { n: starts.len(), ..tables_of!(self) };
-        let built = Built { numbers: &mut self.numbers, order: &mut self.order, stored: &mut self.stored };
+        let built = Built {
+            numbers: &mut self.numbers,
+            order: &mut self.order,
+            stored: &mut self.stored,
+            reader_starts: &mut self.reader_starts,
+            reader_places: &mut self.reader_places,
+        };
         lent::build(&mut self.session, tables, starts, built).judged()?;
         Ok(self)
     }

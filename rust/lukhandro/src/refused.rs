@@ -34,7 +34,7 @@ impl fmt::Display for Refused {
                 f,
                 "variable {place} has no value and no row makes it, or a row makes it and it starts at another value than 0"
             ),
-            8 => write!(f, "the numbers and the order are not those that build gives for these tables"),
+            8 => write!(f, "the numbers, the order or the readers are not those that build gives for these tables"),
             9 => write!(f, "there is no such route: it is 1, 2 or 3"),
             10 => write!(f, "pair {place} of the move names a variable that a row makes, or one that is not there"),
             11 => write!(f, "pair {place} of the move names the variable of an earlier pair"),

@@ -59,7 +59,7 @@ impl ReadOutcome {
 
 #[rustfmt::skip]
 unsafe extern "C" {
-    /// Numbers, order and values from tables and start values.
+    /// Numbers, order, values and readers from tables and start values.
     pub fn lukhandro_build(
         session: *mut Session, n: usize, m: usize, e: usize,
         kinds: *const u16, kinds_length: usize, makes: *const u16, makes_length: usize,
@@ -67,7 +67,8 @@ unsafe extern "C" {
         counts: *const u16, counts_length: usize, vars: *const u16, vars_length: usize,
         coefs: *const i16, coefs_length: usize, starts: *const i32, starts_length: usize,
         numbers: *mut u16, numbers_length: usize, order: *mut u16, order_length: usize,
-        stored: *mut i32, stored_length: usize,
+        stored: *mut i32, stored_length: usize, reader_starts: *mut u16, reader_starts_length: usize,
+        reader_places: *mut u16, reader_places_length: usize,
     ) -> Outcome;
 
     /// A move tried by a route.
@@ -78,6 +79,7 @@ unsafe extern "C" {
         counts: *const u16, counts_length: usize, vars: *const u16, vars_length: usize,
         coefs: *const i16, coefs_length: usize, numbers: *const u16, numbers_length: usize,
         order: *const u16, order_length: usize, stored: *const i32, stored_length: usize,
+        reader_starts: *const u16, reader_starts_length: usize, reader_places: *const u16, reader_places_length: usize,
         pairs: usize, move_vars: *const u16, move_vars_length: usize,
         move_values: *const i32, move_values_length: usize,
         asked: usize, asked_vars: *const u16, asked_vars_length: usize, route: u32,
@@ -93,6 +95,7 @@ unsafe extern "C" {
         counts: *const u16, counts_length: usize, vars: *const u16, vars_length: usize,
         coefs: *const i16, coefs_length: usize, numbers: *const u16, numbers_length: usize,
         order: *const u16, order_length: usize, stored: *mut i32, stored_length: usize,
+        reader_starts: *const u16, reader_starts_length: usize, reader_places: *const u16, reader_places_length: usize,
         pairs: usize, move_vars: *const u16, move_vars_length: usize,
         move_values: *const i32, move_values_length: usize,
         flags: *mut u8, flags_length: usize,

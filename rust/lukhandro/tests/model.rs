@@ -18,6 +18,8 @@ fn a_model_is_built() {
     assert_eq!(sheet.stored(), [25200, 28800, 600, 6, 28200, 26]);
     assert_eq!(sheet.numbers(), [0, 0, 0, 1, 1, 2]);
     assert_eq!(sheet.order(), [0, 1, 2]);
+    assert_eq!((sheet.readers(2), sheet.readers(3)), (&[0, 1][..], &[2][..]));
+    assert_eq!((sheet.readers(5), sheet.readers(6), sheet.readers(65535)), (&[][..], &[][..], &[][..]));
     assert_eq!((sheet.kept(), sheet.evaluations()), (0, 3));
     assert_eq!((sheet.value(5), sheet.value(6)), (Some(26), None));
 }

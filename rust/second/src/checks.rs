@@ -41,8 +41,11 @@ pub(crate) fn tables_fit(tables: &Tables<'_>) -> bool {
 }
 
 /// Whether no buffer that build left is shorter than the counts ask.
-pub(crate) fn state_fits(state: &State<'_>, n: usize, m: usize) -> bool {
-    state.numbers.len() >= n && state.order.len() >= m && state.stored.len() >= n
+pub(crate) fn state_fits(state: &State<'_>, tables: &Tables<'_>) -> bool {
+    let State { numbers, order, stored, reader_starts, reader_places } = state;
+    [numbers.len(), stored.len(), reader_starts.len().saturating_sub(1)].iter().all(|&length| length >= tables.n)
+        && order.len() >= tables.m
+        && reader_places.len() >= tables.e
 }
 
 /// Whether the number of pairs is inside its bound and no buffer is shorter.

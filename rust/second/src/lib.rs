@@ -14,6 +14,7 @@ mod file;
 mod formulas;
 mod order;
 mod parts;
+mod readers;
 mod refused;
 mod routes;
 

@@ -1,6 +1,6 @@
 //! What is lent, without what lies beyond the counts; and rows with their parts of the entries.
 
-use lent::{Move, State, Tables};
+use lent::{Keep, Move, State, Tables};
 
 /// One row, with its part of the entries.
 #[derive(Clone, Copy)]
@@ -27,9 +27,22 @@ pub(crate) fn counted_tables<'a>(tables: &Tables<'a>) -> Tables<'a> {
     }
 }
 
+/// What build left of what a keep is lent, with the stored values as they are before the move.
+pub(crate) fn state_of<'a>(lent: &'a Keep<'_>) -> State<'a> {
+    let &Keep { numbers, order, ref stored, reader_starts, reader_places, .. } = lent;
+    State { numbers, order, stored, reader_starts, reader_places }
+}
+
 /// The state of a model of these counts, without what lies beyond them. Check 1 has passed.
-pub(crate) fn counted_state<'a>(state: &State<'a>, n: usize, m: usize) -> State<'a> {
-    State { numbers: &state.numbers[..n], order: &state.order[..m], stored: &state.stored[..n] }
+pub(crate) fn counted_state<'a>(state: &State<'a>, tables: &Tables<'_>) -> State<'a> {
+    let &Tables { n, m, e, .. } = tables;
+    State {
+        numbers: &state.numbers[..n],
+        order: &state.order[..m],
+        stored: &state.stored[..n],
+        reader_starts: &state.reader_starts[..=n],
+        reader_places: &state.reader_places[..e],
+    }
 }
 
 /// The move without what lies beyond its count. Check 1 has passed.
@@ -51,6 +64,16 @@ pub(crate) fn rows_of<'a>(tables: &Tables<'a>) -> impl Iterator<Item = Row<'a>> 
         (part, vars) = vars.split_at(usize::from(count));
         (coefficients, coefs) = coefs.split_at(usize::from(count));
         Row { kind, makes: usize::from(makes), parameter, vars: part, coefs: coefficients }
+    })
+}
+
+/// The input variables of all rows, one row after another, each with its number. Check 3 has passed.
+pub(crate) fn inputs_of<'a>(tables: &Tables<'a>) -> impl Iterator<Item = (u16, &'a [u16])> + use<'a> {
+    let mut vars = tables.vars;
+    (0..).zip(tables.counts).map(move |(row, &count)| {
+        let part;
+        (part, vars) = vars.split_at(usize::from(count));
+        (row, part)
     })
 }
 

@@ -3,24 +3,18 @@
 use crate::checks::Makers;
 use crate::formulas::{ELEMENT, chosen, row_value};
 use crate::parts::{Row, pairs_of, row_of};
+use crate::readers::Readers;
 use lent::{Move, Tables};
 
-/// Which variables have another new value than the stored one, or are marked.
-type Touched = Vec<bool>;
-
-/// Makes a move in a row of values, and says which variables it changed.
-pub(crate) fn make_move(moved: &Move<'_>, values: &mut [i32]) -> Touched {
-    let mut changed = vec![false; values.len()];
+/// Makes a move in a row of values, and gives the variables that it changed.
+pub(crate) fn make_move(moved: &Move<'_>, values: &mut [i32]) -> Vec<usize> {
+    let mut changed = Vec::with_capacity(moved.pairs);
     for (variable, value) in pairs_of(moved) {
-        changed[variable] = values[variable] != value;
-        values[variable] = value;
+        if std::mem::replace(&mut values[variable], value) != value {
+            changed.push(variable);
+        }
     }
     changed
-}
-
-/// Whether some input of the row is touched.
-fn touches(row: &Row<'_>, touched: &[bool]) -> bool {
-    row.vars.iter().any(|&variable| touched[usize::from(variable)])
 }
 
 /// The values of a build: every row along the order.
@@ -31,36 +25,61 @@ pub(crate) fn fill_values(tables: &Tables<'_>, order: &[u16], values: &mut [i32]
     }
 }
 
-/// Route 1: along the order, each row with an input that changed is evaluated. Gives the number evaluated.
+/// Rows that are to have their turn.
+struct Due {
+    rows: Vec<bool>,
+    left: usize,
+}
+
+impl Due {
+    /// Lets these rows have their turn.
+    fn call(&mut self, rows: &[u16]) {
+        for &row in rows {
+            self.left += usize::from(!std::mem::replace(&mut self.rows[usize::from(row)], true));
+        }
+    }
+}
+
+/// Route 1: what changes calls its readers, and the rows that are called have their turn along the order, until none is
+/// left. Gives the number evaluated.
 pub(crate) fn sweep(
     tables: &Tables<'_>,
     order: &[u16],
-    mut changed: Touched,
+    readers: Readers<'_>,
+    changed: &[usize],
     values: &mut [i32],
     flags: &mut [u8],
 ) -> u32 {
+    let mut due = Due { rows: vec![false; tables.m], left: 0 };
+    changed.iter().for_each(|&variable| due.call(readers.of(variable)));
     let mut evaluations = 0;
-    for &row in order {
+    let mut ahead = order.iter();
+    while due.left > 0 {
+        let Some(&row) = ahead.find(|&&row| due.rows[usize::from(row)]) else { break };
         let row = row_of(tables, usize::from(row));
-        if touches(&row, &changed) {
-            let value = row_value(&row, values);
-            changed[row.makes] = values[row.makes] != value;
-            values[row.makes] = value;
-            flags[row.makes] = 1;
-            evaluations += 1;
+        let value = row_value(&row, values);
+        if std::mem::replace(&mut values[row.makes], value) != value {
+            due.call(readers.of(row.makes));
         }
+        flags[row.makes] = 1;
+        evaluations += 1;
+        due.left -= 1;
     }
     evaluations
 }
 
-/// For route 3: the makers of the marked variables alone, so that all others keep what they have.
-pub(crate) fn marked(tables: &Tables<'_>, order: &[u16], mut marked: Touched, mut makers: Makers) -> Makers {
-    for &row in order {
-        let row = row_of(tables, usize::from(row));
-        if touches(&row, &marked) {
-            marked[row.makes] = true;
-        } else {
-            makers[row.makes] = 0;
+/// For route 3: the makers of the marked variables alone, so that all others keep what they have. A made variable is
+/// marked once it has a maker here.
+pub(crate) fn marked(tables: &Tables<'_>, readers: Readers<'_>, changed: Vec<usize>) -> Makers {
+    let mut makers = vec![0; tables.n];
+    let mut reached = changed;
+    while let Some(variable) = reached.pop() {
+        for &row in readers.of(variable) {
+            let made = usize::from(tables.makes[usize::from(row)]);
+            if makers[made] == 0 {
+                makers[made] = row + 1;
+                reached.push(made);
+            }
         }
     }
     makers

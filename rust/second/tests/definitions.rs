@@ -11,9 +11,7 @@ fn agrees_with_the_definitions() {
     println!("seed {seed}");
     let tally = run(&Second, &Naive, seed, 200_000, |random| model(random, Sizes::TINY));
     let tally = tally.unwrap_or_else(|difference| panic!("seed {seed}\n{difference}"));
-    println!("{tally:?}");
-    assert!(tally.by_number.iter().all(|&calls| calls > 100), "every number comes back often: {tally:?}");
-    assert!(tally.accepted.iter().all(|&calls| calls > 1_000), "every call is accepted often: {tally:?}");
+    tally.assert_wide();
 }
 
 /// An engine with one fault that is easy to write.
@@ -53,6 +51,17 @@ fn finds_values_left_beyond_the_count() {
         }
     };
     assert_eq!(found(fault), 0);
+}
+
+#[test]
+fn finds_a_place_written_beyond_the_last_reader() {
+    let fault = |_: &Case, case: &mut Case| {
+        if case.call == Call::Build {
+            let last = usize::from(case.reader_starts[case.n]);
+            case.reader_places.put(last, 0);
+        }
+    };
+    assert!(found(fault) <= 1);
 }
 
 #[test]

@@ -3,9 +3,12 @@
 #include "lukhandro.h"
 
 #define LENT(buffer) buffer, sizeof buffer / sizeof *buffer
+#define TABLES LENT(kinds), LENT(makes), LENT(params), LENT(firsts), LENT(counts), LENT(vars), LENT(coefs)
+#define BUILT LENT(numbers), LENT(order), LENT(stored), LENT(reader_starts), LENT(reader_places)
 
 static uint16_t kinds[3] = {8, 9, 1}, makes[3] = {3, 4, 5}, firsts[3] = {0, 3, 6}, counts[3] = {3, 3, 1};
-static uint16_t vars[7] = {0, 1, 2, 0, 1, 2, 3}, numbers[6], order[3], move_vars[1] = {1}, asked_vars[2] = {5, 4};
+static uint16_t vars[7] = {0, 1, 2, 0, 1, 2, 3}, numbers[6], order[3], reader_starts[7], reader_places[7];
+static uint16_t move_vars[1] = {1}, asked_vars[2] = {5, 4};
 static int32_t params[3] = {0, 0, 2}, starts[6] = {25200, 28800, 600}, stored[6], move_values[1] = {28801};
 static int32_t results[2], trial[6];
 static int16_t coefs[7] = {1, 1, 1, 1, 1, 1, 4};
@@ -20,26 +23,22 @@ static void print(const char *call, lukhandro_outcome outcome) {
 }
 
 int main(void) {
-    print("build", lukhandro_build(&session, 6, 3, 7, LENT(kinds), LENT(makes), LENT(params), LENT(firsts), LENT(counts),
-        LENT(vars), LENT(coefs), LENT(starts), LENT(numbers), LENT(order), LENT(stored)));
-    print("trial", lukhandro_trial(&session, 6, 3, 7, LENT(kinds), LENT(makes), LENT(params), LENT(firsts), LENT(counts),
-        LENT(vars), LENT(coefs), LENT(numbers), LENT(order), LENT(stored), 1, LENT(move_vars), LENT(move_values),
-        2, LENT(asked_vars), 3, LENT(results), LENT(trial), LENT(flags)));
+    print("build", lukhandro_build(&session, 6, 3, 7, TABLES, LENT(starts), BUILT));
+    printf("readers of 2 from place %u to %u: %u %u\n", reader_starts[2], reader_starts[3], reader_places[4],
+        reader_places[5]);
+    print("trial", lukhandro_trial(&session, 6, 3, 7, TABLES, BUILT, 1, LENT(move_vars), LENT(move_values), 2,
+        LENT(asked_vars), 3, LENT(results), LENT(trial), LENT(flags)));
     printf("results %d %d, trial %d, flags %u %u %u\n", results[0], results[1], trial[1], flags[3], flags[4], flags[5]);
-    print("keep", lukhandro_keep(&session, 6, 3, 7, LENT(kinds), LENT(makes), LENT(params), LENT(firsts), LENT(counts),
-        LENT(vars), LENT(coefs), LENT(numbers), LENT(order), LENT(stored), 1, LENT(move_vars), LENT(move_values),
+    print("keep", lukhandro_keep(&session, 6, 3, 7, TABLES, BUILT, 1, LENT(move_vars), LENT(move_values), LENT(flags)));
+    print("keep", lukhandro_keep(&session, 6, 3, 7, TABLES, BUILT, 1, asked_vars + 1, 1, LENT(move_values),
         LENT(flags)));
-    print("keep", lukhandro_keep(&session, 6, 3, 7, LENT(kinds), LENT(makes), LENT(params), LENT(firsts), LENT(counts),
-        LENT(vars), LENT(coefs), LENT(numbers), LENT(order), LENT(stored), 1, asked_vars + 1, 1, LENT(move_values),
-        LENT(flags)));
-    print("write", lukhandro_write(6, 3, 7, LENT(starts), LENT(kinds), LENT(makes), LENT(params), LENT(firsts),
-        LENT(counts), LENT(vars), LENT(coefs), LENT(bytes)));
+    reader_places[0] = 1;
+    print("keep", lukhandro_keep(&session, 6, 3, 7, TABLES, BUILT, 1, LENT(move_vars), LENT(move_values), LENT(flags)));
+    print("write", lukhandro_write(6, 3, 7, LENT(starts), TABLES, LENT(bytes)));
     params[2] = 0;
-    lukhandro_read_outcome read = lukhandro_read(LENT(bytes), LENT(starts), LENT(kinds), LENT(makes), LENT(params),
-        LENT(firsts), LENT(counts), LENT(vars), LENT(coefs));
+    lukhandro_read_outcome read = lukhandro_read(LENT(bytes), LENT(starts), TABLES);
     printf("read %u %u %u %u %u, parameter %d\n", read.number, read.place, read.n, read.m, read.e, params[2]);
-    read = lukhandro_read(bytes, 111, LENT(starts), LENT(kinds), LENT(makes), LENT(params), LENT(firsts), LENT(counts),
-        LENT(vars), LENT(coefs));
+    read = lukhandro_read(bytes, 111, LENT(starts), TABLES);
     printf("read %u %u %u %u %u\n", read.number, read.place, read.n, read.m, read.e);
     return 0;
 }

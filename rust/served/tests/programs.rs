@@ -23,10 +23,12 @@ fn the_c_example() {
 fn every_call_from_c() {
     let expected = "\
 build 0 0 3, session 0 3, stored 6 28200 26
+readers of 2 from place 4 to 6: 0 1
 trial 0 0 3, session 0 3, stored 6 28200 26
 results 30 28800, trial 28801, flags 1 1 1
 keep 0 0 3, session 1 3, stored 7 28800 30
 keep 10 0 0, session 1 3, stored 7 28800 30
+keep 8 0 0, session 1 3, stored 7 28800 30
 write 0 0 0, session 1 3, stored 7 28800 30
 read 0 0 6 3 7, parameter 2
 read 14 20 0 0 0
@@ -46,7 +48,7 @@ fn ends(input: &[u8]) -> Option<i32> {
 fn the_server_ends_with_its_input() {
     assert_eq!(ends(&[]), Some(0));
     assert_eq!(ends(&[0; 10]), Some(2), "a request that breaks off");
-    assert_eq!(ends(&[0; 368]), Some(2), "a request without a record");
+    assert_eq!(ends(&[0; 400]), Some(2), "a request without a record");
 }
 
 #[test]

@@ -14,6 +14,12 @@ slice-aggregate-build-new-2 c = search needs
 slice-aggregate-build-new-3 : tie.Need-slice-aggregate-build-new-3
 slice-aggregate-build-new-3 c = search needs
 
+slice-aggregate-build-new-4 : tie.Need-slice-aggregate-build-new-4
+slice-aggregate-build-new-4 c = search needs
+
+slice-aggregate-build-new-5 : tie.Need-slice-aggregate-build-new-5
+slice-aggregate-build-new-5 c = search needs
+
 build-new-requires : tie.Need-build-new-requires
 build-new-requires c κs = search needs
 
@@ -33,10 +39,10 @@ returns : tie.Need-returns
 unfolding ofTables
 returns c =
     let c2 = c .before .before .before .before in
-    let c1 = c2 .before .before .before .before .before in
-    let n = c1 .before .before .before .before .before .before .before .before .before .before .args .n in
+    let c1 = c2 .before .before .before .before .before .before .before in
+    let n = c1 .before .before .before .before .before .before .before .before .before .before .before .before .args .n in
     let s = c .before .before .show-refused .ensures in
-    (s .0, told-refusal _ _ _ _ n _ (c1 .build-new .ensures) _ _ (c2 .enum-told2 .given .1) (s .1))
+    (s .0, told-refusal _ _ _ _ _ _ n _ (c1 .build-new .ensures) _ _ (c2 .enum-told2 .given .1) (s .1))
 
 slice-aggregate-list : tie.Need-slice-aggregate-list
 slice-aggregate-list c = search needs
@@ -54,10 +60,10 @@ returns-2 : tie.Need-returns-2
 unfolding ofTables
 returns-2 c =
     let c2 = c .before .before .before .before .before .before in
-    let c1 = c2 .before .before .before .before .before in
-    let n = c1 .before .before .before .before .before .before .before .before .before .before .args .n in
+    let c1 = c2 .before .before .before .before .before .before .before in
+    let n = c1 .before .before .before .before .before .before .before .before .before .before .before .before .args .n in
     let s = c .before .before .list .ensures in
-    (s .0, told-list _ _ _ _ n _ (c1 .build-new .ensures) _ (c2 .enum-told .given .1) (s .1))
+    (s .0, told-list _ _ _ _ _ _ n _ (c1 .build-new .ensures) _ (c2 .enum-told .given .1) (s .1))
 
 pub list-built-spec : {M : Type 1} → statement M
 list-built-spec =
@@ -66,6 +72,8 @@ list-built-spec =
     slice-aggregate-build-new
     slice-aggregate-build-new-2
     slice-aggregate-build-new-3
+    slice-aggregate-build-new-4
+    slice-aggregate-build-new-5
     build-new-requires
     enum-told
     enum-told-2

@@ -7,8 +7,7 @@ use mir.Facts.{toZ-ofZ}
 use borrow.Author.Needs.{needs, sfits-of}
 use lib.IntN.{pos}
 use lib.ListN.{length, getD}
-use Rattle.paper.specs.Lists.{nat}
-use Rattle.paper.specs.File.{joined}
+use Rattle.paper.specs.Lists.{nat, joined}
 use Rattle.text.specs.Buffer.{Put}
 use Rattle.text.specs.Lines.{line, list}
 use Rattle.text.proofs.Laid.{put-nothing, put-then}

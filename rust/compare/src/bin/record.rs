@@ -13,13 +13,14 @@
 //! A trial or a keep is: 1 or 2, route, pairs, asked (4 bytes each), 4 pair variables (2 each), 4 new values (4 each),
 //! 4 asked variables (2 each). What lies beyond pairs or asked means nothing; of a keep route and asked are 0. A change
 //! of one field of what is lent is: 3, row, place, new field (4 bytes each) and zeros. Row 0 is the record's moves kept;
-//! rows 1 to 10 are kinds, made variables, parameters, firsts, counts, entry variables, coefficients, numbers, order and
-//! stored values.
+//! rows 1 to 12 are kinds, made variables, parameters, firsts, counts, entry variables, coefficients, numbers, order,
+//! stored values, and of the index of readers the starts and the places.
 //!
 //! The text has a line `read NUMBER PLACE N M E`; if that is accepted a line `build`; and if that is accepted a line for
 //! each call: `trial`, `keep` or `change ROW PLACE FIELD`. `build`, `trial` and `keep` go on with `NUMBER PLACE
 //! EVALUATIONS` and the record's moves kept and evaluations. If they are accepted, the rows that they leave follow, a bar
-//! before each: numbers, order and stored values; results, trial row and flags; stored values and flags. A blank is `-`.
+//! before each: numbers, order, stored values, and n + 1 starts and e places of the index; results, trial row and flags;
+//! stored values and flags. A blank is `-`.
 
 use std::fmt::{Display, Write};
 use std::path::Path;
@@ -111,10 +112,12 @@ impl Recording {
             return None;
         }
         let (n, m, e) = (n as usize, m as usize, e as usize);
-        let (numbers, order, stored) = (vec![0; ROWS].into(), vec![0; ROWS].into(), vec![0; ROWS].into());
-        model = Case { call: Call::Build, session: BEFORE, n, m, e, numbers, order, stored, ..model };
+        let full = Case { n: ROWS, m: ROWS, e: ENTRIES, ..model }.with_room();
+        model = Case { call: Call::Build, session: BEFORE, n, m, e, ..full };
         let answer = Second.answer(&mut model);
-        let left = rows([row(&model.numbers[..n]), row(&model.order[..m]), values(&model.stored[..n])]);
+        let index = [row(&model.reader_starts[..=n]), row(&model.reader_places[..e])];
+        let left = [row(&model.numbers[..n]), row(&model.order[..m]), values(&model.stored[..n])];
+        let left = rows(left) + &rows(index);
         self.told("build", answer, model.session, &left);
         (answer.number == 0).then_some(model)
     }
@@ -253,10 +256,11 @@ struct Change {
 impl Change {
     /// A change that may be refused, or may be one model for another.
     fn random(random: &mut Random, model: &Case) -> Change {
-        let row = random.pick(&[0, 1, 1, 2, 2, 3, 4, 5, 6, 7, 8, 9, STORED, STORED, STORED]);
+        let row = random.pick(&[0, 1, 1, 2, 2, 3, 4, 5, 6, 7, 8, 9, STORED, STORED, STORED, 11, 11, 12, 12]);
         let place = match row {
-            6 | 7 => random.below(model.e),
+            6 | 7 | 12 => random.below(model.e),
             8 | STORED => random.below(model.n),
+            11 => random.below(model.n + 1),
             _ => random.below(model.m),
         };
         let variable = random.below(model.n + 1) as u32;
@@ -286,7 +290,9 @@ impl Change {
             7 => std::mem::replace(&mut model.coefs[place], field as u16 as i16) as u16 as u32,
             8 => put16(&mut model.numbers, place, field),
             9 => put16(&mut model.order, place, field),
-            _ => put32(&mut model.stored, place, field),
+            STORED => put32(&mut model.stored, place, field),
+            11 => put16(&mut model.reader_starts, place, field),
+            _ => put16(&mut model.reader_places, place, field),
         }
     }
 }

@@ -95,7 +95,8 @@ fn check_1(case: &Case) -> bool {
         && case.counts.len() >= m
         && case.vars.len() >= e
         && case.coefs.len() >= e;
-    let state = case.numbers.len() >= n && case.order.len() >= m && case.stored.len() >= n;
+    let index = case.reader_starts.len() > n && case.reader_places.len() >= e;
+    let state = case.numbers.len() >= n && case.order.len() >= m && case.stored.len() >= n && index;
     let moved = pairs <= 64 && case.move_vars.len() >= pairs && case.move_values.len() >= pairs;
     let keep = tables && state && moved && case.flags.len() >= n;
     let questions = asked <= 32 && case.asked_vars.len() >= asked && case.results.len() >= asked;
@@ -203,7 +204,21 @@ impl Model {
     fn check_8(&self, case: &Case) -> Check {
         let numbered = (0..self.n).all(|variable| self.number(variable, self.n) == Some(case.numbers[variable].into()));
         let lent: Vec<usize> = case.order[..case.m].iter().map(|&row| usize::from(row)).collect();
-        fixed(8, numbered && self.order() == Some(lent))
+        let (starts, places) = self.index();
+        let indexed = case.reader_starts[..=case.n] == *starts && case.reader_places.starts_with(&places);
+        fixed(8, numbered && self.order() == Some(lent) && indexed)
+    }
+
+    /// The rows that read a variable, ascending.
+    fn readers(&self, variable: usize) -> Vec<u16> {
+        let reads = |row: &usize| self.rows[*row].inputs.iter().any(|&(input, _)| input == variable);
+        (0..self.rows.len()).filter(reads).map(|row| row as u16).collect()
+    }
+
+    /// The index: how many readers the variables below each have, and the readers of one variable after another.
+    fn index(&self) -> (Vec<u16>, Vec<u16>) {
+        let below = |end: usize| (0..end).flat_map(|variable| self.readers(variable)).collect::<Vec<u16>>();
+        ((0..=self.n).map(|end| below(end).len() as u16).collect(), below(self.n))
     }
 
     fn checks_10_to_12(&self, case: &Case) -> [Check; 3] {
@@ -258,6 +273,9 @@ fn build(case: &mut Case, model: &Model) -> Answer {
     case.stored[..values.len()].copy_from_slice(&values);
     case.numbers[..numbers.len()].copy_from_slice(&numbers);
     case.order[..order.len()].copy_from_slice(&order);
+    let (starts, places) = model.index();
+    case.reader_starts[..starts.len()].copy_from_slice(&starts);
+    case.reader_places[..places.len()].copy_from_slice(&places);
     case.session.kept = 0;
     case.session.evaluations = case.m as u32;
     Answer { evaluations: case.session.evaluations, ..Answer::default() }

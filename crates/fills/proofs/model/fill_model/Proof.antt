@@ -1,7 +1,8 @@
--- The numbers and the order first, then the start values, and over them every row along that order. Assumes nothing.
+-- The numbers, the order and the index first, then the start values, and over them every row along that order. Assumes nothing.
 use Rattle.paper.specs.Calls.{BuildLent}
 use Rattle.order.proofs.Bare.{formed-of}
 use Rattle.judges.specs.Lent.{toBuild}
+use Rattle.readers.proofs.Known.{entries-laid}
 use Rattle.fills.proofs.Built.{known, room, numbers-left, order-left, along, stored-long, stored-left}
 use borrow.Author.Needs.{needs}
 use Rattle.fills.proofs.model.fill_model.Statement.{statement}
@@ -10,26 +11,26 @@ use Rattle.fills.proofs.model.fill_model.Tie as tie
 abbrev lent : tie.Start → BuildLent
 lent s =
     let a = s .args in
-    toBuild 0 0 (a .n) (a .m) (a .e) (a .kinds .now) (a .makes .now) (a .params .now) (a .firsts .now) (a .counts .now) (a .vars .now) (a .coefs .now) (a .starts .now) (a .numbers .now) (a .order .now) (a .stored .now)
+    toBuild 0 0 (a .n) (a .m) (a .e) (a .kinds .now) (a .makes .now) (a .params .now) (a .firsts .now) (a .counts .now) (a .vars .now) (a .coefs .now) (a .starts .now) (a .numbers .now) (a .order .now) (a .stored .now) (a .reader-starts .now) (a .reader-places .now)
 
 write-numbers-requires : tie.Need-write-numbers-requires
-write-numbers-requires c κs =
-    let s = c .before .before .before .before .before .before .before .before in let l = lent s in let t = l .tables in
-    (s .pre .numbered, room l _ (s .pre) .numbers)
+write-numbers-requires c κs = let s = c .before .before .before .before .before .before .before .before .before .before in (s .pre .numbered, room (lent s) _ (s .pre) .numbers)
 
 write-order-requires : tie.Need-write-order-requires
-write-order-requires c κs =
-    let s = c .before .before .before .before .before .before .before .before .before .before .before .before in let l = lent s in let t = l .tables in
-    (formed-of t (known l _ (s .pre) .sound), (s .pre .numbered, room l _ (s .pre) .order))
+write-order-requires c κs = let s = c .before .before .before .before .before .before .before .before .before .before .before .before .before .before in let l = lent s in (formed-of (l .tables) (known l _ (s .pre) .sound), (s .pre .numbered, room l _ (s .pre) .order))
+
+write-readers-requires : tie.Need-write-readers-requires
+write-readers-requires c κs =
+    let s = c .before .before .before .before .before .before .before .before .before .before .before .before .before .before .before .before .before .before .before in let l = lent s in let r = room l _ (s .pre) in
+    (entries-laid (l .tables) (known l _ (s .pre) .sound), (r .index-starts, r .index-places))
 
 copy-values-requires : tie.Need-copy-values-requires
-copy-values-requires c κs =
-    let s = c .before .before .before .before .before .before .before .before .before .before .before .before .before .before .before .before in let r = room (lent s) _ (s .pre) in (r .starts, r .stored)
+copy-values-requires c κs = let s = c .before .before .before .before .before .before .before .before .before .before .before .before .before .before .before .before .before .before .before .before .before .before .before .before .before in let r = room (lent s) _ (s .pre) in (r .starts, r .stored)
 
 work-out-requires : tie.Need-work-out-requires
 work-out-requires c κs =
-    let s = c .before .before .before .before .before .before .before .before .before .before .before .before .before .before .before .before .before .before .before .before in let l = lent s in
-    (along l _ (s .pre) _ (c .before .before .before .before .before .before .before .write-order .ensures), stored-long l _ (s .pre) _ (c .before .before .before .copy-values .ensures))
+    let s = c .before .before .before .before .before .before .before .before .before .before .before .before .before .before .before .before .before .before .before .before .before .before .before .before .before .before .before .before .before in let l = lent s in
+    (along l _ (s .pre) _ (c .before .before .before .before .before .before .before .before .before .before .before .before .before .before .write-order .ensures), stored-long l _ (s .pre) _ (c .before .before .before .copy-values .ensures))
 
 same-length : tie.Need-same-length
 same-length c = search needs
@@ -40,10 +41,16 @@ same-length-2 c = search needs
 same-length-3 : tie.Need-same-length-3
 same-length-3 c = search needs
 
+same-length-4 : tie.Need-same-length-4
+same-length-4 c = search needs
+
+same-length-5 : tie.Need-same-length-5
+same-length-5 c = search needs
+
 returns : tie.Need-returns
 returns c =
-    let s = c .before .before .before .before .before .before .before .before .before .before .before .before .before .before .before .before .before .before .before .before .before .before in let l = lent s in
-    (numbers-left l _ (s .pre) _ (c .before .before .before .before .before .before .before .before .before .before .before .before .before .write-numbers .ensures), (order-left l _ (s .pre) _ (c .before .before .before .before .before .before .before .before .before .write-order .ensures), stored-left l _ (s .pre) _ _ (c .before .before .before .before .before .copy-values .ensures) (c .before .work-out .ensures)))
+    let s = c .before .before .before .before .before .before .before .before .before .before .before .before .before .before .before .before .before .before .before .before .before .before .before .before .before .before .before .before .before .before .before in let l = lent s in
+    (numbers-left l _ (s .pre) _ (c .before .before .before .before .before .before .before .before .before .before .before .before .before .before .before .before .before .before .before .before .write-numbers .ensures), (order-left l _ (s .pre) _ (c .before .before .before .before .before .before .before .before .before .before .before .before .before .before .before .before .write-order .ensures), (stored-left l _ (s .pre) _ _ (c .before .before .before .before .before .copy-values .ensures) (c .before .work-out .ensures), c .before .before .before .before .before .before .before .before .before .before .before .write-readers .ensures)))
 
 pub fill-model-spec : {M : Type 1} → statement M
 fill-model-spec =
@@ -51,9 +58,12 @@ fill-model-spec =
     (tie.spec
     write-numbers-requires
     write-order-requires
+    write-readers-requires
     copy-values-requires
     work-out-requires
     same-length
     same-length-2
     same-length-3
+    same-length-4
+    same-length-5
     returns)

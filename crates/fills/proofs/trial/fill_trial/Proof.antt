@@ -3,11 +3,11 @@ use Prim.Native.Nat.{_≤_}
 use native.Mathlib.Omega.{arith}
 use mathlib.Core.Path.{sym}
 use borrow.Author.Needs.{needs}
-use Rattle.paper.specs.Tables.{Tables, lent}
+use Rattle.paper.specs.Tables.{Tables, Index, indexIn, lent}
 use Rattle.paper.specs.Calls.{Tried, Kept}
 use Rattle.judges.specs.Lent.{toTry}
 use Rattle.fills.proofs.Writes.{held, count-fits, asked-long, asked-within, trial-filled}
-use Rattle.fills.proofs.Ran.{begun}
+use Rattle.fills.proofs.Ran.{moves-long, begun, named}
 use Rattle.fills.proofs.trial.fill_trial.Statement.{statement}
 use Rattle.fills.proofs.trial.fill_trial.Tie as tie
 
@@ -24,30 +24,36 @@ tried s =
 abbrev kept : tie.Start → Kept
 kept s = record { move = tried s .move; flags = tried s .flags }
 
+abbrev index : tie.Start → Index
+index s = indexIn (s .args .reader-starts .now) (s .args .reader-places .now)
+
 room : (s : tie.Start) → s .args .n ≤ 4096
-room s = held (tables s) (s .args .order .now) (s .args .stored .now) (kept s) (s .pre .keeping) .n-most
+room s = held (tables s) (s .args .order .now) (index s) (s .args .stored .now) (kept s) (s .pre .keeping) .n-most
 
 begin-route-requires : tie.Need-begin-route-requires
 begin-route-requires c κs = search needs
 
 slice-aggregate-wanted : tie.Need-slice-aggregate-wanted
-slice-aggregate-wanted c = let s = c .before .before .before .before .before .before .before .before .before .before .before .before .before .before .before .before in sym (asked-long (tables s) (s .args .order .now) (s .args .stored .now) (tried s) (s .pre))
+slice-aggregate-wanted c = let s = c .before .before .before .before .before .before .before .before .before .before .before .before .before .before .before .before .before .before in sym (asked-long (tables s) (s .args .order .now) (index s) (s .args .stored .now) (tried s) (s .pre))
+
+slice-aggregate-run-route : tie.Need-slice-aggregate-run-route
+slice-aggregate-run-route c = let s = c .before .before .before .before .before .before .before .before .before .before .before .before .before .before .before .before .before .before .before in sym (moves-long (tables s) (s .args .order .now) (index s) (s .args .stored .now) (kept s) (s .pre .keeping))
 
 run-route-requires : tie.Need-run-route-requires
 run-route-requires c κs =
-    let s = c .before .before .before .before .before .before .before .before .before .before .before .before .before .before .before .before .before .before in let b = c .before .before .before .before .before .before .begin-route .ensures in let k = s .pre .keeping in
-    (k .along, (begun (tables s) (s .args .order .now) (s .args .stored .now) (kept s) k _ _ _ (s .pre .in-trial) (b .0) (b .1), s .pre .asked))
+    let s = c .before .before .before .before .before .before .before .before .before .before .before .before .before .before .before .before .before .before .before .before .before in let b = c .before .before .before .before .before .before .before .begin-route .ensures in let k = s .pre .keeping in
+    (k .along, (k .indexed, (named (tables s) (s .args .order .now) (index s) (s .args .stored .now) (kept s) k _ _ _ (s .pre .in-trial) (b .0) (b .1), (begun (tables s) (s .args .order .now) (index s) (s .args .stored .now) (kept s) k _ _ _ (s .pre .in-trial) (b .0) (b .1), s .pre .asked))))
 
 copy-asked-requires : tie.Need-copy-asked-requires
 copy-asked-requires c κs =
-    let s = c .before .before .before .before .before .before .before .before .before .before .before .before .before .before .before .before .before .before .before .before .before .before .before .before in
-    (asked-within (tables s) (s .args .order .now) (s .args .stored .now) (tried s) (s .pre) _ (omega (arith, s .pre .in-trial, c .before .before .before .before .before .before .before .before .before .before .before .before .begin-route .kept .1 .1 .1 .1 .1 .0, c .before .before .before .before .before .run-route .kept .1 .1 .1 .1 .1 .1 .1 .1 .1 .1 .1 .1 .1 .1 .0)), omega (arith, s .pre .in-results, asked-long (tables s) (s .args .order .now) (s .args .stored .now) (tried s) (s .pre)))
+    let s = c .before .before .before .before .before .before .before .before .before .before .before .before .before .before .before .before .before .before .before .before .before .before .before .before .before .before .before in
+    (asked-within (tables s) (s .args .order .now) (index s) (s .args .stored .now) (tried s) (s .pre) _ (omega (arith, s .pre .in-trial, c .before .before .before .before .before .before .before .before .before .before .before .before .before .begin-route .kept .1 .1 .1 .1 .1 .0, c .before .before .before .before .before .run-route .kept .1 .1 .1 .1 .1 .1 .1 .1 .1 .1 .1 .1 .1 .1 .1 .1 .1 .0)), omega (arith, s .pre .in-results, asked-long (tables s) (s .args .order .now) (index s) (s .args .stored .now) (tried s) (s .pre)))
 
 evaluations-requires : tie.Need-evaluations-requires
-evaluations-requires c κs = let s = c .before .before .before .before .before .before .before .before .before .before .before .before .before .before .before .before .before .before .before .before .before .before .before .before .before .before .before in omega (arith, s .pre .keeping .in-flags, c .before .before .before .before .before .before .before .before .before .before .before .before .before .before .before .begin-route .kept .1 .1 .1 .1 .1 .1 .0, c .before .before .before .before .before .before .before .before .run-route .kept .1 .1 .1 .1 .1 .1 .1 .1 .1 .1 .1 .1 .1 .1 .1 .0)
+evaluations-requires c κs = let s = c .before .before .before .before .before .before .before .before .before .before .before .before .before .before .before .before .before .before .before .before .before .before .before .before .before .before .before .before .before .before in omega (arith, s .pre .keeping .in-flags, c .before .before .before .before .before .before .before .before .before .before .before .before .before .before .before .before .begin-route .kept .1 .1 .1 .1 .1 .1 .0, c .before .before .before .before .before .before .before .before .run-route .kept .1 .1 .1 .1 .1 .1 .1 .1 .1 .1 .1 .1 .1 .1 .1 .1 .1 .1 .0)
 
 cast-result : tie.Need-cast-result
-cast-result c = let s = c .before .before .before .before .before .before .before .before .before .before .before .before .before .before .before .before .before .before .before .before .before .before .before .before .before .before .before .before in record { fits = count-fits _ (s .args .n) _ (room s) (c .evaluations .ensures) }
+cast-result c = let s = c .before .before .before .before .before .before .before .before .before .before .before .before .before .before .before .before .before .before .before .before .before .before .before .before .before .before .before .before .before .before .before in record { fits = count-fits _ (s .args .n) _ (room s) (c .evaluations .ensures) }
 
 same-length : tie.Need-same-length
 same-length c = search needs
@@ -60,8 +66,8 @@ same-length-3 c = search needs
 
 returns : tie.Need-returns
 returns c =
-    let s = c .before .before .before .before .before .before .before .before .before .before .before .before .before .before .before .before .before .before .before .before .before .before .before .before .before .before .before .before in let b = c .before .before .before .before .before .before .before .before .before .before .before .before .before .before .before .before .begin-route .ensures in
-    trial-filled (tables s) (s .args .order .now) (s .args .stored .now) (tried s) (s .pre) _ _ _ _ _ _ (b .0) (b .1) (c .before .before .before .before .before .before .before .before .before .run-route .ensures) (c .before .before .before .copy-asked .ensures) (c .evaluations .ensures)
+    let s = c .before .before .before .before .before .before .before .before .before .before .before .before .before .before .before .before .before .before .before .before .before .before .before .before .before .before .before .before .before .before .before in let b = c .before .before .before .before .before .before .before .before .before .before .before .before .before .before .before .before .before .begin-route .ensures in
+    trial-filled (tables s) (s .args .order .now) (index s) (s .args .stored .now) (tried s) (s .pre) _ _ _ _ _ _ (b .0) (b .1) (c .before .before .before .before .before .before .before .before .before .run-route .ensures) (c .before .before .before .copy-asked .ensures) (c .evaluations .ensures)
 
 pub fill-trial-spec : {M : Type 1} → statement M
 fill-trial-spec =
@@ -69,6 +75,7 @@ fill-trial-spec =
     (tie.spec
     begin-route-requires
     slice-aggregate-wanted
+    slice-aggregate-run-route
     run-route-requires
     copy-asked-requires
     evaluations-requires

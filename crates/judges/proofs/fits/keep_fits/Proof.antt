@@ -17,7 +17,7 @@ move-sizes-requires c κs = search needs
 
 returns : tie.Need-returns
 returns c =
-    let a = c .before .before .before .before .before .before .before .before .before .before .before .args in
+    let a = c .before .before .before .before .before .before .before .before .before .before .before .before .before .args in
     ap₂ (λ (x y : Bool). joined x (y ∷ leb (a .n) (length (a .flags .now)) ∷ [])) (c .before .model-fits .ensures) (c .move-sizes .ensures) ∙ joined-every _ _
 
 pub keep-fits-spec : {M : Type 1} → statement M

@@ -1,11 +1,14 @@
--- `sizes` has tested the tables and the stored values; the numbers and the order are tested here. Assumes nothing.
+-- `sizes` has tested the tables and the stored values; the numbers, the order and the index are tested here. Assumes nothing.
+use Prim.Native.Nat.{suc}
 use mathlib.Core.Bool.{Bool, _&&_}
-use mathlib.Core.Path.{ap, _∙_}
+use mathlib.Core.List.{[], _∷_}
+use mathlib.Core.Path.{ap₂, _∙_}
 use lib.Dec.{leb}
 use lib.ListN.{length}
 use Rattle.paper.specs.Tables.{lent}
 use Rattle.paper.specs.Checks.{sized}
-use Rattle.judges.proofs.Lengths.{three}
+use Rattle.tables.proofs.Tests.{joined}
+use Rattle.judges.proofs.Lengths.{third-first}
 use borrow.Author.Needs.{needs}
 use Rattle.judges.proofs.fits.model_fits.Statement.{statement}
 use Rattle.judges.proofs.fits.model_fits.Tie as tie
@@ -13,13 +16,17 @@ use Rattle.judges.proofs.fits.model_fits.Tie as tie
 sizes-requires : tie.Need-sizes-requires
 sizes-requires c κs = search needs
 
+index-fits-requires : tie.Need-index-fits-requires
+index-fits-requires c κs = search needs
+
 returns : tie.Need-returns
 returns c =
-    let a = c .before .before .before .before .before .before .before .before .args in
-    let numbers = leb (a .n) (length (a .numbers .now)) in let order = leb (a .m) (length (a .order .now)) in
-    ap (λ (x : Bool). x && numbers && order) (c .sizes .ensures)
-    ∙ three (sized (lent (a .n) (a .m) (a .e) (a .kinds .now) (a .makes .now) (a .params .now) (a .firsts .now) (a .counts .now) (a .vars .now) (a .coefs .now)))
-    numbers order (leb (a .n) (length (a .stored .now)))
+    let a = c .before .before .before .before .before .before .before .before .before .before .before .args in
+    let numbers = leb (a .n) (length (a .numbers .now)) in let order = leb (a .m) (length (a .order .now)) in let stored = leb (a .n) (length (a .stored .now)) in
+    let index = leb (suc (a .n)) (length (a .reader-starts .now)) && leb (a .e) (length (a .reader-places .now)) in
+    ap₂ (λ (x y : Bool). joined x (numbers ∷ order ∷ y ∷ [])) (c .before .sizes .ensures) (c .index-fits .ensures)
+    ∙ third-first (sized (lent (a .n) (a .m) (a .e) (a .kinds .now) (a .makes .now) (a .params .now) (a .firsts .now) (a .counts .now) (a .vars .now) (a .coefs .now)))
+    numbers order stored (index ∷ [])
 
 pub model-fits-spec : {M : Type 1} → statement M
-model-fits-spec = tie.close (tie.spec sizes-requires returns)
+model-fits-spec = tie.close (tie.spec sizes-requires index-fits-requires returns)

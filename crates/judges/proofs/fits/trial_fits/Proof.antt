@@ -17,7 +17,7 @@ move-sizes-requires c κs = search needs
 
 returns : tie.Need-returns
 returns c =
-    let a = c .before .before .before .before .before .before .before .before .before .before .before .before .args in
+    let a = c .before .before .before .before .before .before .before .before .before .before .before .before .before .before .args in
     ap₂ (λ (x y : Bool). joined x (
     y ∷ leb (a .asked) 32 ∷ leb (a .asked) (length (a .asked-vars .now)) ∷ leb (a .asked) (length (a .results .now)) ∷ leb (a .n) (length (a .trial .now))
     ∷ leb (a .n) (length (a .flags .now)) ∷ []))

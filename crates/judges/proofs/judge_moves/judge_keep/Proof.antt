@@ -16,7 +16,7 @@ use Rattle.judges.proofs.judge_moves.judge_keep.Tie as tie
 abbrev model : tie.Start → Model
 model s =
     let a = s .args in
-    toModel (a .n) (a .m) (a .e) (a .kinds .now) (a .makes .now) (a .params .now) (a .firsts .now) (a .counts .now) (a .vars .now) (a .coefs .now) (a .numbers .now) (a .order .now) (a .stored .now)
+    toModel (a .n) (a .m) (a .e) (a .kinds .now) (a .makes .now) (a .params .now) (a .firsts .now) (a .counts .now) (a .vars .now) (a .coefs .now) (a .numbers .now) (a .order .now) (a .stored .now) (a .reader-starts .now) (a .reader-places .now)
 
 abbrev kept : tie.Start → Kept
 kept s = let a = s .args in toKeep (a .pairs) (a .move-vars .now) (a .move-values .now) (a .flags .now)
@@ -34,18 +34,18 @@ refused-requires c κs = search needs
 returns : tie.Need-returns
 unfolding keepVerdict
 returns c =
-    let s = c .before .before .before .before .before .before .before .before .before .before .before .before in
+    let s = c .before .before .before .before .before .before .before .before .before .before .before .before .before .before in
     call-stops-1 (model s) (keepFits (model s) (kept s)) (rest s) _ (c .refused .ensures) (sym (c .before .before .keep-fits .ensures) ∙ not-true _ (c .before .if1 .taken))
 
 -- ── past check 1 ──
-fits : (c : tie.Else1) → let s = c .before .before .before .before .before .before .before .before .before .before .before in keepFits (model s) (kept s) ≡ true
+fits : (c : tie.Else1) → let s = c .before .before .before .before .before .before .before .before .before .before .before .before .before in keepFits (model s) (kept s) ≡ true
 fits c = sym (c .before .keep-fits .ensures) ∙ not-false _ (c .if1 .left)
 
 slice-aggregate-model-checks : tie.Need-slice-aggregate-model-checks
 slice-aggregate-model-checks c = search needs
 
 model-checks-requires : tie.Need-model-checks-requires
-model-checks-requires c κs = let h = each _ (fits (c .before)) .0 in let n = model-fitting (model (c .before .before .before .before .before .before .before .before .before .before .before .before)) h .held .n-most in (h, omega arith)
+model-checks-requires c κs = let h = each _ (fits (c .before)) .0 in let n = model-fitting (model (c .before .before .before .before .before .before .before .before .before .before .before .before .before .before)) h .held .n-most in (h, omega arith)
 
 enum-told : tie.Need-enum-told
 enum-told c = search needs
@@ -56,7 +56,7 @@ enum-told-2 c = search needs
 returns-2 : tie.Need-returns-2
 unfolding keepVerdict
 returns-2 c =
-    let s = c .before .before .before .before .before .before .before .before .before .before .before .before .before .before .before .before in let said = c .enum-told2 .given in
+    let s = c .before .before .before .before .before .before .before .before .before .before .before .before .before .before .before .before .before .before in let said = c .enum-told2 .given in
     call-stops (model s) (keepFits (model s) (kept s)) (rest s) (fits (c .before .before .before .before .before)) _ _ (c .before .before .before .model-checks .ensures) (said .0 .0) (said .0 .1 .0) (said .1)
 
 -- ── the model accepted ──
@@ -65,13 +65,13 @@ slice-aggregate-move-checks c = search needs
 
 move-checks-requires : tie.Need-move-checks-requires
 move-checks-requires c κs =
-    let s = c .before .before .before .before .before .before .before .before .before .before .before .before .before .before .before .before .before in let said = c .before .enum-told .given in let f = each _ (fits (c .before .before .before .before .before .before)) in
+    let s = c .before .before .before .before .before .before .before .before .before .before .before .before .before .before .before .before .before .before .before in let said = c .before .enum-told .given in let f = each _ (fits (c .before .before .before .before .before .before)) in
     move-ready (model s) _ _ (c .before .before .before .before .model-checks .ensures) (said .0 .0) (said .1) (kept s .move) (f .1 .0)
 
 returns-3 : tie.Need-returns-3
 unfolding keepVerdict
 returns-3 c =
-    let s = c .before .before .before .before .before .before .before .before .before .before .before .before .before .before .before .before .before .before in let said = c .before .before .enum-told .given in
+    let s = c .before .before .before .before .before .before .before .before .before .before .before .before .before .before .before .before .before .before .before .before in let said = c .before .before .enum-told .given in
     call-next (model s) (keepFits (model s) (kept s)) (rest s) (fits (c .before .before .before .before .before .before .before)) _ _ (c .before .before .before .before .before .model-checks .ensures) (said .0 .0) (said .1) _ (c .move-checks .ensures)
 
 pub judge-keep-spec : {M : Type 1} → statement M

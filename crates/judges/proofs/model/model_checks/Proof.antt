@@ -8,7 +8,7 @@ use Prim.Native.Nat.{ℕ}
 use borrow.Author.Needs.{needs}
 use borrow.Author.Tests.{not-true, not-false}
 use Rattle.paper.specs.Lists.{over}
-use Rattle.paper.specs.Checks.{accepted, tableChecks, numbered, Sound}
+use Rattle.paper.specs.Checks.{accepted, tableChecks, numbered, indexed, Sound}
 use Rattle.paper.specs.Calls.{Model}
 use Rattle.tables.specs.Answers.{answerOf}
 use Rattle.tables.specs.Makers.{makerOf, Makers}
@@ -16,20 +16,21 @@ use Rattle.tables.proofs.Judged.{refused-is, judged-sound}
 use Rattle.tables.proofs.Made.{makers-filled, sound-makes}
 use Rattle.order.proofs.Bare.{formed-of, makers-bare, numbered-bare}
 use Rattle.judges.specs.Lent.{toModel}
-use Rattle.judges.proofs.JudgingMoves.{answer-accepts, ModelFitting, model-fitting, model-refused, stops-tables, stops-8, stops-7, passes}
+use Rattle.readers.proofs.Known.{entries-laid}
+use Rattle.judges.proofs.JudgingMoves.{answer-accepts, ModelFitting, model-fitting, model-refused, stops-tables, stops-8, stops-index, stops-7, passes}
 use Rattle.judges.proofs.model.model_checks.Statement.{statement}
 use Rattle.judges.proofs.model.model_checks.Tie as tie
 
 abbrev model : tie.Start → Model
 model s =
     let a = s .args in
-    toModel (a .n) (a .m) (a .e) (a .kinds .now) (a .makes .now) (a .params .now) (a .firsts .now) (a .counts .now) (a .vars .now) (a .coefs .now) (a .numbers .now) (a .order .now) (a .stored .now)
+    toModel (a .n) (a .m) (a .e) (a .kinds .now) (a .makes .now) (a .params .now) (a .firsts .now) (a .counts .now) (a .vars .now) (a .coefs .now) (a .numbers .now) (a .order .now) (a .stored .now) (a .reader-starts .now) (a .reader-places .now)
 
 long : (s : tie.Start) → ModelFitting (model s)
 long s = model-fitting (model s) (s .pre .0)
 
 table-checks-requires : tie.Need-table-checks-requires
-table-checks-requires c κs = long (c .before .before .before .before .before .before .before .before) .held
+table-checks-requires c κs = long (c .before .before .before .before .before .before .before .before .before .before) .held
 
 enum-told : tie.Need-enum-told
 enum-told c = search needs
@@ -39,12 +40,12 @@ enum-told-2 c = search needs
 
 returns : tie.Need-returns
 returns c =
-    let w = model (c .before .before .before .before .before .before .before .before .before .before .before) in let said = c .enum-told2 .given in
+    let w = model (c .before .before .before .before .before .before .before .before .before .before .before .before .before) in let said = c .enum-told2 .given in
     model-refused w _ _ (said .0 .0) (said .0 .1 .0) (said .1) (stops-tables w _ _ (refused-is 0 _ _ (tableChecks (w .tables) accepted) (sym (c .before .before .table-checks .ensures) ∙ said .1)))
 
 -- ── past check 5 ──
 abbrev start₅ : tie.After-enum-told → tie.Start
-start₅ c = c .before .before .before .before .before .before .before .before .before .before .before
+start₅ c = c .before .before .before .before .before .before .before .before .before .before .before .before .before
 
 sound : (c : tie.After-enum-told) → Sound (model (start₅ c) .tables)
 sound c =
@@ -80,31 +81,49 @@ returns-2 c =
 past₈ : (c : tie.Else1) → let w = model (start₅ (c .before .before .before .before .before .before .before)) in numbered (w .tables) (w .numbers) (w .order) ≡ true
 past₈ c = let w = model (start₅ (c .before .before .before .before .before .before .before)) in sym (c .before .numbered-right .ensures ∙ numbered-bare (w .tables) (w .numbers) (w .order)) ∙ not-false _ (c .if1 .left)
 
-first-bad-value-requires : tie.Need-first-bad-value-requires
-first-bad-value-requires c κs = let e = c .before .before .before .before .before .before .before .before in (filled e (c .before .before .before .before .before .before .makers .ensures) .long, long (start₅ e) .stored)
+readers-right-requires : tie.Need-readers-right-requires
+readers-right-requires c κs = let e = c .before .before .before .before .before .before .before in let s = start₅ e in (entries-laid (model s .tables) (sound e), (long s .starts, long s .places))
 
 refused-requires-2 : tie.Need-refused-requires-2
-refused-requires-2 c κs = let n = long (start₅ (c .before .before .before .before .before .before .before .before .before .before)) .held .n-most in omega arith
+refused-requires-2 c κs = search needs
 
 same-length-2 : tie.Need-same-length-2
 same-length-2 c = search needs
 
 returns-3 : tie.Need-returns-3
 returns-3 c =
-    let e = c .before .before .before .before .before .before .before .before .before .before .before in let w = model (start₅ e) in
-    model-refused w _ _ 7 _ (c .refused2 .ensures)
-    (stops-7 w (sound e) (past₈ (c .before .before .before .before)) _ (c .before .before .first-bad-value .ensures .of (w .tables) refl (filled e (c .before .before .before .before .before .before .before .before .before .makers .ensures))) (c .before .if2 .taken))
+    let e = c .before .before .before .before .before .before .before .before .before .before in let w = model (start₅ e) in
+    model-refused w _ _ 8 0 (c .refused2 .ensures) (stops-index w (sound e) (past₈ (c .before .before .before)) (sym (c .before .before .readers-right .ensures) ∙ not-true _ (c .before .if2 .taken)))
+
+-- ── past check 8 of the index ──
+past-index : (c : tie.Else2) → let w = model (start₅ (c .before .before .before .before .before .before .before .before .before)) in indexed (w .tables) (w .index) ≡ true
+past-index c = sym (c .before .readers-right .ensures) ∙ not-false _ (c .if2 .left)
+
+first-bad-value-requires : tie.Need-first-bad-value-requires
+first-bad-value-requires c κs = let e = c .before .before .before .before .before .before .before .before .before .before in (filled e (c .before .before .before .before .before .before .before .before .makers .ensures) .long, long (start₅ e) .stored)
+
+refused-requires-3 : tie.Need-refused-requires-3
+refused-requires-3 c κs = let n = long (start₅ (c .before .before .before .before .before .before .before .before .before .before .before .before)) .held .n-most in omega arith
 
 same-length-3 : tie.Need-same-length-3
 same-length-3 c = search needs
 
 returns-4 : tie.Need-returns-4
 returns-4 c =
-    let e = c .before .before .before .before .before .before .before .before .before .before in let w = model (start₅ e) in let said = e .enum-told .given in let k = filled e (c .before .before .before .before .before .before .before .before .makers .ensures) in
+    let e = c .before .before .before .before .before .before .before .before .before .before .before .before .before in let w = model (start₅ e) in
+    model-refused w _ _ 7 _ (c .refused3 .ensures)
+    (stops-7 w (sound e) (past₈ (c .before .before .before .before .before .before)) (past-index (c .before .before .before .before)) _ (c .before .before .first-bad-value .ensures .of (w .tables) refl (filled e (c .before .before .before .before .before .before .before .before .before .before .before .makers .ensures))) (c .before .if3 .taken))
+
+same-length-4 : tie.Need-same-length-4
+same-length-4 c = search needs
+
+returns-5 : tie.Need-returns-5
+returns-5 c =
+    let e = c .before .before .before .before .before .before .before .before .before .before .before .before in let w = model (start₅ e) in let said = e .enum-told .given in let k = filled e (c .before .before .before .before .before .before .before .before .before .before .makers .ensures) in
     record {
       verdict =
           answer-accepts (tableChecks (w .tables) accepted) _ (e .before .before .table-checks .ensures) (said .0 .0) (said .1)
-          ∙ ap (answerOf 0) (sym (passes w (sound e) (past₈ (c .before .before .before)) _ (c .before .first-bad-value .ensures .of (w .tables) refl k, c .if2 .left)));
+          ∙ ap (answerOf 0) (sym (passes w (sound e) (past₈ (c .before .before .before .before .before)) (past-index (c .before .before .before)) _ (c .before .first-bad-value .ensures .of (w .tables) refl k, c .if3 .left)));
       makers = λ _. k;
     }
 
@@ -121,9 +140,13 @@ model-checks-spec =
     refused-requires
     same-length
     returns-2
-    first-bad-value-requires
+    readers-right-requires
     refused-requires-2
     same-length-2
     returns-3
+    first-bad-value-requires
+    refused-requires-3
     same-length-3
-    returns-4)
+    returns-4
+    same-length-4
+    returns-5)

@@ -1,5 +1,6 @@
-//! The graphs that are timed, each at three sizes: a day's sheet, a depot, the deepest chain, and the extreme graphs and
-//! the magic square of the paper on incremental evaluation, at sizes within the bounds.
+//! The graphs that are timed, each at three sizes: a day's sheet, a moved headway that touches five formulas, a depot, the
+//! deepest chain, and the extreme graphs and the magic square of the paper on incremental evaluation, at sizes within the
+//! bounds.
 
 use compare::{Case, Row, chain, of_rows};
 
@@ -15,6 +16,7 @@ pub struct Graph {
 /// All of them, from small to large.
 pub fn graphs() -> Vec<Graph> {
     let mut graphs: Vec<Graph> = [56, 225, 900].map(day_sheet).into();
+    graphs.extend([250, 1000, 4000].map(moved_headway));
     graphs.extend([64, 128, 256].map(depot));
     graphs.extend([255, 1023, 4095].map(deepest_chain));
     graphs.extend([16, 64, 255].map(extreme_static));
@@ -41,6 +43,28 @@ fn day_sheet(windows: u16) -> Graph {
     let asked = sheet.make(1, &crews);
     let build = of_rows(sheet.starts, &sheet.rows);
     Graph { name: "day's sheet", size: windows.into(), build, asked, moves: [vec![(5, 420)], vec![(5, 540)]] }
+}
+
+/// A moved headway that touches five formulas: windows of 32 starts, 32 ends and 32 headways, each with its departures, its
+/// last departure, its crews, the time from its last departure to its end, and whether it has no departure. The first
+/// headway is the first window's alone. With 4,000 formulas it has 4,096 variables.
+fn moved_headway(formulas: u16) -> Graph {
+    let times = |first: i32, step: i32| (0..32).map(move |place| first + step * place);
+    let starts = times(18_000, 600).chain(times(50_000, 700)).chain(times(300, 60)).collect();
+    let mut sheet = Sheet { starts, rows: Vec::new() };
+    let mut crews = Vec::new();
+    for window in 0..formulas / 5 {
+        let headway = if window == 0 { 0 } else { 1 + window % 31 };
+        let [start, end, headway] = [window % 32, 32 + window / 32, 64 + headway];
+        let departures = sheet.make(8, &[start, end, headway]);
+        let last = sheet.make(9, &[start, end, headway]);
+        crews.push(sheet.term(2, 4, departures));
+        sheet.make(7, &[end, last]);
+        sheet.make(6, &[departures]);
+    }
+    let build = of_rows(sheet.starts, &sheet.rows);
+    let moves = [420, 540].map(|seconds| vec![(64, seconds)]);
+    Graph { name: "moved headway", size: formulas.into(), build, asked: crews[0], moves }
 }
 
 /// A depot: in each of four shifts every bay has a vehicle, the bays whose vehicle another bay has too are counted, and

@@ -2,25 +2,25 @@
 use Prim.Native.Nat.{_-_, _≤_}
 use native.Mathlib.Omega.{arith}
 use borrow.Author.Needs.{needs}
-use Rattle.routes.specs.Readers.{Put}
-use Rattle.routes.proofs.Readers.{put-start, put-next, put-end}
-use Rattle.routes.proofs.made.put.Statement.{statement}
-use Rattle.routes.proofs.made.put.Tie as tie
+use Rattle.readers.specs.Parts.{Put}
+use Rattle.readers.proofs.ByEntry.{put-start, put-next, put-end}
+use Rattle.readers.proofs.rows.put.Statement.{statement}
+use Rattle.readers.proofs.rows.put.Tie as tie
 
 abbrev Inv-loop : tie.InvT-loop
-Inv-loop x first last made₀ i₀ made i = (first ≤ i) × (i ≤ last) × Put x first i made₀ made
+Inv-loop x first last row₀ i₀ row i = (first ≤ i) × (i ≤ last) × Put x first i row₀ row
 
 abbrev μ-loop : tie.MeasureT-loop
-μ-loop x first last made₀ i₀ made i = last - i
+μ-loop x first last row₀ i₀ row i = last - i
 
 loop-holds : tie.Need-loop-holds Inv-loop μ-loop
 loop-holds c = (omega arith, c .pre .0, put-start _ _ _)
 
-mul-made : tie.Need-mul-made Inv-loop μ-loop
-mul-made c = search needs
+mul-row : tie.Need-mul-row Inv-loop μ-loop
+mul-row c = search needs
 
-slice-write-made : tie.Need-slice-write-made Inv-loop μ-loop
-slice-write-made c = let long = c .before .loop .inv .2 .long in omega arith
+slice-write-row : tie.Need-slice-write-row Inv-loop μ-loop
+slice-write-row c = let long = c .before .loop .inv .2 .long in omega arith
 
 add-i : tie.Need-add-i Inv-loop μ-loop
 add-i c = search needs
@@ -44,8 +44,8 @@ put-spec =
     Inv-loop
     μ-loop
     loop-holds
-    mul-made
-    slice-write-made
+    mul-row
+    slice-write-row
     add-i
     loop-less
     loop-again

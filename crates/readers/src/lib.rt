@@ -1,0 +1,7 @@
+// The index of readers: where the rows that read each variable start, and the rows. Written for build, checked for trial and keep.
+mod right;
+mod rows;
+mod write;
+
+pub use right::readers_right;
+pub use write::write_readers;
