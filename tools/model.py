@@ -138,14 +138,12 @@ def formula(kind, param, coefs, xs):
     if kind == ELEMENT:
         index, candidates = xs[0], xs[1:]
         return candidates[index] if 0 <= index < len(candidates) else BLANK
+    if kind in (MIN, MAX):
+        return (min if kind == MIN else max)([x for x in xs if x != BLANK], default=BLANK)
     if BLANK in xs:
         return BLANK
     if kind == LINEAR:
         return in_range(param + sum(c * x for c, x in zip(coefs, xs)))
-    if kind == MIN:
-        return min(xs)
-    if kind == MAX:
-        return max(xs)
     if kind == SHARED:
         return sum(1 for x in xs if xs.count(x) > 1)
     if kind == COUNT:

@@ -1,5 +1,6 @@
 pub mod Reading
 pub mod Steps
+pub mod Skipping
 pub mod Pairs
 pub mod Times
 pub mod Rows

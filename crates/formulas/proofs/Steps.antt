@@ -14,7 +14,7 @@ use Rattle.integers.specs.Integers.{away, eqZ}
 use Rattle.integers.proofs.Parts.{sum-away, mul-bound}
 use Rattle.integers.proofs.Ranges.{fits-away}
 use Rattle.paper.specs.Lists.{any, tally}
-use Rattle.paper.specs.Formula.{blank, someBlank, sum, leave, extreme, inputAt}
+use Rattle.paper.specs.Formula.{blank, someBlank, sum, inputAt}
 use Rattle.paper.proofs.Formulas.{tally-le}
 use Rattle.paper.proofs.Scan.{next}
 use Rattle.formulas.specs.Row.{inputs}
@@ -52,25 +52,6 @@ any-tally p (x ∷ xs) = go (p x) (any-tally p xs)
     go : (b : Bool) → any p xs ≡ ltb 0 (tally p xs) → (b || any p xs) ≡ ltb 0 (cond b 1 0 + tally p xs)
     go true e = sym (lt-ltb 0 (1 + tally p xs) (omega arith))
     go false e = let same : 0 + tally p xs ≡ tally p xs = omega arith in rw same e
-
--- ── what is left where f leaves one of each two ──
--- z of the inputs before i
-pub record Left (f : ℤ → ℤ → ℤ) (vars : List ℕ) (values : List ℤ) (i : ℕ) (z : ℤ) : Type 0 where
-  pub so-far : leave f z (drop i (inputs vars values)) ≡ extreme f (inputs vars values)
-
-module _ {f : ℤ → ℤ → ℤ} {values : List ℤ} where
-  pub left-first : {vars : List ℕ} {z : ℤ} → 0 < length vars → z ≡ inputAt (inputs vars values) 0 → Left f vars values 1 z
-  left-first {vars} {z} h e = record { so-far = rw e (go vars h) }
-    where
-      go : (l : List ℕ) → 0 < length l → leave f (inputAt (inputs l values) 0) (drop 1 (inputs l values)) ≡ extreme f (inputs l values)
-      go [] h = absurd (omega arith)
-      go (v ∷ l) h = refl
-
-  pub left-next : {vars : List ℕ} {i : ℕ} {z y : ℤ} → Left f vars values i z → i < length vars → y ≡ f z (inputAt (inputs vars values) i) → Left f vars values (i + 1) y
-  left-next {vars} {i} s h e = record { so-far = rw e (rw (next-input vars values i h) at (s .so-far)) }
-
-  pub left-all : {vars : List ℕ} {i : ℕ} {z : ℤ} → Left f vars values i z → length vars ≤ i → z ≡ extreme f (inputs vars values)
-  left-all {vars} {i} s h = rw (no-input vars values i h) at (s .so-far)
 
 -- ── the sum of coefficient times input ──
 -- z is the parameter and the terms before i, none of whose inputs is blank; each term takes 47 bits

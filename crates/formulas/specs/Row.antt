@@ -1,14 +1,14 @@
 -- What a formula is handed, and what comes back for a kind code. Assumes nothing.
 use Prim.Native.Nat.{ℕ, _+_, _<_, _≤_}
-use mathlib.Core.Bool.{true, cond}
+use mathlib.Core.Bool.{Bool, true, false, cond}
 use mathlib.Core.List.{List, map}
 use mathlib.Core.Path.{_≡_}
 use lib.Dec.{ltb}
-use lib.IntN.{ℤ, pos}
+use lib.IntN.{ℤ, pos, _+ℤ_, _-ℤ_}
 use lib.ListN.{length, getD, take, drop}
 use Rattle.integers.specs.Integers.{eqZ}
 use Rattle.paper.specs.Lists.{all, between, nat}
-use Rattle.paper.specs.Formula.{blank, someBlank, inputAt, formula}
+use Rattle.paper.specs.Formula.{blank, fit, someBlank, inputAt, formula}
 use Rattle.paper.specs.Checks.{arity}
 use Rattle.formulas.specs.declared.Worked.{Worked}
 use Rattle.formulas.specs.declared.Worked.the-variants.{Value, NoFormula}
@@ -48,6 +48,17 @@ pub record PartFits (kind first count : ℕ) (coefs : List ℤ) (vars : List ℕ
   pub known : between 1 kind 9 ≡ true
   pub suits : arity kind count ≡ true
   pub below : all (λ v. ltb v (length values)) (partOf first count vars) ≡ true
+
+-- ── blanks in MIN and MAX ──
+-- the number that an input stands as: itself, which puts a blank below all values; else 1 less, which leaves room for a blank above them
+abbrev pub standsAs : Bool → ℤ → ℤ
+standsAs true x = x
+standsAs false x = cond (eqZ x blank) (pos 2147483647) (x -ℤ pos 1)
+
+-- the input that stands as a number
+abbrev pub standsFor : Bool → ℤ → ℤ
+standsFor true z = z
+standsFor false z = fit (z +ℤ pos 1)
 
 -- ── marks ──
 -- the mark of a place: all 32 bits

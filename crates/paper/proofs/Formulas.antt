@@ -4,7 +4,7 @@ use Prim.Native.Nat.{ℕ, zero, suc, _+_, _≤_, _<_, zero-le}
 use native.Mathlib.Omega.{arith}
 use mathlib.Core.Bool.{Bool, true, false, cond, not, _&&_}
 use mathlib.Core.List.{List, [], _∷_}
-use mathlib.Core.Path.{_≡_, refl, ap, sym, _∙_, subst}
+use mathlib.Core.Path.{_≡_, refl, ap, sym, _∙_}
 use lib.Dec.{eqb, leb, ltb, leb·suc-suc}
 use lib.IntN.{ℤ, pos, negsuc, natAbs, _+ℤ_, _-ℤ_}
 use lib.Signed.{ltZ, leZ}
@@ -13,19 +13,25 @@ use borrow.Author.Tests.{ltb-false, le-leb, ne-eqb}
 use Rattle.integers.specs.Integers.{eqZ}
 use Rattle.integers.proofs.Parts.{dif-bal}
 use Rattle.integers.proofs.Order.{lt-yes, lt-no, yes-lt, no-lt, eqZ-self}
-use Rattle.paper.specs.Lists.{tally, size}
-use Rattle.paper.specs.Formula.{blank, fit, someBlank, sum, element, places, sharing, departures, last, inputAt, plain, strict, formula}
-use Rattle.paper.proofs.Lists.{eqb-self}
+use Rattle.paper.specs.Lists.{any, all, tally, size}
+use Rattle.paper.specs.Formula.{blank, fit, someBlank, sum, lesser, greater, places, sharing, departures, last, inputAt, plain, formula}
+use Rattle.paper.proofs.Lists.{or-false-left, or-false-right, eqb-self}
 use Rattle.paper.proofs.Count.{size-le, size-same, size-add}
-use Rattle.paper.proofs.Extreme.{Extreme, least, most}
+use Rattle.paper.proofs.Extreme.{isBlank, Extreme, least, most, none-left}
 
 -- ── blank inputs ──
-by-blank : (kind : ℕ) (param : ℤ) (coefs xs : List ℤ) (b : Bool) → eqb kind 4 ≡ false → someBlank xs ≡ b → formula kind param coefs xs ≡ cond b blank (plain kind param coefs xs)
+by-blank : (kind : ℕ) (param : ℤ) (coefs xs : List ℤ) (b : Bool) → any (eqb kind) (2 ∷ 3 ∷ 4 ∷ []) ≡ false → someBlank xs ≡ b
+    → formula kind param coefs xs ≡ cond b blank (plain kind param coefs xs)
 unfolding formula
-by-blank kind param coefs xs b k e = ap (λ z. cond z (element xs) (strict kind param coefs xs)) k ∙ ap (λ z. cond z blank (plain kind param coefs xs)) e
+by-blank kind param coefs xs b k e =
+    let two = or-false-left (eqb kind 2) (any (eqb kind) (3 ∷ 4 ∷ [])) k in
+    let rest = or-false-right (eqb kind 2) (any (eqb kind) (3 ∷ 4 ∷ [])) k in
+    let three = or-false-left (eqb kind 3) (any (eqb kind) (4 ∷ [])) rest in
+    let four = or-false-left (eqb kind 4) false (or-false-right (eqb kind 3) (any (eqb kind) (4 ∷ [])) rest) in
+    simp (two, three, four, e)
 
--- except in kind 4, any blank input gives blank
-pub blank-law : (kind : ℕ) (param : ℤ) (coefs xs : List ℤ) → eqb kind 4 ≡ false → someBlank xs ≡ true → formula kind param coefs xs ≡ blank
+-- except in kinds 2, 3 and 4, any blank input gives blank
+pub blank-law : (kind : ℕ) (param : ℤ) (coefs xs : List ℤ) → any (eqb kind) (2 ∷ 3 ∷ 4 ∷ []) ≡ false → someBlank xs ≡ true → formula kind param coefs xs ≡ blank
 blank-law kind param coefs xs k e = by-blank kind param coefs xs true k e
 
 -- ── how many places pass a test ──
@@ -69,19 +75,30 @@ sharing-shares xs =
 
 -- ── the paper's sentences ──
 module _ (param : ℤ) (coefs : List ℤ) where
-  full : (kind : ℕ) (xs : List ℤ) → eqb kind 4 ≡ false → someBlank xs ≡ false → formula kind param coefs xs ≡ plain kind param coefs xs
+  full : (kind : ℕ) (xs : List ℤ) → any (eqb kind) (2 ∷ 3 ∷ 4 ∷ []) ≡ false → someBlank xs ≡ false → formula kind param coefs xs ≡ plain kind param coefs xs
   full kind xs k e = by-blank kind param coefs xs false k e
 
   -- 1. the exact sum, judged once, at the end
   pub linear-law : (xs : List ℤ) → someBlank xs ≡ false → formula 1 param coefs xs ≡ fit (param +ℤ sum coefs xs)
   linear-law xs e = full 1 xs refl e
 
-  -- 2. and 3. an input, and no input below, or above, it
-  pub min-law : (x : ℤ) (xs : List ℤ) → someBlank (x ∷ xs) ≡ false → Extreme leZ (formula 2 param coefs (x ∷ xs)) (x ∷ xs)
-  min-law x xs e = subst (λ z. Extreme leZ z (x ∷ xs)) (sym (full 2 (x ∷ xs) refl e)) (least x xs)
+  -- 2. and 3. an input that has a value, and no input that has one is below, or above, it
+  pub min-law : (xs : List ℤ) → all isBlank xs ≡ false → Extreme leZ (formula 2 param coefs xs) xs
+  unfolding formula
+  min-law = least
 
-  pub max-law : (x : ℤ) (xs : List ℤ) → someBlank (x ∷ xs) ≡ false → Extreme (λ z y. leZ y z) (formula 3 param coefs (x ∷ xs)) (x ∷ xs)
-  max-law x xs e = subst (λ z. Extreme (λ z y. leZ y z) z (x ∷ xs)) (sym (full 3 (x ∷ xs) refl e)) (most x xs)
+  pub max-law : (xs : List ℤ) → all isBlank xs ≡ false → Extreme (λ z x. leZ x z) (formula 3 param coefs xs) xs
+  unfolding formula
+  max-law = most
+
+  -- blank exactly if no input has a value
+  pub min-blank : (xs : List ℤ) → isBlank (formula 2 param coefs xs) ≡ all isBlank xs
+  unfolding formula
+  min-blank = none-left leZ lesser least
+
+  pub max-blank : (xs : List ℤ) → isBlank (formula 3 param coefs xs) ≡ all isBlank xs
+  unfolding formula
+  max-blank = none-left (λ z x. leZ x z) greater most
 
   -- 4. the candidate that the index picks, counted from 0; blank if the index is outside, as blank, which is below 0, is
   pub element-law : (index : ℤ) (candidates : List ℤ) → formula 4 param coefs (index ∷ candidates)

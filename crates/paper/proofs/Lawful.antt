@@ -7,7 +7,7 @@ use mathlib.Core.Path.{_≡_, refl, ap, _∙_}
 use lib.IntN.{ℤ, pos, negsuc}
 use lib.Dec.{eqb}
 use lib.ListN.{getD, take, drop}
-use Rattle.paper.specs.Formula.{formula, looked, element, elementLooks, chosen, pick, blank, strict}
+use Rattle.paper.specs.Formula.{formula, looked, element, elementLooks, chosen, pick, blank, ofAll}
 use Rattle.paper.specs.Net.{Values, Net}
 use Rattle.paper.specs.Tables.{Tables, net, inputsOf, rowOf, part}
 use Rattle.paper.proofs.Lists.{map-same}
@@ -63,9 +63,9 @@ module _ (f g : Values) where
   formula-same k p cs vs h = go (eqb k 4) h
     where
       go : (b : Bool) → ((w : ℕ) → List·Memᴰ w (cond b (elementLooks f vs) vs) → f w ≡ g w)
-          → cond b (element (map f vs)) (strict k p cs (map f vs)) ≡ cond b (element (map g vs)) (strict k p cs (map g vs))
+          → cond b (element (map f vs)) (ofAll k p cs (map f vs)) ≡ cond b (element (map g vs)) (ofAll k p cs (map g vs))
       go true t = element-same vs t
-      go false t = ap (strict k p cs) (map-same f g vs t)
+      go false t = ap (ofAll k p cs) (map-same f g vs t)
 
   pub looked-same : (k : ℕ) (vs : List ℕ) → ((w : ℕ) → List·Memᴰ w (looked k f vs) → f w ≡ g w) → looked k f vs ≡ looked k g vs
   unfolding looked

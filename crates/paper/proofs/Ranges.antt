@@ -4,7 +4,7 @@ use Prim.Native.Nat.{ℕ, zero, suc, _≤_}
 use native.Mathlib.Omega.{arith}
 use mathlib.Core.Bool.{Bool, true, false, cond, _||_}
 use mathlib.Core.List.{List, [], _∷_}
-use mathlib.Core.Path.{_≡_, refl, ap}
+use mathlib.Core.Path.{_≡_, refl, ap, _∙_}
 use lib.Dec.{eqb, leb}
 use lib.IntN.{ℤ, pos, negsuc, _+ℤ_, _-ℤ_, _*ℤ_}
 use lib.Signed.{ltZ, leZ}
@@ -12,9 +12,9 @@ use lib.ListN.{length}
 use borrow.Author.Tests.{le-leb}
 use Rattle.integers.specs.Integers.{eqZ}
 use Rattle.paper.specs.Lists.{all, tally}
-use Rattle.paper.specs.Formula.{blank, inRange, fit, someBlank, sum, lesser, greater, extreme, element, places, trips, lastOf, inputAt, formula}
-use Rattle.paper.proofs.Lists.{and-left, and-right, all-in}
-use Rattle.paper.proofs.Extreme.{Extreme, least, most}
+use Rattle.paper.specs.Formula.{blank, inRange, fit, someBlank, sum, lesser, greater, valued, extreme, element, places, trips, lastOf, inputAt, formula}
+use Rattle.paper.proofs.Lists.{and-left, and-right, or-right, all-in}
+use Rattle.paper.proofs.Extreme.{isBlank, Extreme, least, most, none-left}
 use Rattle.paper.proofs.Formulas.{tally-le}
 
 -- a number of the range, or blank
@@ -48,10 +48,13 @@ element-good [] v = refl
 element-good (pos i ∷ xs) v = at-good xs (and-right (good (pos i)) (all good xs) v) i
 element-good (negsuc i ∷ xs) v = refl
 
-extreme-good : (test : ℤ → ℤ → Bool) (f : ℤ → ℤ → ℤ) → ((x : ℤ) (xs : List ℤ) → Extreme test (extreme f (x ∷ xs)) (x ∷ xs))
-    → (xs : List ℤ) → all good xs ≡ true → good (extreme f xs) ≡ true
-extreme-good test f law [] v = refl
-extreme-good test f law (x ∷ xs) v = all-in good (x ∷ xs) v (law x xs .one)
+extreme-good : (test : ℤ → ℤ → Bool) (f : ℤ → ℤ → ℤ) → ((xs : List ℤ) → all isBlank xs ≡ false → Extreme test (extreme f (valued xs)) xs)
+    → (xs : List ℤ) → all good xs ≡ true → good (extreme f (valued xs)) ≡ true
+extreme-good test f law xs v = go (all isBlank xs) refl
+  where
+    go : (b : Bool) → all isBlank xs ≡ b → good (extreme f (valued xs)) ≡ true
+    go true e = or-right (inRange (extreme f (valued xs))) (none-left test f law xs ∙ e)
+    go false e = all-in good xs v (law xs e .one)
 
 -- ── a number of places ──
 tally-good : (p : ℤ → Bool) (xs : List ℤ) → length xs ≤ 2147483647 → good (pos (tally p xs)) ≡ true
@@ -62,10 +65,10 @@ pub formula-good : (kind : ℕ) (param : ℤ) (coefs xs : List ℤ) → all good
 unfolding formula
 formula-good kind param coefs xs v few =
     either (eqb kind 4) _ _ (element-good xs v)
-    (either (someBlank xs) _ _ refl
-    (either (eqb kind 1) _ _ (fit-good (param +ℤ sum coefs xs))
     (either (eqb kind 2) _ _ (extreme-good leZ lesser least xs v)
     (either (eqb kind 3) _ _ (extreme-good (λ z x. leZ x z) greater most xs v)
+    (either (someBlank xs) _ _ refl
+    (either (eqb kind 1) _ _ (fit-good (param +ℤ sum coefs xs))
     (either (eqb kind 5) _ _ (tally-good (λ x. leb 2 (places x xs)) xs few)
     (either (eqb kind 6) _ _ (tally-good (λ x. eqZ x param) xs few)
     (either (eqb kind 7) _ _ (either (ltZ b a) _ _ (fit-good (a -ℤ b)) refl)

@@ -41,7 +41,12 @@ abbrev pub leave : (ℤ → ℤ → ℤ) → ℤ → List ℤ → ℤ
 leave f z [] = z
 leave f z (x ∷ xs) = leave f (f z x) xs
 
--- the least input, with `lesser`, or the greatest, with `greater`
+-- the inputs that have a value
+abbrev pub valued : List ℤ → List ℤ
+valued [] = []
+valued (x ∷ xs) = cond (eqZ x blank) (valued xs) (x ∷ valued xs)
+
+-- the least of these, with `lesser`, or the greatest, with `greater`; blank if there are none
 abbrev pub extreme : (ℤ → ℤ → ℤ) → List ℤ → ℤ
 extreme f [] = blank
 extreme f (x ∷ xs) = leave f x xs
@@ -86,26 +91,28 @@ last s e h = cond (leZ h (pos 0)) blank (lastOf s h (trips s e h))
 abbrev pub inputAt : List ℤ → ℕ → ℤ
 inputAt xs i = getD xs i blank
 
--- the formula that a kind code picks, but for 4; a code that picks none is refused by check 2 and stands here as blank
+-- the formula that a kind code picks, but for 2, 3 and 4; a code that picks none is refused by check 2 and stands here as blank
 abbrev pub plain : ℕ → ℤ → List ℤ → List ℤ → ℤ
 plain kind param coefs xs =
     cond (eqb kind 1) (fit (param +ℤ sum coefs xs))
-    (cond (eqb kind 2) (extreme lesser xs)
-    (cond (eqb kind 3) (extreme greater xs)
     (cond (eqb kind 5) (pos (sharing xs))
     (cond (eqb kind 6) (pos (places param xs))
     (cond (eqb kind 7) (excess (inputAt xs 0) (inputAt xs 1))
     (cond (eqb kind 8) (departures (inputAt xs 0) (inputAt xs 1) (inputAt xs 2))
     (cond (eqb kind 9) (last (inputAt xs 0) (inputAt xs 1) (inputAt xs 2))
-    blank)))))))
+    blank)))))
 
 -- any blank input gives blank
 abbrev pub strict : ℕ → ℤ → List ℤ → List ℤ → ℤ
 strict kind param coefs xs = cond (someBlank xs) blank (plain kind param coefs xs)
 
--- except in kind 4
+-- except in kinds 2 and 3, which skip blank inputs
+abbrev pub ofAll : ℕ → ℤ → List ℤ → List ℤ → ℤ
+ofAll kind param coefs xs = cond (eqb kind 2) (extreme lesser (valued xs)) (cond (eqb kind 3) (extreme greater (valued xs)) (strict kind param coefs xs))
+
+-- and in kind 4
 unfoldable pub formula : ℕ → ℤ → List ℤ → List ℤ → ℤ
-formula kind param coefs xs = cond (eqb kind 4) (element xs) (strict kind param coefs xs)
+formula kind param coefs xs = cond (eqb kind 4) (element xs) (ofAll kind param coefs xs)
 
 -- the inputs that a formula looks at: all, but of ELEMENT the index and then only the chosen candidate
 abbrev pub chosen : ℤ → List ℕ → List ℕ

@@ -1,5 +1,5 @@
--- The runs that the paper marks (p), as one table with one test: each is a build of the tables, or a trial over what build left, by the
--- calls themselves. Assumes nothing.
+-- The runs that the paper marks (p), and those of MIN and MAX over blank inputs, as one table with one test: each is a build of the tables, or
+-- a trial over what build left, by the calls themselves. Assumes nothing.
 use Prim.Native.Nat.{ℕ, suc}
 use mathlib.Core.Bool.{Bool, true, false, _&&_}
 use mathlib.Core.List.{List, [], _∷_, map, _++_}
@@ -106,6 +106,16 @@ itself = lent 1 1 1 (3 ∷ []) (0 ∷ []) (zerosZ 1) (0 ∷ []) (1 ∷ []) (0 �
 abbrev pub candidates : Tables
 candidates = lent 5 2 4 (1 ∷ 4 ∷ []) (3 ∷ 4 ∷ []) (pos 1 ∷ pos 0 ∷ []) (0 ∷ 1 ∷ []) (1 ∷ 3 ∷ []) (2 ∷ 0 ∷ 1 ∷ 3 ∷ []) (ones 4)
 
+-- two windows with the same start and headway, 2; 4 and 5 are LAST of each, 6 is MAX of the two, 7 is MIN of them, 8 is MAX of 5 twice
+abbrev pub sunday : Tables
+sunday =
+    lent 9 5 12 (9 ∷ 9 ∷ 3 ∷ 2 ∷ 3 ∷ []) (4 ∷ 5 ∷ 6 ∷ 7 ∷ 8 ∷ []) (zerosZ 5) (0 ∷ 3 ∷ 6 ∷ 8 ∷ 10 ∷ []) (3 ∷ 3 ∷ 2 ∷ 2 ∷ 2 ∷ [])
+    (0 ∷ 1 ∷ 2 ∷ 0 ∷ 3 ∷ 2 ∷ 4 ∷ 5 ∷ 5 ∷ 4 ∷ 5 ∷ 5 ∷ []) (ones 12)
+
+-- the second is empty
+abbrev pub startSunday : List ℤ
+startSunday = pos 25200 ∷ pos 28800 ∷ pos 600 ∷ pos 25200 ∷ []
+
 abbrev pub top : ℤ
 top = pos 2147483647
 
@@ -139,6 +149,10 @@ linear param coef z = gives 1 param (coef ∷ []) (0 ∷ []) (top ∷ []) z
 -- ELEMENT with index i and the candidates 7 and blank
 abbrev pub picks : ℤ → ℤ → ℕ → Run
 picks i z count = tries candidates (i ∷ pos 7 ∷ top ∷ []) [] (4 ∷ []) 2 (z ∷ []) count
+
+-- a move of variable v to x on that Sunday
+abbrev pub moves : ℕ → ℤ → List ℕ → ℕ → List ℤ → ℕ → Run
+moves v x asked route vals count = tries sunday startSunday ((v, x) ∷ []) asked route vals count
 
 unfoldable pub proved : List Run
 proved =
@@ -177,6 +191,14 @@ proved =
     ∷ picks (pos 1) blank 2
     ∷ picks (pos 2) blank 1
     ∷ picks (negsuc 0) blank 1
+    -- MIN and MAX skip the LAST of an empty window, and need it all the same
+    ∷ builds sunday startSunday (0 ∷ 0 ∷ 0 ∷ 0 ∷ 1 ∷ 1 ∷ 2 ∷ 2 ∷ 2 ∷ [])
+    (pos 25200 ∷ pos 28800 ∷ pos 600 ∷ pos 25200 ∷ pos 28200 ∷ blank ∷ pos 28200 ∷ pos 28200 ∷ blank ∷ [])
+    ∷ moves 1 (pos 28801) (6 ∷ []) 2 (pos 28800 ∷ []) 3
+    ∷ moves 3 (pos 25201) (6 ∷ 7 ∷ 8 ∷ []) 1 (pos 28200 ∷ pos 25200 ∷ pos 25200 ∷ []) 4
+    ∷ moves 3 (pos 25201) (7 ∷ []) 3 (pos 25200 ∷ []) 2
+    -- with headway 0 all are blank
+    ∷ moves 2 (pos 0) (6 ∷ 7 ∷ 8 ∷ []) 2 (blank ∷ blank ∷ blank ∷ []) 5
     -- circular
     ∷ refuses (two 1 0) 6 0
     ∷ refuses itself 6 0

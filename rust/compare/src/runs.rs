@@ -210,10 +210,10 @@ fn the_other_formulas(engine: &dyn Engine) {
     }
 }
 
-/// Any blank input gives blank, except in ELEMENT.
+/// Any blank input gives blank, except in MIN, MAX and ELEMENT.
 fn blank_inputs(engine: &dyn Engine) {
     let blank = Row::plain(9, 1, &[0, 0, 0]);
-    for (kind, inputs) in [(1, 2), (2, 2), (3, 2), (5, 2), (6, 2), (7, 2), (8, 3), (9, 3)] {
+    for (kind, inputs) in [(1, 2), (5, 2), (6, 2), (7, 2), (8, 3), (9, 3)] {
         for place in 0..inputs {
             let mut row = Row::plain(kind, 2, &vec![0; inputs]);
             row.entries[place].0 = 1;
@@ -222,6 +222,50 @@ fn blank_inputs(engine: &dyn Engine) {
     }
     let zero_times_blank = Row { kind: 1, makes: 2, parameter: 3, entries: vec![(1, 0)] };
     stores(engine, &of_rows(vec![1, 0, 0], &[blank, zero_times_blank]), &[1, BLANK, BLANK]);
+}
+
+/// MIN and MAX skip blank inputs, wherever they stand, and are blank only if all are.
+fn skipped_blanks(engine: &dyn Engine) {
+    // variables 0 to 4 have values; 5 and 6 are the LAST of an empty and of a backward window
+    let starts = vec![-2_147_483_647, -7, 0, 7, 2_147_483_647, 0, 0, 0, 0];
+    let give = |inputs: &[u16], least: i32, greatest: i32| {
+        let windows = [Row::plain(9, 5, &[2, 2, 3]), Row::plain(9, 6, &[3, 2, 3])];
+        let rows = [windows, [Row::plain(2, 7, inputs), Row::plain(3, 8, inputs)]].concat();
+        let stored = [&starts[..5], &[BLANK, BLANK, least, greatest]].concat();
+        stores(engine, &of_rows(starts.clone(), &rows), &stored);
+    };
+    for inputs in [[5, 1, 3], [1, 5, 3], [1, 3, 5]] {
+        give(&inputs, -7, 7);
+    }
+    give(&[5, 6, 3, 6], 7, 7);
+    give(&[0, 5], -2_147_483_647, -2_147_483_647);
+    give(&[5, 4], 2_147_483_647, 2_147_483_647);
+    give(&[5], BLANK, BLANK);
+    give(&[5, 6, 5], BLANK, BLANK);
+    give(&[5; 256], BLANK, BLANK);
+    for place in [0, 128, 255] {
+        let (mut one_blank, mut one_value) = ([3; 256], [5; 256]);
+        (one_blank[place], one_value[place]) = (5, 3);
+        give(&one_blank, 7, 7);
+        give(&one_value, 7, 7);
+    }
+}
+
+/// The last bus of several windows, one of which is empty: all inputs are needed on routes 2 and 3.
+fn the_last_bus(engine: &dyn Engine) {
+    let rows = [
+        Row::plain(9, 4, &[0, 1, 2]),
+        Row::plain(9, 5, &[0, 3, 2]),
+        Row::plain(3, 6, &[4, 5]),
+        Row::plain(2, 7, &[4, 5]),
+    ];
+    let model = built(engine, &of_rows(vec![25200, 28800, 600, 25200, 0, 0, 0, 0], &rows));
+    assert_eq!(model.stored[4..], [28200, BLANK, 28200, 28200]);
+    let moved = [(3, 25201)];
+    tries(engine, &trial(&model, &moved, &[6, 7], 1), &[28200, 25200], &[5, 6, 7]);
+    tries(engine, &trial(&model, &moved, &[6], 2), &[28200], &[4, 5, 6]);
+    tries(engine, &trial(&model, &moved, &[7], 3), &[25200], &[5, 7]);
+    tries(engine, &trial(&model, &[(2, 0)], &[6, 7], 2), &[BLANK, BLANK], &[4, 5, 6, 7]);
 }
 
 /// Variables that depend on themselves are refused, also through a candidate that is not chosen.
@@ -327,6 +371,8 @@ pub const RUNS: &[Test] = &[
     ("ELEMENT", element),
     ("the other formulas", the_other_formulas),
     ("blank inputs", blank_inputs),
+    ("blank inputs of MIN and MAX", skipped_blanks),
+    ("the last bus", the_last_bus),
     ("circular models", circular_models),
     ("candidates that are not chosen", candidates_that_are_not_chosen),
     ("the trial buffer", the_trial_buffer),

@@ -6,9 +6,9 @@
 pub enum Kind {
     /// Parameter plus the sum of coefficient times input.
     Linear = 1,
-    /// The least input.
+    /// The least input that has a value.
     Min = 2,
-    /// The greatest input.
+    /// The greatest input that has a value.
     Max = 3,
     /// The candidate that the first input, an index from 0, chooses among the others.
     Element = 4,
@@ -56,13 +56,13 @@ impl Row {
         Row { kind: Kind::Linear, makes, parameter, entries: terms.to_vec() }
     }
 
-    /// The least input.
+    /// The least input that has a value.
     #[must_use]
     pub fn min(makes: u16, inputs: &[u16]) -> Row {
         Row::plain(Kind::Min, makes, inputs)
     }
 
-    /// The greatest input.
+    /// The greatest input that has a value.
     #[must_use]
     pub fn max(makes: u16, inputs: &[u16]) -> Row {
         Row::plain(Kind::Max, makes, inputs)

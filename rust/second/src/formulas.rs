@@ -75,15 +75,14 @@ fn linear(row: &Row<'_>, values: &[i32]) -> i32 {
     if blank { BLANK } else { in_range(sum) }
 }
 
-/// The least input; blank is below every value, so a blank input gives blank.
+/// The least input that has a value.
 fn least(row: &Row<'_>, values: &[i32]) -> i32 {
-    inputs(row, values).min().unwrap_or(BLANK)
+    inputs(row, values).filter(|&value| value != BLANK).min().unwrap_or(BLANK)
 }
 
+/// The greatest input that has a value: blank is below every value, so it is the greatest only if all are blank.
 fn greatest(row: &Row<'_>, values: &[i32]) -> i32 {
-    let (low, high) =
-        inputs(row, values).fold((i32::MAX, BLANK), |(low, high), value| (low.min(value), high.max(value)));
-    if low == BLANK { BLANK } else { high }
+    inputs(row, values).max().unwrap_or(BLANK)
 }
 
 fn element(row: &Row<'_>, values: &[i32]) -> i32 {

@@ -4,6 +4,7 @@ mod naive;
 
 use compare::{Call, Case, Engine, Second, Sizes, compare, model, run, seed};
 use naive::Naive;
+use second::BLANK;
 
 #[test]
 fn agrees_with_the_definitions() {
@@ -100,4 +101,17 @@ fn finds_a_keep_that_leaves_the_values() {
 fn finds_a_record_that_keeps_its_count() {
     let fault = |lent: &Case, case: &mut Case| case.session.kept = lent.session.kept;
     assert_eq!(found(fault), 0);
+}
+
+#[test]
+fn finds_a_max_that_one_blank_input_blanks() {
+    let fault = |_: &Case, case: &mut Case| {
+        for row in (0..case.m).filter(|&row| case.call == Call::Build && case.kinds[row] == 3) {
+            let inputs = usize::from(case.firsts[row])..usize::from(case.firsts[row] + case.counts[row]);
+            if case.vars[inputs].iter().any(|&variable| case.stored[usize::from(variable)] == BLANK) {
+                case.stored[usize::from(case.makes[row])] = BLANK;
+            }
+        }
+    };
+    assert!(found(fault) <= 3);
 }

@@ -395,14 +395,15 @@ fn formula(row: &Row, value: &dyn Fn(usize) -> i32) -> i32 {
         return if chosen { input(1 + index as usize) } else { BLANK };
     }
     let inputs: Vec<i32> = (0..row.inputs.len()).map(input).collect();
-    if inputs.contains(&BLANK) {
+    if ![2, 3].contains(&row.kind) && inputs.contains(&BLANK) {
         return BLANK;
     }
+    let valued = inputs.iter().filter(|&&input| input != BLANK);
     let exact = |place: usize| i128::from(inputs[place]);
     let result = match row.kind {
         1 => Some(row.parameter + row.inputs.iter().zip(&inputs).map(|(&(_, c), &x)| c * i128::from(x)).sum::<i128>()),
-        2 => inputs.iter().min().map(|&least| least.into()),
-        3 => inputs.iter().max().map(|&greatest| greatest.into()),
+        2 => valued.min().map(|&least| least.into()),
+        3 => valued.max().map(|&greatest| greatest.into()),
         5 => Some(count(inputs.len(), |i| (0..inputs.len()).any(|j| j != i && inputs[j] == inputs[i]))),
         6 => Some(count(inputs.len(), |i| exact(i) == row.parameter)),
         7 => Some(if exact(0) > exact(1) { exact(0) - exact(1) } else { 0 }),

@@ -1,30 +1,40 @@
 -- What is left of the inputs before i and those from i on leave what all the inputs leave. Assumes nothing.
 use Prim.Native.Nat.{_-_}
 use native.Mathlib.Omega.{arith}
-use mathlib.Core.Bool.{cond}
+use mathlib.Core.Path.{_∙_}
+use borrow.Author.Needs.{sfits-of}
 use lib.ListN.{length}
 use mir.Syntax.{w32}
-use mir.Val.{toZ}
-use Rattle.paper.specs.Formula.{lesser, greater}
+use mir.Val.{SFits, toZ}
+use mir.Facts.{toZ-ofZ}
 use Rattle.formulas.proofs.Reading.{told}
-use Rattle.formulas.proofs.Steps.{Left, left-first, left-next, left-all}
+use Rattle.formulas.proofs.Skipping.{Left, left-first, left-next, left-all}
 use Rattle.formulas.proofs.extreme.extreme.Statement.{statement}
 use Rattle.formulas.proofs.extreme.extreme.Tie as tie
 
 abbrev Inv-loop : tie.InvT-loop
-Inv-loop max vars values left₀ i₀ left i = Left (cond max greater lesser) vars values i (toZ w32 left)
+Inv-loop max vars values below left₀ i₀ left i = Left max vars values i (toZ w32 left)
 
 abbrev μ-loop : tie.MeasureT-loop
-μ-loop max vars values left₀ i₀ left i = length vars - i
+μ-loop max vars values below left₀ i₀ left i = length vars - i
 
 input-requires : tie.Need-input-requires Inv-loop μ-loop
 input-requires c κs = c .before .pre
 
+standing-requires : tie.Need-standing-requires Inv-loop μ-loop
+standing-requires c κs = tt
+
 loop-holds : tie.Need-loop-holds Inv-loop μ-loop
-loop-holds c = left-first (c .before .before .pre .0) (told w32 (c .input .ok) (c .input .ensures))
+loop-holds c =
+    let x = c .before .input in
+    let f : SFits w32 (x .result) = sfits-of (x .ok) in
+    left-first (c .before .before .before .pre .0) f (x .ensures) (told w32 (c .standing .ok) (simp (toZ-ofZ f) at (c .standing .ensures)))
 
 input-requires-2 : tie.Need-input-requires-2 Inv-loop μ-loop
-input-requires-2 c κs = (c .loop-test .taken, c .before .before .before .before .pre .1)
+input-requires-2 c κs = (c .loop-test .taken, c .before .before .before .before .before .pre .1)
+
+standing-requires-2 : tie.Need-standing-requires-2 Inv-loop μ-loop
+standing-requires-2 c κs = tt
 
 one-of-requires : tie.Need-one-of-requires Inv-loop μ-loop
 one-of-requires c κs = tt
@@ -37,15 +47,17 @@ loop-less c = omega arith
 
 loop-again : tie.Need-loop-again Inv-loop μ-loop
 loop-again c =
-    let x = c .before .input2 in
-    left-next (c .before .before .before .loop .inv) (c .before .before .loop-test .taken)
-    (told w32 (c .one-of .ok) (simp (told w32 (x .ok) (x .ensures)) at (c .one-of .ensures)))
+    let x = c .before .before .input2 in
+    let s = c .before .standing2 in
+    let f : SFits w32 (x .result) = sfits-of (x .ok) in
+    left-next (c .before .before .before .before .loop .inv) (c .before .before .before .loop-test .taken) f (x .ensures)
+    (told w32 (c .one-of .ok) (simp (told w32 (s .ok) (s .ensures), toZ-ofZ f) at (c .one-of .ensures)))
 
-unless-blank-requires : tie.Need-unless-blank-requires Inv-loop μ-loop
-unless-blank-requires c κs = c .before .before .before .before .pre .1
+stood-for-requires : tie.Need-stood-for-requires Inv-loop μ-loop
+stood-for-requires c κs = tt
 
 returns : tie.Need-returns Inv-loop μ-loop
-returns c = told w32 (c .unless-blank .ok) (rw (left-all (c .before .before .loop .inv) (c .before .loop-test .left)) at (c .unless-blank .ensures))
+returns c = told w32 (c .stood-for .ok) (c .stood-for .ensures ∙ left-all (c .before .before .loop .inv) (c .before .loop-test .left))
 
 pub extreme-spec : {M : Type 1} → statement M
 extreme-spec =
@@ -54,11 +66,13 @@ extreme-spec =
     Inv-loop
     μ-loop
     input-requires
+    standing-requires
     loop-holds
     input-requires-2
+    standing-requires-2
     one-of-requires
     add-i
     loop-less
     loop-again
-    unless-blank-requires
+    stood-for-requires
     returns)
