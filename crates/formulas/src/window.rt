@@ -1,11 +1,11 @@
 // DEPARTURES and LAST: the times start + k * headway, k = 0, 1, 2 and on, strictly before end.
-ghost use Prim.Native.Nat.{_<_, _≤_, _-_, _*_};
+ghost use Prim.Native.Nat.{_<_, _≤_};
 ghost use mathlib.Core.Path.{_≡_};
 ghost use mathlib.Core.Bool.{true, cond};
-ghost use lib.IntN.{pos, natAbs};
+ghost use lib.IntN.{pos, natAbs, _+ℤ_, _*ℤ_};
 ghost use lib.ListN.{length};
 ghost use lib.Signed.{ltZ};
-ghost use Rattle.paper.specs.Formula.{trips, lastOf};
+ghost use Rattle.paper.specs.Formula.{trips};
 ghost use Rattle.paper.specs.Formula as Formula;
 ghost use Rattle.formulas.specs.Row.{inputs, unlessBlank, ofThree, Within};
 use crate::blanks::BLANK;
@@ -37,15 +37,24 @@ fn times_before(start: i32, end: i32, headway: i32) -> u64
     }
 }
 
-// The latest of the first n times, blank if there are none.
-fn latest(start: i32, headway: i32, n: u64) -> i32
-    requires { ⌜ (n - 1 ≤ 4294967296) × ((n - 1) * natAbs headway ≤ 4294967296) ⌝ }
-    ensures { λ r. ⌜ r ≡ lastOf start headway n ⌝ }
+// The time k headways after start, of a headway above 0.
+fn time(start: i32, headway: i32, k: u64) -> i64
+    requires { ⌜ (ltZ (pos 0) headway ≡ true) × (k ≤ 4294967296) ⌝ }
+    ensures { λ r. ⌜ r ≡ start +ℤ pos k *ℤ headway ⌝ }
 {
+    plus_product(start as i64, k as i64, headway as i64)
+}
+
+// The latest of the times, of a headway above 0, blank if there are none. It lies from start to before end, so 32 bits hold it.
+fn latest(start: i32, end: i32, headway: i32) -> i32
+    requires { ⌜ ltZ (pos 0) headway ≡ true ⌝ }
+    ensures { λ r. ⌜ r ≡ Formula.last start end headway ⌝ }
+{
+    let n = times_before(start, end, headway);
     if n == 0 {
         return BLANK;
     }
-    fitted(plus_product(start as i64, (n - 1) as i64, headway as i64))
+    time(start, headway, n - 1) as i32
 }
 
 // The latest of the times strictly before end if last, else how many they are; blank if headway is 0 or less.
@@ -55,11 +64,10 @@ fn window_value(last: bool, start: i32, end: i32, headway: i32) -> i32
     if headway <= 0 {
         return BLANK;
     }
-    let n = times_before(start, end, headway);
     if last {
-        return latest(start, headway, n);
+        return latest(start, end, headway);
     }
-    fitted(n as i64)
+    fitted(times_before(start, end, headway) as i64)
 }
 
 // The same of the inputs start, end and headway.

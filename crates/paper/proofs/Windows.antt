@@ -1,18 +1,19 @@
 -- DEPARTURES and LAST are what GTFS says of a window, for every start, end and headway, backward and empty windows among them: the times
--- counted are those strictly before the end, and LAST is the latest of them. The gap from start to end divided by the headway, rounded up,
--- is the first k whose time is no longer before the end. Assumes nothing.
+-- counted are those strictly before the end, and LAST is the latest of them, so it lies from the start to before the end and never leaves
+-- the range. The gap from start to end divided by the headway, rounded up, is the first k whose time is no longer before the end. Assumes
+-- nothing.
 use Prim.Native.Nat.{ℕ, zero, suc, _+_, _*_, _-_, _/_, _≤_, _<_, suc-le-suc}
 use native.Mathlib.Nat.{le-div-iff-mul-le, div-lt-iff-lt-mul, le-refl, mul-le-mul}
 use native.Mathlib.Omega.{arith}
 use mathlib.Core.Bool.{Bool, true, false, cond, true≢false, false≢true}
-use mathlib.Core.Logic.{_↔_}
+use mathlib.Core.Logic.{_↔_, _⊎_, inl, inr}
 use mathlib.Core.Path.{_≡_, refl, ap, sym, _∙_}
 use lib.Dec.{ltb}
 use lib.IntN.{ℤ, pos, negsuc, natAbs, _+ℤ_, _-ℤ_, _*ℤ_}
 use lib.Signed.{ltZ, leZ}
 use borrow.Author.Tests.{ltb-true, ltb-false, leb-true, lt-ltb, le-leb}
 use Rattle.integers.proofs.Parts.{one-part, sum-bal, dif-parts}
-use Rattle.integers.proofs.Order.{lt-yes, lt-no, yes-lt, no-lt, yes-le, no-le, natAbs-away}
+use Rattle.integers.proofs.Order.{lt-yes, lt-no, le-yes, yes-lt, no-lt, yes-le, no-le, le-lt, natAbs-away}
 use Rattle.paper.specs.Formula.{blank, inRange, fit, trips, departures, lastOf, last}
 
 -- the times of a window, k = 0, 1, 2 and on
@@ -34,6 +35,16 @@ past-end g h k p l = let q : g + h - 1 < suc k * h = div-lt-iff-lt-mul p .0 (suc
 reached : (s h : ℤ) (k : ℕ) → ltZ (pos 0) h ≡ true → (time s h k ≡ s +ℤ pos (k * natAbs h)) × (0 < natAbs h)
 reached s (pos h) k p = (refl, ltb-true 0 h p)
 reached s (negsuc h) k p = absurd (false≢true p)
+
+-- z lies from the start to before the end
+abbrev pub Between : ℤ → ℤ → ℤ → Type 0
+Between start z end = (leZ start z ≡ true) × (ltZ z end ≡ true)
+
+between-in : (start z end : ℤ) → inRange start ≡ true → inRange end ≡ true → Between start z end → inRange z ≡ true
+between-in start z end from to b =
+    let a = leb-true (natAbs start) 2147483647 from in let c = leb-true (natAbs end) 2147483647 to in
+    let d = natAbs-away start in let e = natAbs-away end in let f = natAbs-away z in
+    le-leb (natAbs z) 2147483647 (omega (arith, le-yes start z (b .0), lt-yes z end (b .1), one-part z, one-part start, one-part end))
 
 -- z is the latest time before the end: one of the times, strictly before the end, and no other such time is later
 pub record Latest (start end headway z : ℤ) : Type 0 where
@@ -75,7 +86,8 @@ module _ (start end headway : ℤ) (above : ltZ (pos 0) headway ≡ true) where
   pub departures-is : departures start end headway ≡ fit (pos (trips start end headway))
   departures-is = ap (λ b. cond b blank (fit (pos (trips start end headway)))) positive
 
-  last-of : (n : ℕ) → trips start end headway ≡ n → last start end headway ≡ lastOf start headway n
+  -- LAST is the latest of that many
+  pub last-of : (n : ℕ) → trips start end headway ≡ n → last start end headway ≡ lastOf start headway n
   last-of n e = ap (λ b. cond b blank (lastOf start headway (trips start end headway))) positive ∙ ap (lastOf start headway) e
 
   later : (j k : ℕ) → j ≤ k → leZ (time start headway j) (time start headway k) ≡ true
@@ -84,37 +96,36 @@ module _ (start end headway : ℤ) (above : ltZ (pos 0) headway ≡ true) where
       rw (reached start headway j above .0, reached start headway k above .0)
       (yes-le (start +ℤ pos (j * h)) (start +ℤ pos (k * h)) (omega (arith, sum-bal start (pos (j * h)), sum-bal start (pos (k * h)))))
 
-  -- a start and an end of the range: so are the times between them
+  from-start : (k : ℕ) → leZ start (time start headway k) ≡ true
+  from-start k = rw (reached start headway k above .0) (yes-le start (start +ℤ pos (k * h)) (omega (arith, sum-bal start (pos (k * h)))))
+
+  some : (k : ℕ) → trips start end headway ≡ suc k → (last start end headway ≡ time start headway k) × (ltZ (time start headway k) end ≡ true)
+  some k n = (last-of (suc k) n, counted k ∙ ap (ltb k) n ∙ lt-ltb k (suc k) (le-refl (suc k)))
+
+  -- LAST is the latest time before the end, if there is one
+  pub latest : 0 < trips start end headway → Latest start end headway (last start end headway)
+  latest l = go (trips start end headway) refl l
+    where
+      go : (n : ℕ) → trips start end headway ≡ n → 0 < n → Latest start end headway (last start end headway)
+      go zero e l = absurd (omega arith)
+      go (suc k) e l =
+          let (is, before) = some k e in
+          record {
+            which = k;
+            is = is;
+            before = ap (λ z. ltZ z end) is ∙ before;
+            none-later = λ j b. let c = ltb-true j (suc k) (sym (counted j ∙ ap (ltb j) e) ∙ b) in ap (leZ (time start headway j)) is ∙ later j k (omega arith);
+          }
+
+  -- so it lies from the start to before the end
+  pub last-between : 0 < trips start end headway → Between start (last start end headway) end
+  last-between l = let z = latest l in (ap (leZ start) (z .is) ∙ from-start (z .which), z .before)
+
+  -- a start and an end of the range
   module _ (from : inRange start ≡ true) (to : inRange end ≡ true) where
-    within : (k : ℕ) → ltZ (time start headway k) end ≡ true → inRange (time start headway k) ≡ true
-    within k = rw (reached start headway k above .0) go
-      where
-        go : ltZ (start +ℤ pos (k * h)) end ≡ true → inRange (start +ℤ pos (k * h)) ≡ true
-        go b =
-            let z = start +ℤ pos (k * h) in
-            let a = leb-true (natAbs start) 2147483647 from in let c = leb-true (natAbs end) 2147483647 to in
-            let d = natAbs-away start in let e = natAbs-away end in let f = natAbs-away z in
-            le-leb (natAbs z) 2147483647 (omega (arith, lt-yes z end b, sum-bal start (pos (k * h)), one-part z, one-part start, one-part end))
-
-    some : (k : ℕ) → trips start end headway ≡ suc k → (last start end headway ≡ time start headway k) × (ltZ (time start headway k) end ≡ true)
-    some k n =
-        let b : ltZ (time start headway k) end ≡ true = counted k ∙ ap (ltb k) n ∙ lt-ltb k (suc k) (le-refl (suc k)) in
-        (last-of (suc k) n ∙ ap (λ b. cond b (time start headway k) blank) (within k b), b)
-
-    -- LAST is the latest time before the end, if there is one
-    pub latest : 0 < trips start end headway → Latest start end headway (last start end headway)
-    latest l = go (trips start end headway) refl l
-      where
-        go : (n : ℕ) → trips start end headway ≡ n → 0 < n → Latest start end headway (last start end headway)
-        go zero e l = absurd (omega arith)
-        go (suc k) e l =
-            let (is, before) = some k e in
-            record {
-              which = k;
-              is = is;
-              before = ap (λ z. ltZ z end) is ∙ before;
-              none-later = λ j b. let c = ltb-true j (suc k) (sym (counted j ∙ ap (ltb j) e) ∙ b) in ap (leZ (time start headway j)) is ∙ later j k (omega arith);
-            }
+    -- so it is in the range, without a test
+    pub last-in : 0 < trips start end headway → inRange (last start end headway) ≡ true
+    last-in l = between-in start (last start end headway) end from to (last-between l)
 
     -- and blank exactly if there is none
     pub last-blank : (last start end headway ≡ blank) ↔ (trips start end headway ≡ 0)
@@ -122,4 +133,32 @@ module _ (start end headway : ℤ) (above : ltZ (pos 0) headway ≡ true) where
       where
         go : (n : ℕ) → trips start end headway ≡ n → last start end headway ≡ blank → n ≡ 0
         go zero e b = refl
-        go (suc k) e b = let (is, before) = some k e in absurd (true≢false (sym (within k before) ∙ ap inRange (sym is ∙ b)))
+        go (suc k) e b = absurd (true≢false (sym (last-in (omega arith)) ∙ ap inRange b))
+
+-- ── every headway ──
+-- the latest of so many times with a test of the range, as LAST was defined before
+abbrev pub testedOf : ℤ → ℤ → ℕ → ℤ
+testedOf start headway zero = blank
+testedOf start headway (suc k) = fit (time start headway k)
+
+module _ (start end headway : ℤ) where
+  -- LAST is blank, or lies from the start to before the end
+  pub last-lies : (last start end headway ≡ blank) ⊎ Between start (last start end headway) end
+  last-lies = go (leZ headway (pos 0)) refl (trips start end headway) refl
+    where
+      go : (b : Bool) → leZ headway (pos 0) ≡ b → (n : ℕ) → trips start end headway ≡ n → (last start end headway ≡ blank) ⊎ Between start (last start end headway) end
+      go true q n e = inl (no-headway start end headway q .1)
+      go false q zero e = inl (last-of start end headway (le-lt headway (pos 0) q) 0 e)
+      go false q (suc k) e = inr (last-between start end headway (le-lt headway (pos 0) q) (omega arith))
+
+  -- a test of the range changes nothing: LAST is what it was defined to be with one
+  pub last-untested : inRange start ≡ true → inRange end ≡ true
+      → last start end headway ≡ cond (leZ headway (pos 0)) blank (testedOf start headway (trips start end headway))
+  last-untested from to = go (leZ headway (pos 0)) refl (trips start end headway) refl
+    where
+      go : (b : Bool) → leZ headway (pos 0) ≡ b → (n : ℕ) → trips start end headway ≡ n → cond b blank (lastOf start headway n) ≡ cond b blank (testedOf start headway n)
+      go true q n e = refl
+      go false q zero e = refl
+      go false q (suc k) e =
+          let p = le-lt headway (pos 0) q in let is = some start end headway p k e .0 in
+          ap (λ b. cond b (time start headway k) blank) (sym (ap inRange (sym is) ∙ last-in start end headway p from to (omega arith)))

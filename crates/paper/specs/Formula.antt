@@ -79,10 +79,10 @@ trips s e h = cond (ltZ s e) ((natAbs (e -ℤ s) + natAbs h - 1) / natAbs h) 0
 abbrev pub departures : ℤ → ℤ → ℤ → ℤ
 departures s e h = cond (leZ h (pos 0)) blank (fit (pos (trips s e h)))
 
--- 9. LAST: the latest of so many times
+-- 9. LAST: the latest of so many times; it lies from start to before end, so in the range
 abbrev pub lastOf : ℤ → ℤ → ℕ → ℤ
 lastOf s h zero = blank
-lastOf s h (suc k) = fit (s +ℤ pos k *ℤ h)
+lastOf s h (suc k) = s +ℤ pos k *ℤ h
 
 abbrev pub last : ℤ → ℤ → ℤ → ℤ
 last s e h = cond (leZ h (pos 0)) blank (lastOf s h (trips s e h))

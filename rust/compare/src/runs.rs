@@ -164,6 +164,7 @@ fn the_widest_window(engine: &dyn Engine) {
     let values = |engine, headway| built(engine, &widest(headway)).stored[3..5].to_vec();
     assert_eq!(values(engine, 1), [BLANK, 2_147_483_646]);
     assert_eq!(values(engine, 2), [2_147_483_647, 2_147_483_645]);
+    assert_eq!(values(engine, 2_147_483_647), [2, 0]);
 }
 
 /// LINEAR at both ends of the range, and a sum that leaves it on the way.
