@@ -3,7 +3,7 @@ use Prim.Native.Nat.{ℕ, _+_, _≤_, _<_}
 use native.Mathlib.Nat.{le-refl, lt-irrefl}
 use native.Mathlib.Omega.{arith}
 use mathlib.Core.Bool.{Bool, true, false, cond, not, _||_, or-false, or-assoc}
-use mathlib.Core.List.{List, [], _∷_, _++_}
+use mathlib.Core.List.{List}
 use mathlib.Core.Path.{_≡_, refl, ap, ap₂, sym, _∙_, fun-ext}
 use borrow.Author.Tests.{ltb-true, ltb-false, le-leb, lt-leb, eqb-true, eqb-false}
 use lib.Dec.{eqb, ltb, leb}
@@ -12,8 +12,9 @@ use lib.ListN.{length, getD, take, drop, set, replicate, length-set, length-repl
 use lib.Seq.{getD-set-same, getD-set-other}
 use Rattle.integers.specs.Integers.{eqZ}
 use Rattle.integers.proofs.Order.{eqZ-self, eqZ-yes, eqZ-no}
-use Rattle.paper.specs.Lists.{any, tally, nat}
+use Rattle.paper.specs.Lists.{any, nat}
 use Rattle.paper.specs.Formula.{places}
+use Rattle.paper.proofs.Lists.{tally-append}
 use Rattle.paper.proofs.Scan.{next, any-next}
 use Rattle.formulas.specs.Row.{allBits, Marked}
 use Rattle.formulas.proofs.Steps.{any-tally}
@@ -71,10 +72,6 @@ turned-next {xs} {before} {after} {i} s h e m = record {
 }
 
 -- ── what an earlier place and a later one decide ──
-tally-append : (p : ℤ → Bool) (xs ys : List ℤ) → tally p (xs ++ ys) ≡ tally p xs + tally p ys
-tally-append p [] ys = omega arith
-tally-append p (x ∷ xs) ys = let h = tally-append p xs ys in omega arith
-
 eqZ-back : (a b : ℤ) → eqZ a b ≡ eqZ b a
 eqZ-back a b = go (eqZ a b) refl (eqZ b a) refl
   where

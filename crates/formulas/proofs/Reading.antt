@@ -4,15 +4,13 @@ use native.Mathlib.Omega.{arith}
 use mathlib.Core.List.{List, [], _∷_}
 use mathlib.Core.Path.{_≡_, refl, ap, sym, _∙_}
 use borrow.Author.Needs.{sfits-of}
-use lib.Dec.{T, leb}
 use lib.IntN.{ℤ, pos}
 use lib.ListN.{length, getD, take, drop, length-map, drop-of-length-le}
 use lib.Seq.{take-all}
 use lib.Signed.{mag}
-use mir.Syntax.{Width, w64}
-use mir.Val.{SFits, hbits, toZ, ofZ}
+use mir.Syntax.{Width}
+use mir.Val.{hbits, toZ, ofZ}
 use mir.Facts.{toZ-ofZ}
-use Rattle.integers.proofs.Ranges.{as64}
 use Rattle.paper.specs.Lists.{nat}
 use Rattle.paper.specs.Formula.{blank, inputAt}
 use Rattle.paper.proofs.Buffers.{Filled, below-list}
@@ -22,14 +20,6 @@ use Rattle.formulas.specs.Row.{inputs}
 -- what a callee gave, read back from its bits
 pub told : (w : Width) {r e : ℤ} → mag r < 2 ^ hbits w → r ≡ e → toZ w (ofZ w r) ≡ e
 told w k e = toZ-ofZ (sfits-of k) ∙ e
-
--- a number of a lesser width, cast to 64 bits
-module _ (w : Width) {z : ℤ} (less : T (leb (hbits w) 63)) (fits : SFits w z) where
-  pub cast-fits : SFits w64 (toZ w (ofZ w z))
-  cast-fits = rw (toZ-ofZ fits) (as64 {w = w} less fits)
-
-  pub cast-is : toZ w64 (ofZ w64 (toZ w (ofZ w z))) ≡ z
-  cast-is = toZ-ofZ cast-fits ∙ toZ-ofZ fits
 
 -- ── the inputs ──
 module _ (vars : List ℕ) (values : List ℤ) where

@@ -71,6 +71,14 @@ same-bits w (pos n) e = refl
 same-bits w (negsuc n) e = absurd (true≢false e)
 
 -- ── the casts of a width narrower than 64 bits, as a program makes them by way of 64 ──
+-- a number of it, cast to 64 bits
+module _ (w : Width) {z : ℤ} (less : T (leb (hbits w) 63)) (fits : SFits w z) where
+  pub cast-fits : SFits w64 (toZ w (ofZ w z))
+  cast-fits = rw (toZ-ofZ fits) (sfits-widen {w = w} {w′ = w64} less fits)
+
+  pub cast-is : toZ w64 (ofZ w64 (toZ w (ofZ w z))) ≡ z
+  cast-is = toZ-ofZ cast-fits ∙ toZ-ofZ fits
+
 -- from the upper half of the bits to the number
 pub carried-down : (w : Width) (x : ℕ) → 2 ^ bits w ≤ 2 ^ 63 → 2 ^ hbits w ≤ x → x < 2 ^ bits w → toZ w64 x -ℤ pos (2 ^ bits w) ≡ toZ w x
 carried-down w x n h k = ap (λ (z : ℤ). z -ℤ pos (2 ^ bits w)) (toZ-pos w64 (omega arith)) ∙ high-bits w x h k

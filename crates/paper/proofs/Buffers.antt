@@ -11,6 +11,7 @@ use lib.ListN.{length, getD, take, drop, set, length-append, length-drop, length
 use lib.Seq.{take-at, drop-at, take-suc, take-suc-set, drop-set-lt, getD-append-seam, set-append-left, getD-set-same, getD-set-other, ext-getD, getD-take, length-take-le}
 use borrow.Author.Tests.{ltb-true, ltb-false, eqb-true, eqb-false}
 use Rattle.paper.specs.Lists.{tally, size, below, over}
+use Rattle.paper.proofs.Lists.{tally-append}
 
 -- ── f of the numbers below n ──
 module _ {A : Type 0} (f : ℕ → A) where
@@ -117,10 +118,6 @@ module _ {A : Type 0} (f : ℕ → A) (before : List A) where
   filled-end l i n s e = rw (← e) (sym (take-append-drop i l) ∙ ap₂ _++_ (s .front) (s .back))
 
 -- ── the number of ones in a row of flags ──
-tally-append : (p : ℕ → Bool) (xs ys : List ℕ) → tally p (xs ++ ys) ≡ tally p xs + tally p ys
-tally-append p [] ys = omega arith
-tally-append p (x ∷ xs) ys = let h = tally-append p xs ys in omega arith
-
 pub ones-below : (p : ℕ → Bool) (n : ℕ) → tally (eqb 1) (below (λ v. cond (p v) 1 0) n) ≡ size p n
 ones-below p zero = refl
 ones-below p (suc n) = tally-append (eqb 1) (below (λ v. cond (p v) 1 0) n) (cond (p n) 1 0 ∷ []) ∙ go (p n) (ones-below p n)

@@ -1,4 +1,4 @@
--- Bytes that are stored one behind the other: two runs of stores, the second where the first ends, are one run. Assumes nothing.
+-- What is stored one behind the other: two runs of stores, the second where the first ends, are one run. Assumes nothing.
 use Prim.Native.Nat.{ℕ, zero, suc, _+_, _*_, _≤_}
 use native.Mathlib.Omega.{arith}
 use native.Mathlib.Nat.{mul-suc}
@@ -9,16 +9,16 @@ use lib.ListN.{length, drop, set, length-append}
 use lib.Seq.{sets, sets-eq}
 use Rattle.paper.specs.Lists.{joined}
 
-sets-then : (xs ys l : List ℕ) (at k : ℕ) → k ≡ at + length xs → sets (sets l at xs) k ys ≡ sets l at (xs ++ ys)
+pub sets-then : {A : Type 0} (xs ys l : List A) (at k : ℕ) → k ≡ at + length xs → sets (sets l at xs) k ys ≡ sets l at (xs ++ ys)
 sets-then [] ys l at k e = let h : k ≡ at = omega arith in rw h
 sets-then (x ∷ xs) ys l at k e = sets-then xs ys (set l at x) (suc at) k (omega arith)
 
 -- a call that stores xs, and one that stores ys behind them
-pub go-on : (l : List ℕ) (at : ℕ) (xs ys : List ℕ) (k : ℕ) {l₁ l₂ : List ℕ} → l₁ ≡ sets l at xs → k ≡ at + length xs → l₂ ≡ sets l₁ k ys → l₂ ≡ sets l at (xs ++ ys)
+pub go-on : {A : Type 0} (l : List A) (at : ℕ) (xs ys : List A) (k : ℕ) {l₁ l₂ : List A} → l₁ ≡ sets l at xs → k ≡ at + length xs → l₂ ≡ sets l₁ k ys → l₂ ≡ sets l at (xs ++ ys)
 go-on l at xs ys k p e q = q ∙ ap (λ z. sets z k ys) p ∙ sets-then xs ys l at k e
 
 -- a run from the front on
-pub sets-front : (xs l : List ℕ) (n : ℕ) → length xs ≡ n → n ≤ length l → sets l 0 xs ≡ xs ++ drop n l
+pub sets-front : {A : Type 0} (xs l : List A) (n : ℕ) → length xs ≡ n → n ≤ length l → sets l 0 xs ≡ xs ++ drop n l
 sets-front xs l n e h = let z : 0 + length xs ≡ n = omega arith in sets-eq xs l 0 (omega arith) ∙ ap (λ k. xs ++ drop k l) z
 
 -- ── parts of w bytes each ──

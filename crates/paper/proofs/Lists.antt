@@ -1,13 +1,13 @@
 -- Tests, and lists of what passes them, as facts. Assumes nothing.
-use Prim.Native.Nat.{ℕ, zero, suc, _<_}
+use Prim.Native.Nat.{ℕ, zero, suc, _+_, _<_}
 use native.Mathlib.Omega.{arith}
 use mathlib.Core.Bool.{Bool, true, false, _&&_, _||_, true≢false, false≢true}
-use mathlib.Core.List.{List, [], _∷_, map, List·Memᴰ, List·Memᴰ·head, List·Memᴰ·tail}
+use mathlib.Core.List.{List, [], _∷_, _++_, map, List·Memᴰ, List·Memᴰ·head, List·Memᴰ·tail}
 use mathlib.Core.Path.{_≡_, refl, ap, ap₂, sym, _∙_}
 use lib.Dec.{eqb}
 use lib.ListN.{length, getD}
 use borrow.Author.Tests.{eq-eqb}
-use Rattle.paper.specs.Lists.{any, all, every}
+use Rattle.paper.specs.Lists.{any, all, every, tally}
 
 -- ── tests ──
 pub clash {ℓ} : {X : Type ℓ} {b : Bool} → b ≡ true → b ≡ false → X
@@ -100,6 +100,11 @@ module _ {A : Type 0} (p : A → Bool) where
   any-at [] e i d l = absurd (omega arith)
   any-at (x ∷ xs) e zero d l = or-false-left (p x) (any p xs) e
   any-at (x ∷ xs) e (suc i) d l = any-at xs (or-false-right (p x) (any p xs) e) i d (omega arith)
+
+  -- how many pass, of two lists one behind the other
+  pub tally-append : (xs ys : List A) → tally p (xs ++ ys) ≡ tally p xs + tally p ys
+  tally-append [] ys = omega arith
+  tally-append (x ∷ xs) ys = let h = tally-append xs ys in omega arith
 
 -- what agrees at each entry gives the same over the list
 pub map-same : {A B : Type 0} (f g : A → B) (xs : List A) → ((i : A) → List·Memᴰ i xs → f i ≡ g i) → map f xs ≡ map g xs

@@ -46,10 +46,14 @@ those-same p q zero h = refl
 those-same p q (suc k) h = ap₂ (λ l b. l ++ cond b (k ∷ []) []) (those-same p q k (λ r l. h r (omega arith))) (h k (le-refl (suc k)))
 
 -- ── lists one after another ──
-module _ (f : ℕ → List ℕ) where
-  pub joined-same : (g : ℕ → List ℕ) (n : ℕ) → ((v : ℕ) → v < n → f v ≡ g v) → joined f n ≡ joined g n
+module _ {A : Type 0} (f : ℕ → List A) where
+  pub joined-same : (g : ℕ → List A) (n : ℕ) → ((v : ℕ) → v < n → f v ≡ g v) → joined f n ≡ joined g n
   joined-same g zero h = refl
   joined-same g (suc n) h = ap₂ _++_ (joined-same g n (λ v l. h v (omega arith))) (h n (le-refl (suc n)))
+
+  pub joined-none : (n : ℕ) → ((v : ℕ) → v < n → f v ≡ []) → joined f n ≡ []
+  joined-none zero h = refl
+  joined-none (suc n) h = ap₂ _++_ (joined-none n (λ v l. h v (omega arith))) (h n (le-refl (suc n)))
 
   pub joined-grown : (n : ℕ) → length (joined f (suc n)) ≡ length (joined f n) + length (f n)
   joined-grown n = length-append (joined f n) (f n)

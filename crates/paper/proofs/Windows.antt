@@ -32,9 +32,22 @@ past-end : (g h k : ℕ) → 0 < h → (g + h - 1) / h ≤ k → g ≤ k * h
 past-end g h k p l = let q : g + h - 1 < suc k * h = div-lt-iff-lt-mul p .0 (suc-le-suc l) in omega arith
 
 -- the k-th time lies k headways after the start
-reached : (s h : ℤ) (k : ℕ) → ltZ (pos 0) h ≡ true → (time s h k ≡ s +ℤ pos (k * natAbs h)) × (0 < natAbs h)
+pub reached : (s h : ℤ) (k : ℕ) → ltZ (pos 0) h ≡ true → (time s h k ≡ s +ℤ pos (k * natAbs h)) × (0 < natAbs h)
 reached s (pos h) k p = (refl, ltb-true 0 h p)
 reached s (negsuc h) k p = absurd (false≢true p)
+
+-- so no time is before the start, nor before an earlier one
+module _ (start headway : ℤ) (above : ltZ (pos 0) headway ≡ true) where
+  pub later : (j k : ℕ) → j ≤ k → leZ (time start headway j) (time start headway k) ≡ true
+  later j k l =
+      let h = natAbs headway in let m : j * h ≤ k * h = mul-le-mul l (le-refl h) in
+      rw (reached start headway j above .0, reached start headway k above .0)
+      (yes-le (start +ℤ pos (j * h)) (start +ℤ pos (k * h)) (omega (arith, sum-bal start (pos (j * h)), sum-bal start (pos (k * h)))))
+
+  pub from-start : (k : ℕ) → leZ start (time start headway k) ≡ true
+  from-start k =
+      let h = natAbs headway in
+      rw (reached start headway k above .0) (yes-le start (start +ℤ pos (k * h)) (omega (arith, sum-bal start (pos (k * h)))))
 
 -- z lies from the start to before the end
 abbrev pub Between : ℤ → ℤ → ℤ → Type 0
@@ -90,15 +103,6 @@ module _ (start end headway : ℤ) (above : ltZ (pos 0) headway ≡ true) where
   pub last-of : (n : ℕ) → trips start end headway ≡ n → last start end headway ≡ lastOf start headway n
   last-of n e = ap (λ b. cond b blank (lastOf start headway (trips start end headway))) positive ∙ ap (lastOf start headway) e
 
-  later : (j k : ℕ) → j ≤ k → leZ (time start headway j) (time start headway k) ≡ true
-  later j k l =
-      let m : j * h ≤ k * h = mul-le-mul l (le-refl h) in
-      rw (reached start headway j above .0, reached start headway k above .0)
-      (yes-le (start +ℤ pos (j * h)) (start +ℤ pos (k * h)) (omega (arith, sum-bal start (pos (j * h)), sum-bal start (pos (k * h)))))
-
-  from-start : (k : ℕ) → leZ start (time start headway k) ≡ true
-  from-start k = rw (reached start headway k above .0) (yes-le start (start +ℤ pos (k * h)) (omega (arith, sum-bal start (pos (k * h)))))
-
   some : (k : ℕ) → trips start end headway ≡ suc k → (last start end headway ≡ time start headway k) × (ltZ (time start headway k) end ≡ true)
   some k n = (last-of (suc k) n, counted k ∙ ap (ltb k) n ∙ lt-ltb k (suc k) (le-refl (suc k)))
 
@@ -114,12 +118,12 @@ module _ (start end headway : ℤ) (above : ltZ (pos 0) headway ≡ true) where
             which = k;
             is = is;
             before = ap (λ z. ltZ z end) is ∙ before;
-            none-later = λ j b. let c = ltb-true j (suc k) (sym (counted j ∙ ap (ltb j) e) ∙ b) in ap (leZ (time start headway j)) is ∙ later j k (omega arith);
+            none-later = λ j b. let c = ltb-true j (suc k) (sym (counted j ∙ ap (ltb j) e) ∙ b) in ap (leZ (time start headway j)) is ∙ later start headway above j k (omega arith);
           }
 
   -- so it lies from the start to before the end
   pub last-between : 0 < trips start end headway → Between start (last start end headway) end
-  last-between l = let z = latest l in (ap (leZ start) (z .is) ∙ from-start (z .which), z .before)
+  last-between l = let z = latest l in (ap (leZ start) (z .is) ∙ from-start start headway above (z .which), z .before)
 
   -- a start and an end of the range
   module _ (from : inRange start ≡ true) (to : inRange end ≡ true) where

@@ -66,7 +66,7 @@ those p zero = []
 those p (suc n) = those p n ++ cond (p n) (n ∷ []) []
 
 -- the lists that f gives of the numbers below n, one after another
-abbrev pub joined : (ℕ → List ℕ) → ℕ → List ℕ
+abbrev pub joined : {A : Type 0} → (ℕ → List A) → ℕ → List A
 joined f zero = []
 joined f (suc n) = joined f n ++ f n
 

@@ -1,6 +1,6 @@
 -- Asking over a row of work: a variable that has its value is left alone; a row asks its inputs first, so its formula is worked out over
 -- their values, and where ELEMENT does not look any value will do. Assumes nothing.
-use Prim.Native.Nat.{ℕ, zero, suc, _≤_, _<_}
+use Prim.Native.Nat.{ℕ, zero, suc, _<_}
 use native.Mathlib.Omega.{arith}
 use mathlib.Core.Bool.{Bool, true, false, not, cond, true≢false}
 use mathlib.Core.List.{List, [], map, List·Memᴰ}
@@ -11,7 +11,7 @@ use lib.IntN.{ℤ, pos}
 use lib.ListN.{length, getD, set, length-set, List·getD-eq-default}
 use lib.Seq.{getD-set-same, getD-set-other}
 use borrow.Author.Tests.{eqb-true, eqb-false, ltb-true, ltb-false, not-false}
-use Rattle.paper.specs.Lists.{all, nat}
+use Rattle.paper.specs.Lists.{nat}
 use Rattle.paper.specs.Formula.{formula, looked}
 use Rattle.paper.specs.Net.{Values, number, afresh}
 use Rattle.paper.specs.Tables.{Tables, part}
@@ -20,8 +20,8 @@ use Rattle.paper.proofs.Lawful.{Lawful, looked-in, formula-same, looked-same}
 use Rattle.paper.proofs.Numbers.{lower-input, number-right}
 use Rattle.paper.proofs.Fresh.{afresh-alike, afresh-equation}
 use Rattle.routes.specs.Rows.{valuesOf}
-use Rattle.routes.specs.Reach.{Closed, Either, Reached, Reaching}
-use Rattle.routes.specs.Work.{byRow, workNet, waiting, depth, worksOut, Workable, workedOut, asksOut, Holds, Ready, Asked, Asking}
+use Rattle.routes.specs.Reach.{Closed, Either, Reached}
+use Rattle.routes.specs.Work.{byRow, workNet, waiting, depth, worksOut, Workable, workedOut, asksOut, Ready, Asked, Asking}
 use Rattle.routes.proofs.Reach.{reached-still, reaching-start, reaching-step, reached-own}
 
 module _ (t : Tables) (work : List ℕ) where

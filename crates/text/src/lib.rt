@@ -4,7 +4,6 @@ mod buffer;
 mod numbers;
 
 ghost use Rattle.io.specs.Counts.{Counts};
-ghost use Rattle.paper.specs.Lists.{joined};
 ghost use Rattle.text.specs.Buffer.{Put, Shows};
 ghost use Rattle.text.specs.Lines as Lines;
 use crate::buffer::least;

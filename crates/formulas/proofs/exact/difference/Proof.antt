@@ -6,7 +6,7 @@ use mir.Val.{SFits}
 use mir.Facts.{toZ-ofZ}
 use Rattle.integers.proofs.Parts.{dif-away}
 use Rattle.integers.proofs.Ranges.{fits-away, away-fit}
-use Rattle.formulas.proofs.Reading.{cast-fits, cast-is}
+use Rattle.integers.proofs.Bits.{cast-fits, cast-is}
 use Rattle.formulas.proofs.exact.difference.Statement.{statement}
 use Rattle.formulas.proofs.exact.difference.Tie as tie
 

@@ -8,8 +8,9 @@ use mir.Val.{SFits}
 use mir.Facts.{toZ-ofZ}
 use Rattle.integers.proofs.Parts.{sum-away}
 use Rattle.integers.proofs.Ranges.{fits-away, away-fit}
+use Rattle.integers.proofs.Bits.{cast-fits, cast-is}
 use Rattle.paper.specs.Formula.{fit}
-use Rattle.formulas.proofs.Reading.{told, cast-fits, cast-is}
+use Rattle.formulas.proofs.Reading.{told}
 use Rattle.formulas.proofs.extreme.stood_for.Statement.{statement}
 use Rattle.formulas.proofs.extreme.stood_for.Tie as tie
 

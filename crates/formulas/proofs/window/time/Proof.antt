@@ -4,7 +4,8 @@ use native.Mathlib.Omega.{arith}
 use borrow.Author.Needs.{sfits-of}
 use mir.Syntax.{w32, w64}
 use mir.Facts.{toZ-pos}
-use Rattle.formulas.proofs.Reading.{told, cast-fits, cast-is}
+use Rattle.integers.proofs.Bits.{cast-fits, cast-is}
+use Rattle.formulas.proofs.Reading.{told}
 use Rattle.formulas.proofs.Times.{room}
 use Rattle.formulas.proofs.window.time.Statement.{statement}
 use Rattle.formulas.proofs.window.time.Tie as tie

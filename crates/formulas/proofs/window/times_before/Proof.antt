@@ -10,8 +10,8 @@ use mir.Val.{toZ, ofZ}
 use mir.Facts.{toZ-ofZ}
 use Rattle.integers.proofs.Order.{natAbs-away}
 use Rattle.integers.proofs.Ranges.{fits-away}
-use Rattle.integers.proofs.Bits.{lt-read}
-use Rattle.formulas.proofs.Reading.{told, cast-fits, cast-is}
+use Rattle.integers.proofs.Bits.{lt-read, cast-fits, cast-is}
+use Rattle.formulas.proofs.Reading.{told}
 use Rattle.formulas.proofs.Times.{gap-above, gap-most, some-headway}
 use Rattle.formulas.proofs.window.times_before.Statement.{statement}
 use Rattle.formulas.proofs.window.times_before.Tie as tie

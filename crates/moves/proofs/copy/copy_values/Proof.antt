@@ -1,6 +1,5 @@
 -- The places passed hold the copied values, the others what they held (`Filled`). Assumes nothing.
 use Prim.Native.Nat.{_-_, _≤_}
-use mathlib.Core.Path.{_≡_}
 use native.Mathlib.Omega.{arith}
 use borrow.Author.Needs.{needs, sfits-of}
 use lib.IntN.{pos}

@@ -1,7 +1,6 @@
 -- The test for no maker is the definition's. Assumes nothing.
 use borrow.Author.Needs.{needs}
 use borrow.Author.Tests.{eq-eqb, ne-eqb}
-use borrow.Author.Needs.{needs}
 use Rattle.order.proofs.parts.of_maker.Statement.{statement}
 use Rattle.order.proofs.parts.of_maker.Tie as tie
 

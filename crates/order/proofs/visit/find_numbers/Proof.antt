@@ -2,7 +2,6 @@
 use borrow.Author.Needs.{needs}
 use Rattle.order.proofs.Parted.{columns-of, parts-of, parted-of}
 use Rattle.order.proofs.Sweeps.{clean-new, swept-found}
-use borrow.Author.Needs.{needs}
 use Rattle.order.proofs.visit.find_numbers.Statement.{statement}
 use Rattle.order.proofs.visit.find_numbers.Tie as tie
 

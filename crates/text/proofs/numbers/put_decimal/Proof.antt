@@ -1,6 +1,6 @@
 -- `io::decimal` gives the fewest digits, which are those of `decimal` (`decimal-is`). Assumes nothing.
 use native.Mathlib.Omega.{arith}
-use mathlib.Core.Path.{sym, _∙_}
+use mathlib.Core.Path.{_∙_}
 use borrow.Author.Needs.{needs}
 use Rattle.text.proofs.Tens.{decimal-is}
 use Rattle.text.proofs.numbers.put_decimal.Statement.{statement}

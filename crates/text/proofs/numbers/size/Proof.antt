@@ -1,5 +1,5 @@
 -- The bits of a number below 0 are 2 ^ 32 less that far (`below-zero`), and of another the number itself. Assumes nothing.
-use mathlib.Core.Path.{sym, _∙_}
+use mathlib.Core.Path.{sym}
 use lib.IntN.{pos}
 use mir.Facts.{sfits-lit, toZ-ofZ}
 use mir.Syntax.{w32}

@@ -1,0 +1,58 @@
+"""What the tools share that write the cases of a program: rows that stand in a pool, what is printed of a row, and the files that are written."""
+import os
+import struct
+import sys
+
+from model import BLANK, kept
+
+
+class Pool:
+    """Numbers of which rows are parts. The zeros at its end are not written: a pool that is read has zeros past its end."""
+
+    def __init__(self, code, most):
+        self.code, self.most, self.numbers = code, most, []
+
+    def place(self, row):
+        """Where a row starts and how long it is; one that does not stand in the pool yet goes to its end."""
+        row = list(row)
+        starts = range(len(self.numbers) - len(row) + 1)
+        start = next((i for i in starts if self.numbers[i:i + len(row)] == row), len(self.numbers))
+        self.numbers[start:start + len(row)] = row
+        assert len(self.numbers) <= self.most
+        return [start, len(row)]
+
+    def data(self):
+        return packed_bare(self.code, self.numbers)
+
+
+def packed_bare(code, numbers):
+    """The bytes of numbers, without the zeros at their end."""
+    last = max((i for i, x in enumerate(numbers) if x), default=-1)
+    return struct.pack('<%d%s' % (last + 1, code), *numbers[:last + 1])
+
+
+def value(x):
+    return '-' if x == BLANK else '(%d)' % -x if x < 0 else '%d' % x
+
+
+def row(name, xs):
+    return '; ' + ' '.join([name] + [value(x) for x in xs])
+
+
+def written(program, parts, File, files, shown):
+    """Writes the files of cases, one for each part, the arguments that name them, and what must be printed; with --check it writes nothing, and fails
+    if what stands there is out of date. A part makes its cases in the last of `files`, and puts their lines into `shown`."""
+    tool = 'tools/' + program
+    if sys.argv[1:] not in ([], ['--check']):
+        sys.exit('usage: %s [--check]' % tool)
+    want = {}
+    for part in parts:
+        files.append(File())
+        part()
+        want['data/' + part.__name__] = files[-1].data()
+    want['args'] = ''.join(part.__name__ + '\n' for part in parts).encode()
+    want['stdout'] = ''.join(line + '\n' for line in shown).encode()
+    check = '--check' in sys.argv
+    root = os.path.dirname(os.path.dirname(os.path.abspath(__file__)))
+    good = kept(root, {'crates/%s/%s' % (program, path): data for path, data in want.items()}, check, tool)
+    sys.exit(1 if check and not good else 0)
