@@ -1,4 +1,4 @@
-"""The model file, what `values` prints for it, and what build, trial and keep leave, from the specification alone: a second implementation, which
+"""The model file, what `values` prints for it, what build, trial and keep leave, and a batch of moves in figures, from the specification alone: a second implementation, which
 shares nothing with the engine. It is slow and plain on purpose: numbers in rounds, formulas over whole numbers of any size, a place found by
 looking at every index."""
 import struct
@@ -348,6 +348,29 @@ def kept_move(lent, record, pairs, move_vars, move_values, flags):
     count = len(evaluated)
     return ((0, 0, count), (min(record[0] + 1, 4294967295), count), filled(row, lent.stored),
             filled([int(v in evaluated) for v in range(lent.n)], flags))
+
+
+# ── a batch of moves in figures ──
+def moves_of(move_pairs, move_vars, move_values):
+    """The moves one after another: how many pairs each has, and those of its variables and new values that are lent."""
+    ends = [sum(move_pairs[:i + 1]) for i in range(len(move_pairs))]
+    return [(pairs, move_vars[end - pairs:end], move_values[end - pairs:end]) for pairs, end in zip(move_pairs, ends)]
+
+
+def figured(lent, moves, move_pairs, move_vars, move_values, asked, by_number):
+    """The figures of a batch, None if it is refused, and the row of counts by number that is left. The figures are blank results; least, greatest and
+    sum of those that have a value; evaluations by each route."""
+    if moves > 1000 or len(move_pairs) < moves or len(by_number) < 14:
+        return None, by_number
+    answers, results = [], []
+    for move in moves_of(move_pairs[:moves], move_vars, move_values):
+        left = [tried(lent, (0, 0), *move, 1, [asked], route, [0], [0] * lent.n, [0] * lent.n) for route in (1, 2, 3)]
+        answers.append([answer for answer, *_ in left])
+        results += left[0][2] if left[0][0][0] == 0 else []
+    values, numbers = [x for x in results if x != BLANK], [first[0] for first, *_ in answers]
+    figures = (len(results) - len(values), min(values, default=BLANK), max(values, default=BLANK), sum(values),
+               *[sum(by_route[i][2] for by_route in answers) for i in range(3)])
+    return figures, filled([numbers.count(k) for k in range(14)], by_number)
 
 
 # ── what `values` prints ──

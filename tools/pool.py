@@ -31,8 +31,12 @@ def packed_bare(code, numbers):
     return struct.pack('<%d%s' % (last + 1, code), *numbers[:last + 1])
 
 
+def signed(x):
+    return '(%d)' % -x if x < 0 else '%d' % x
+
+
 def value(x):
-    return '-' if x == BLANK else '(%d)' % -x if x < 0 else '%d' % x
+    return '-' if x == BLANK else signed(x)
 
 
 def row(name, xs):

@@ -1,7 +1,7 @@
 // A case is a call with all that it is lent. Its numbers have two bytes each, but for moves kept and route, which have four:
 //
 //  0  length of the case, length of its name, length of its values: all in bytes
-//  6  which call: 1 a trial, 2 a keep, 3 a build
+//  6  which call: 1 a trial, 2 a keep, 3 a build, 4 the figures of a batch
 //  8  n, m, e, pairs, asked
 // 18  the plan of fourteen rows: kinds, made variables, firsts, counts, entry variables, numbers, order, reader starts, reader places, move variables
 //     and asked variables; then coefficients; then parameters and new values
@@ -10,6 +10,7 @@
 // 86  how many results are shown, of a build how many reader starts and how many reader places, and how many of each other row
 // 90  moves kept, route
 // 98  the name, and the stored values, zeros past the end; of a build, its start values
+use crate::batches::count_case;
 use crate::print;
 use engine::Done;
 use engine::Session;
@@ -30,17 +31,17 @@ use pools::rows::row_signed32;
 use pools::rows::row16;
 
 // A number of the case.
-fn count(case: &[u8], at: usize) -> usize {
+pub fn count(case: &[u8], at: usize) -> usize {
     half(case, at) as usize
 }
 
 // The name of the case.
-fn name(case: &[u8]) -> &[u8] {
+pub fn name(case: &[u8]) -> &[u8] {
     part(case, 98, count(case, 2))
 }
 
 // The bytes of the stored values.
-fn values_of(case: &[u8]) -> &[u8] {
+pub fn values_of(case: &[u8]) -> &[u8] {
     part(case, after(98, count(case, 2)), count(case, 4))
 }
 
@@ -261,8 +262,10 @@ pub fn make(case: &[u8], pool: &[u16], coefs: &[i16], values: &[i32]) {
         try_case(case, &plan, pool, coefs, values);
     } else if which == 2 {
         keep_case(case, &plan, pool, coefs, values);
-    } else {
+    } else if which == 3 {
         build_case(case, &plan, pool, coefs, values);
+    } else {
+        count_case(case, &plan, pool, coefs, values);
     }
     text(b"\n");
 }

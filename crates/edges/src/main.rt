@@ -1,6 +1,7 @@
-// What build, trial and keep say on both sides of every edge of their refusals, and what they leave: for each file that the arguments name, a line for
-// each of its cases. A file has the number of its cases and the bytes of its three pools (4 bytes each), the pools (numbers of two bytes, signed ones of
-// two, signed ones of four), and the cases. Past its end a pool has zeros.
+// What build, trial and keep say on both sides of every edge of their refusals, what they leave, and batches of moves in figures: for each file that
+// the arguments name, a line for each of its cases. A file has the number of its cases and the bytes of its three pools (4 bytes each), the pools
+// (numbers of two bytes, signed ones of two, signed ones of four), and the cases. Past its end a pool has zeros.
+mod batches;
 mod cases;
 mod print;
 

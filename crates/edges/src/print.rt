@@ -1,9 +1,13 @@
 // The line of a case: which call, the case's name, the answer, the record, and the rows that are left.
 use engine::Done;
+use figures::Counted;
+use figures::Totals;
+use libc::STDOUT_FILENO;
 use pools::print::answer;
 use pools::print::number;
 use pools::print::record;
 use pools::print::text;
+use pools::print::three;
 
 // Prints a case's name, and what its call comes to.
 fn come_to(name: &[u8], done: Done) {
@@ -46,4 +50,68 @@ pub fn values(name: &[u8], shown: usize, row: &[i32]) {
 // Prints the first flags of a row.
 pub fn flags(shown: usize, row: &[u8]) {
     pools::print::flags(b"; flags", shown, row);
+}
+
+// A number without its sign.
+fn size(x: i64) -> u64 {
+    if 0 <= x {
+        return x as u64;
+    }
+    if x < -9223372036854775807 {
+        return 9223372036854775808;
+    }
+    (0 - x) as u64
+}
+
+// Prints a sum behind a blank, one below 0 without its sign in brackets.
+fn sum(x: i64) {
+    if 0 <= x {
+        number(size(x));
+        return;
+    }
+    text(b" (");
+    io::print_decimal(STDOUT_FILENO, size(x));
+    text(b")");
+}
+
+// Prints a count behind a blank.
+fn count(n: u32) {
+    number(n as u64);
+}
+
+// Prints the figures of a batch.
+fn accepted(totals: Totals) {
+    text(b" 0 0; blank");
+    count(totals.blank);
+    values(b"; least", 1, &[totals.least]);
+    values(b"; greatest", 1, &[totals.greatest]);
+    text(b"; sum");
+    sum(totals.sum);
+    text(b"; evaluations");
+    three(totals.first, totals.second, totals.third);
+}
+
+// Prints a refusal.
+fn refused(number: u32, place: u32) {
+    count(number);
+    count(place);
+}
+
+// Prints what a batch comes to.
+pub fn counted(name: &[u8], told: Counted) {
+    text(b"figures, ");
+    text(name);
+    text(b":");
+    match told {
+        Counted::Accepted { totals } => accepted(totals),
+        Counted::Refused { number, place } => refused(number, place),
+    }
+}
+
+// Prints the counts of a row under its name.
+pub fn counts(name: &[u8], row: &[u32]) {
+    text(name);
+    for i in 0..row.len() {
+        count(row[i]);
+    }
 }

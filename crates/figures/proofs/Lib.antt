@@ -1,0 +1,6 @@
+pub mod Adding
+pub mod Trying
+pub mod Going
+pub mod Called
+pub mod Order
+pub mod Routes

@@ -1,0 +1,120 @@
+-- A batch of candidate moves in figures, as one function from what the call is lent to what it leaves. Assumes nothing.
+use Prim.Native.Nat.{ℕ}
+use mathlib.Core.Bool.{Bool, cond, _&&_}
+use mathlib.Core.List.{List, [], _∷_, map}
+use lib.IntN.{ℤ, pos, _+ℤ_}
+use lib.Dec.{eqb, leb}
+use lib.ListN.{length, getD, take, drop, replicate}
+use Rattle.integers.specs.Integers.{eqZ}
+use Rattle.paper.specs.Lists.{total, tally, over}
+use Rattle.paper.specs.Formula.{blank, lesser, greater}
+use Rattle.paper.specs.Checks.{Move}
+use Rattle.paper.specs.Calls.{Model, TrialLeft, trial, numberOf, evaluationsOf}
+use Rattle.paper.specs.Calls as calls
+use Rattle.figures.specs.declared.Tried.{Tried}
+use Rattle.figures.specs.declared.Outcome.{Outcome}
+use Rattle.figures.specs.declared.Totals.{Totals}
+use Rattle.figures.specs.declared.Counted.{Counted}
+use Rattle.figures.specs.declared.Counted.the-variants.{Accepted, Refused}
+
+-- ── one move ──
+module _ (w : Model) (asked : ℕ) where
+  -- as it is asked of the engine: one variable, a route, and rows of its own
+  abbrev pub asking : ℕ → Move → calls.Tried
+  asking route mv = record {
+    move = mv;
+    asked = 1;
+    askedVars = asked ∷ [];
+    route = route;
+    results = pos 0 ∷ [];
+    trial = replicate 4096 (pos 0);
+    flags = replicate 4096 0;
+  }
+
+  -- what the engine then leaves, over a record that nobody else holds
+  abbrev pub left : ℕ → Move → TrialLeft
+  left route mv = trial (record { kept = 0; evaluations = 0 }) w (asking route mv)
+
+  -- its number, 0 if accepted, its evaluations, and the value of the asked variable
+  unfoldable pub tried : ℕ → Move → Tried
+  tried route mv = let x = left route mv in record { number = numberOf (x .answer); evaluations = evaluationsOf (x .answer); result = getD (x .results) 0 (pos 0) }
+
+  -- the number and the result by route 1, and the evaluations by each route
+  abbrev pub outcome : Move → Outcome
+  outcome mv = let x = tried 1 mv in record {
+    number = x .number;
+    result = x .result;
+    first = x .evaluations;
+    second = tried 2 mv .evaluations;
+    third = tried 3 mv .evaluations;
+  }
+
+-- ── the moves as they are lent: how many there are, the number of pairs of each, and all pairs one move after another ──
+pub record Batch : Type 0 where
+  pub moves : ℕ
+  pub pairs : List ℕ
+  pub vars : List ℕ
+  pub values : List ℤ
+
+abbrev pub batchOf : ℕ → List ℕ → List ℕ → List ℤ → Batch
+batchOf moves pairs vars values = record { moves = moves; pairs = pairs; vars = vars; values = values }
+
+-- the pairs of each move are behind those of the moves before it; of pairs that are not lent it has none
+abbrev pub unpacked : List ℕ → List ℕ → List ℤ → List Move
+unpacked [] vars values = []
+unpacked (k ∷ ks) vars values = record { pairs = k; vars = take k vars; values = take k values } ∷ unpacked ks (drop k vars) (drop k values)
+
+abbrev pub movesOf : Batch → List Move
+movesOf b = unpacked (take (b .moves) (b .pairs)) (b .vars) (b .values)
+
+abbrev pub outcomes : Model → ℕ → Batch → List Outcome
+outcomes w asked b = map (outcome w asked) (movesOf b)
+
+-- ── the figures of a list of outcomes ──
+-- how many have a number
+abbrev pub having : ℕ → List Outcome → ℕ
+having k = tally (λ (o : Outcome). eqb (o .number) k)
+
+-- the results of the accepted moves
+abbrev pub results : List Outcome → List ℤ
+results [] = []
+results (o ∷ os) = cond (eqb (o .number) 0) (o .result ∷ results os) (results os)
+
+-- one of two results, by f; a blank one is left out
+abbrev pub oneOf : (ℤ → ℤ → ℤ) → ℤ → ℤ → ℤ
+oneOf f a b = cond (eqZ a blank) b (cond (eqZ b blank) a (f a b))
+
+-- the least of those that have a value, with `lesser`, or the greatest, with `greater`; blank if none has
+abbrev pub extreme : (ℤ → ℤ → ℤ) → List ℤ → ℤ
+extreme f [] = blank
+extreme f (x ∷ xs) = oneOf f x (extreme f xs)
+
+-- the sum of those that have a value
+abbrev pub sum : List ℤ → ℤ
+sum [] = pos 0
+sum (x ∷ xs) = cond (eqZ x blank) (pos 0) x +ℤ sum xs
+
+abbrev pub totals : List Outcome → Totals
+totals os = record {
+  blank = tally (λ x. eqZ x blank) (results os);
+  least = extreme lesser (results os);
+  greatest = extreme greater (results os);
+  sum = sum (results os);
+  first = total (map (λ (o : Outcome). o .first) os);
+  second = total (map (λ (o : Outcome). o .second) os);
+  third = total (map (λ (o : Outcome). o .third) os);
+}
+
+-- the moves accepted, and those refused by each of the numbers 1 to 13
+abbrev pub tallies : List Outcome → List ℕ → List ℕ
+tallies os = over 14 (λ k. having k os)
+
+-- ── the call ──
+-- at most 1,000 moves, a number of pairs for each, and 14 places for the tallies
+abbrev pub fits : Batch → List ℕ → Bool
+fits b byNumber = (leb (b .moves) 1000 && leb (b .moves) (length (b .pairs))) && leb 14 (length byNumber)
+
+abbrev pub figures : Model → ℕ → Batch → List ℕ → Counted × List ℕ
+figures w asked b byNumber =
+    let os = outcomes w asked b in
+    cond (fits b byNumber) (Accepted (totals os), tallies os byNumber) (Refused 1 0, byNumber)

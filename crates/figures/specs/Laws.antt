@@ -1,0 +1,46 @@
+-- What holds of the figures: the order of the moves changes nothing, and over stored values that the calls left each route gives the same result.
+-- `proofs/Order` and `proofs/Routes` prove it. Assumes nothing.
+use Prim.Native.Nat.{ℕ}
+use mathlib.Core.Bool.{true}
+use mathlib.Core.List.{List, [], _∷_, _++_, map}
+use mathlib.Core.Path.{_≡_}
+use lib.IntN.{ℤ}
+use lib.ListN.{length}
+use Rattle.paper.specs.Lists.{between}
+use Rattle.paper.specs.Checks.{Move}
+use Rattle.paper.specs.Calls.{numberOf, BuildLent, build, Model}
+use Rattle.paper.specs.Demands.{Call, modelOf, ownModel, after, Proper, renewed}
+use Rattle.figures.specs.Figures.{tried, Batch, figures}
+
+-- ── the order of the moves ──
+-- one list is the other in another order
+pub data Rearranged {A : Type 0} : List A → List A → Type 0 where
+  same : {xs : List A} → Rearranged xs xs
+  behind : {x : A} {xs ys : List A} → Rearranged xs ys → Rearranged (x ∷ xs) (x ∷ ys)
+  swapped : {x y : A} {xs : List A} → Rearranged (x ∷ y ∷ xs) (y ∷ x ∷ xs)
+  next : {xs ys zs : List A} → Rearranged xs ys → Rearranged ys zs → Rearranged xs zs
+
+-- moves, each a list of pairs of a variable and its new value, as they are lent: one behind the other
+abbrev pub joined : {A : Type 0} → ((ℕ × ℤ) → A) → List (List (ℕ × ℤ)) → List A
+joined f [] = []
+joined f (mv ∷ moves) = map f mv ++ joined f moves
+
+abbrev pub packed : List (List (ℕ × ℤ)) → Batch
+packed moves = record { moves = length moves; pairs = map length moves; vars = joined (λ p. p .0) moves; values = joined (λ p. p .1) moves }
+
+abbrev pub OrderChangesNothing : Type 0
+OrderChangesNothing =
+    (w : Model) (asked : ℕ) (moves moves′ : List (List (ℕ × ℤ))) → Rearranged moves moves′
+    → (byNumber : List ℕ) → figures w asked (packed moves) byNumber ≡ figures w asked (packed moves′) byNumber
+
+-- ── the routes ──
+-- each route gives a move the same number, whatever is lent
+abbrev pub SameNumber : Type 0
+SameNumber = (w : Model) (asked : ℕ) (mv : Move) (r : ℕ) → between 1 r 3 ≡ true → tried w asked r mv .number ≡ tried w asked 1 mv .number
+
+-- and over stored values that the calls left the same result: the fresh value of the asked variable
+abbrev pub SameResult : Type 0
+SameResult =
+    (b : BuildLent) → numberOf (build b .answer) ≡ 0 → (cs : List Call) → Proper b cs
+    → (asked : ℕ) (mv : Move) (r : ℕ) → tried (modelOf (after b cs) (ownModel b)) asked r mv .number ≡ 0
+    → tried (modelOf (after b cs) (ownModel b)) asked r mv .result ≡ renewed b cs mv asked

@@ -1,0 +1,3 @@
+pub mod Figures
+pub mod Adding
+pub mod Laws

@@ -1,0 +1,199 @@
+// A batch: its moves one after another.
+ghost use mathlib.Core.List.{[]};
+ghost use mathlib.Core.Path.{_≡_};
+ghost use Prim.Native.Nat.{suc, _+_, min, _≤_, _<_};
+ghost use lib.ListN.{length, take, drop, set};
+ghost use Rattle.paper.specs.Lists.{nat, over};
+ghost use Rattle.judges.specs.Lent.{toModel};
+ghost use Rattle.figures.specs.Figures.{outcomes, totals, tallies, batchOf, figures as counted};
+use crate::Counted;
+use crate::Totals;
+use crate::add::add;
+use crate::one::try_move;
+use formulas::blanks::BLANK;
+use integers::wide;
+
+// The figures of no move.
+fn none() -> Totals
+    ensures { λ r. ⌜ r ≡ totals [] ⌝ }
+{
+    Totals {
+        blank: 0,
+        least: BLANK,
+        greatest: BLANK,
+        sum: 0,
+        first: 0,
+        second: 0,
+        third: 0,
+    }
+}
+
+// The lesser of two numbers.
+fn lesser(a: usize, b: usize) -> usize
+    ensures { λ r. ⌜ r ≡ min a b ⌝ }
+{
+    if a <= b {
+        return a;
+    }
+    b
+}
+
+// The variables of a move's pairs, as many of them as there are.
+fn part_of_vars<'a>(at: usize, pairs: usize, rows: &'a [u16]) -> &'a [u16]
+    requires { ⌜ at + pairs < 4294967296 ⌝ }
+    ensures { λ r. ⌜ now r ≡ take pairs (drop at (now (rows .entry))) ⌝ }
+{
+    let end = lesser(at + pairs, rows.len());
+    let start = lesser(at, end);
+    &rows[start..end]
+}
+
+// The new values of a move's pairs, as many of them as there are.
+fn part_of_values<'a>(at: usize, pairs: usize, rows: &'a [i32]) -> &'a [i32]
+    requires { ⌜ at + pairs < 4294967296 ⌝ }
+    ensures { λ r. ⌜ now r ≡ take pairs (drop at (now (rows .entry))) ⌝ }
+{
+    let end = lesser(at + pairs, rows.len());
+    let start = lesser(at, end);
+    &rows[start..end]
+}
+
+// Puts 0 at the 14 places of a row of tallies.
+fn clear(by_number: &mut [u32])
+    requires { ⌜ 14 ≤ length (now «by_number») ⌝ }
+    ensures { λ _. ⌜ now («by_number» .exit) ≡ over 14 (λ k. 0) (now («by_number» .entry)) ⌝ }
+{
+    for k in 0..14usize {
+        by_number[k] = 0;
+    }
+}
+
+// Counts a move under its number.
+fn count(by_number: &mut [u32], number: u32)
+    requires { ⌜ number < length (now «by_number») ⌝ }
+    requires { ⌜ nat (now «by_number») number < 1000 ⌝ }
+    ensures { λ _. ⌜ now («by_number» .exit) ≡ set (now («by_number» .entry)) number (suc (nat (now («by_number» .entry)) number)) ⌝ }
+{
+    let place = number as usize;
+    by_number[place] = by_number[place] + 1;
+}
+
+// Tries the moves one after another, counts each under its number, and answers the figures of all.
+fn try_all(
+    n: usize,
+    m: usize,
+    e: usize,
+    kinds: &[u16],
+    makes: &[u16],
+    params: &[i32],
+    firsts: &[u16],
+    counts: &[u16],
+    vars: &[u16],
+    coefs: &[i16],
+    numbers: &[u16],
+    order: &[u16],
+    stored: &[i32],
+    reader_starts: &[u16],
+    reader_places: &[u16],
+    moves: usize,
+    move_pairs: &[u16],
+    move_vars: &[u16],
+    move_values: &[i32],
+    asked: u16,
+    by_number: &mut [u32],
+) -> Totals
+    requires { ⌜ (moves ≤ 1000) × (moves ≤ length (now «move_pairs»)) × (14 ≤ length (now «by_number»)) ⌝ }
+    ensures { λ r. ⌜ (r ≡ totals (outcomes (toModel n m e (now (kinds .entry)) (now (makes .entry)) (now (params .entry)) (now (firsts .entry)) (now (counts .entry)) (now (vars .entry)) (now (coefs .entry)) (now (numbers .entry)) (now (order .entry)) (now (stored .entry)) (now («reader_starts» .entry)) (now («reader_places» .entry))) asked (batchOf moves (now («move_pairs» .entry)) (now («move_vars» .entry)) (now («move_values» .entry))))) × (now («by_number» .exit) ≡ tallies (outcomes (toModel n m e (now (kinds .entry)) (now (makes .entry)) (now (params .entry)) (now (firsts .entry)) (now (counts .entry)) (now (vars .entry)) (now (coefs .entry)) (now (numbers .entry)) (now (order .entry)) (now (stored .entry)) (now («reader_starts» .entry)) (now («reader_places» .entry))) asked (batchOf moves (now («move_pairs» .entry)) (now («move_vars» .entry)) (now («move_values» .entry)))) (now («by_number» .entry))) ⌝ }
+{
+    let mut totals = none();
+    let mut at: usize = 0;
+    clear(by_number);
+    for i in 0..moves {
+        let pairs = wide(move_pairs[i]);
+        let outcome = try_move(
+            n,
+            m,
+            e,
+            kinds,
+            makes,
+            params,
+            firsts,
+            counts,
+            vars,
+            coefs,
+            numbers,
+            order,
+            stored,
+            reader_starts,
+            reader_places,
+            pairs,
+            part_of_vars(at, pairs, move_vars),
+            part_of_values(at, pairs, move_values),
+            asked,
+        );
+        count(by_number, outcome.number);
+        totals = add(totals, outcome);
+        at += pairs;
+    }
+    totals
+}
+
+// The figures of up to 1,000 moves, each tried on the stored values with one variable asked. Move i has as many pairs as `move_pairs` says at place
+// i; they stand behind those of the moves before it. Place 0 of `by_number` is left with the moves accepted, place k with those refused by number k.
+pub fn figures(
+    n: usize,
+    m: usize,
+    e: usize,
+    kinds: &[u16],
+    makes: &[u16],
+    params: &[i32],
+    firsts: &[u16],
+    counts: &[u16],
+    vars: &[u16],
+    coefs: &[i16],
+    numbers: &[u16],
+    order: &[u16],
+    stored: &[i32],
+    reader_starts: &[u16],
+    reader_places: &[u16],
+    moves: usize,
+    move_pairs: &[u16],
+    move_vars: &[u16],
+    move_values: &[i32],
+    asked: u16,
+    by_number: &mut [u32],
+) -> Counted
+    ensures { λ r. ⌜ (r, now («by_number» .exit)) ≡ counted (toModel n m e (now (kinds .entry)) (now (makes .entry)) (now (params .entry)) (now (firsts .entry)) (now (counts .entry)) (now (vars .entry)) (now (coefs .entry)) (now (numbers .entry)) (now (order .entry)) (now (stored .entry)) (now («reader_starts» .entry)) (now («reader_places» .entry))) asked (batchOf moves (now («move_pairs» .entry)) (now («move_vars» .entry)) (now («move_values» .entry))) (now («by_number» .entry)) ⌝ }
+{
+    let fits = (moves <= 1000) & (moves <= move_pairs.len()) & (14 <= by_number.len());
+    if !fits {
+        return Counted::Refused {
+            number: 1,
+            place: 0,
+        };
+    }
+    let totals = try_all(
+        n,
+        m,
+        e,
+        kinds,
+        makes,
+        params,
+        firsts,
+        counts,
+        vars,
+        coefs,
+        numbers,
+        order,
+        stored,
+        reader_starts,
+        reader_places,
+        moves,
+        move_pairs,
+        move_vars,
+        move_values,
+        asked,
+        by_number,
+    );
+    Counted::Accepted { totals }
+}

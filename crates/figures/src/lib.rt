@@ -1,0 +1,40 @@
+// A batch of candidate moves in figures: each move is tried on the same stored values by each of the three routes, and none is kept. Uses only what the
+// engine states.
+mod add;
+mod batch;
+mod one;
+
+pub use batch::figures;
+
+// What comes of a move by one route: the number that the engine answers, its evaluations, and the value of the asked variable.
+struct Tried {
+    number: u32,
+    evaluations: u32,
+    result: i32,
+}
+
+// What comes of a move: its number and its result by route 1, and the evaluations by each route.
+struct Outcome {
+    number: u32,
+    result: i32,
+    first: u32,
+    second: u32,
+    third: u32,
+}
+
+// The figures of the moves together: blank results; least, greatest and sum of those that have a value; evaluations by each route.
+pub struct Totals {
+    pub blank: u32,
+    pub least: i32,
+    pub greatest: i32,
+    pub sum: i64,
+    pub first: u32,
+    pub second: u32,
+    pub third: u32,
+}
+
+// What the call answers.
+pub enum Counted {
+    Accepted { totals: Totals },
+    Refused { number: u32, place: u32 },
+}
