@@ -39,8 +39,8 @@
  *    7 value blank, or a made variable's start not 0  14 file header, place is the byte
  *
  * STACK. On the deepest models, chains of 4,095 rows, a program that makes this call and no other needs a stack of
- *     lukhandro_build                          432 KiB
- *     lukhandro_trial by route 2 or 3        1,120 KiB
+ *     lukhandro_build                          480 KiB
+ *     lukhandro_trial by route 2 or 3        1,056 KiB
  *     lukhandro_trial by route 1, and
  *     lukhandro_keep, _read and _write         128 KiB or less
  * These figures were measured, in steps of 16 KiB, on an x86-64 machine; no proof states them. The tests send
