@@ -1,5 +1,5 @@
-// A batch of candidate moves in figures: each move is tried on the same stored values by each of the three routes, and none is kept. Uses only what the
-// engine states.
+// A batch of candidate moves in figures: each move is tried on the same stored values by each of the three routes, and none is kept. Uses what the engine
+// states, and of `formulas` only which number is blank.
 mod add;
 mod batch;
 mod one;
