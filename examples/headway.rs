@@ -13,5 +13,9 @@ fn main() -> Result<(), Refused> {
         sheet.value(3),
         sheet.value(4)
     );
+    sheet.keep(&[(2, 720)])?;
+    println!("kept: {:?} departures", sheet.value(3));
+    sheet.take_back()?;
+    println!("taken back: {:?} departures", sheet.value(3));
     Ok(())
 }

@@ -21,15 +21,26 @@
  *   move_vars, move_values                 pairs     a move: variable and new value (0 to 64 pairs)
  *   asked_vars, results                    asked     variables asked and their values (0 to 32)
  *   trial, flags                           n each    values as they would be; 1 where a formula was evaluated, else 0
+ *   log_sizes                              65        the log of kept moves: how many moves there are (0 to 64), and then
+ *                                                    how many pairs each has (0 to 64), the oldest first
+ *   log_vars, log_values                   4,096     the pairs of the log: variable, and its value before the move; those
+ *                                          each      of move k, from 0, stand from place 64 k on
  *   bytes                                            a model file: 24 + 4n + 12m + 4e bytes, little-endian
  *
- * Parameters stand in groups: record and counts, tables, what build fills, a move, what is asked, what a trial fills.
- * A parameter that joins a group comes at its end, as the index of readers does behind stored.
+ * Parameters stand in groups: record and counts, tables, what build fills, a move, what is asked, what a trial fills,
+ * the log. A parameter that joins a group comes at its end, as the index of readers does behind stored; the log came
+ * last, and its rows stand at the end of the list.
+ *
+ * THE LOG lets the latest 64 kept moves be taken back, one after another, the latest first. Its three rows need no
+ * content before build, which empties it (it writes log_sizes[0]) and is lent no more of it than log_sizes. Lend the same
+ * three rows to every keep, which notes its move there, and to every taking back, which takes the latest move off; no
+ * other call touches them. The 65th move pushes out the oldest: then every move comes one place forward, with all of its
+ * 64 places. What stands behind the moves and behind a move's pairs means nothing.
  *
  * VALUES lie in -2,147,483,647 to 2,147,483,647; LUKHANDRO_BLANK is no value.
  *
  * REFUSALS. Number 0 is accepted. Any other number is a refusal: the call has changed no byte that it was lent, and
- * place is the smallest row, variable, pair, asked index or byte that offends. Numbers are the specification's, 1 to 14:
+ * place is the smallest row, variable, pair, asked index or byte that offends. Numbers are the specification's, 1 to 16:
  *    1 a count outside its bound or a short buffer     8 numbers, order or readers that build does not give
  *    2 no such kind                                    9 no such route
  *    3 variable, input count or part of a row         10 a pair names a made variable or none
@@ -37,12 +48,18 @@
  *    5 variable made twice                            12 a new value is blank
  *    6 variable depends on itself                     13 an asked variable is not there
  *    7 value blank, or a made variable's start not 0  14 file header, place is the byte
+ *   16 the log is unfit, place 0: it holds more moves   15 nothing left to take back, place 0
+ *      than 64 or than the record's number kept, a
+ *      move of more than 64 pairs, a made variable,
+ *      one not below n, one twice in a move, or a blank
+ * Checks run in ascending number, but 8 comes before 7, and 16 before 15.
  *
  * STACK. On the deepest models, chains of 4,095 rows, a program that makes this call and no other needs a stack of
  *     lukhandro_build                          480 KiB
  *     lukhandro_trial by route 2 or 3        1,056 KiB
  *     lukhandro_trial by route 1, and
- *     lukhandro_keep, _read and _write         128 KiB or less
+ *     lukhandro_keep, _take_back,
+ *     _read and _write                         128 KiB or less
  * These figures were measured, in steps of 16 KiB, on an x86-64 machine; no proof states them. The tests send
  * these models through every call on a stack of 2 MiB: a thread that calls should have as much.
  */
@@ -58,9 +75,14 @@ extern "C" {
 
 #define LUKHANDRO_BLANK INT32_MIN
 
-/* The session record. Build sets 0 and m, a trial its evaluations, keep both; kept stops at 4,294,967,295. */
+/* The places of the rows of a log. */
+#define LUKHANDRO_LOG_SIZES 65
+#define LUKHANDRO_LOG_PLACES 4096
+
+/* The session record. Build sets 0 and m, a trial its evaluations, keep and taking back both. Kept stops at
+ * 4,294,967,295, and does not fall from there. */
 typedef struct {
-    uint32_t kept;        /* moves kept */
+    uint32_t kept;        /* moves kept and not taken back */
     uint32_t evaluations; /* evaluations of the last accepted call */
 } lukhandro_session;
 
@@ -76,7 +98,7 @@ typedef struct {
     uint32_t n, m, e; /* 0 if refused */
 } lukhandro_read_outcome;
 
-/* Fills numbers, order, stored and the readers from tables and start values. Refusals 1 to 7. */
+/* Fills numbers, order, stored and the readers from tables and start values, and empties the log. Refusals 1 to 7. */
 lukhandro_outcome lukhandro_build(
     lukhandro_session *session, size_t n, size_t m, size_t e,
     const uint16_t *kinds, size_t kinds_length, const uint16_t *makes, size_t makes_length,
@@ -85,9 +107,9 @@ lukhandro_outcome lukhandro_build(
     const int16_t *coefs, size_t coefs_length, const int32_t *starts, size_t starts_length,
     uint16_t *numbers, size_t numbers_length, uint16_t *order, size_t order_length,
     int32_t *stored, size_t stored_length, uint16_t *reader_starts, size_t reader_starts_length,
-    uint16_t *reader_places, size_t reader_places_length);
+    uint16_t *reader_places, size_t reader_places_length, uint16_t *log_sizes, size_t log_sizes_length);
 
-/* Tries a move by a route (1 input to output, 2 output to input, 3 mark-guided) on what build and keep left, and fills
+/* Tries a move by a route (1 input to output, 2 output to input, 3 mark-guided) on what the calls left, and fills
  * results, trial and flags; stored values stay. Refusals 1 to 13 without 6, 8 before 7. */
 lukhandro_outcome lukhandro_trial(
     lukhandro_session *session, size_t n, size_t m, size_t e,
@@ -104,7 +126,8 @@ lukhandro_outcome lukhandro_trial(
     int32_t *results, size_t results_length, int32_t *trial, size_t trial_length,
     uint8_t *flags, size_t flags_length);
 
-/* Keeps a move by route 1: changes stored, and fills flags. Refusals 1 to 12 without 6 and 9, 8 before 7. */
+/* Keeps a move by route 1: changes stored, fills flags, and notes the move in the log. Refusals 1 to 12 without 6 and 9,
+ * 8 before 7, then 16. */
 lukhandro_outcome lukhandro_keep(
     lukhandro_session *session, size_t n, size_t m, size_t e,
     const uint16_t *kinds, size_t kinds_length, const uint16_t *makes, size_t makes_length,
@@ -116,7 +139,23 @@ lukhandro_outcome lukhandro_keep(
     const uint16_t *reader_places, size_t reader_places_length,
     size_t pairs, const uint16_t *move_vars, size_t move_vars_length,
     const int32_t *move_values, size_t move_values_length,
-    uint8_t *flags, size_t flags_length);
+    uint8_t *flags, size_t flags_length, uint16_t *log_sizes, size_t log_sizes_length,
+    uint16_t *log_vars, size_t log_vars_length, int32_t *log_values, size_t log_values_length);
+
+/* Takes the latest kept move back by route 1: its variables get the values that they had before it. Changes stored, fills
+ * flags, and takes the move off the log (it writes log_sizes[0]); what keep then notes takes its room. Over values and a
+ * log that the calls left, stored is exactly what it was before that move. Refusals 1 to 5, 8, 7, 16 and 15. */
+lukhandro_outcome lukhandro_take_back(
+    lukhandro_session *session, size_t n, size_t m, size_t e,
+    const uint16_t *kinds, size_t kinds_length, const uint16_t *makes, size_t makes_length,
+    const int32_t *params, size_t params_length, const uint16_t *firsts, size_t firsts_length,
+    const uint16_t *counts, size_t counts_length, const uint16_t *vars, size_t vars_length,
+    const int16_t *coefs, size_t coefs_length, const uint16_t *numbers, size_t numbers_length,
+    const uint16_t *order, size_t order_length, int32_t *stored, size_t stored_length,
+    const uint16_t *reader_starts, size_t reader_starts_length,
+    const uint16_t *reader_places, size_t reader_places_length,
+    uint8_t *flags, size_t flags_length, uint16_t *log_sizes, size_t log_sizes_length,
+    const uint16_t *log_vars, size_t log_vars_length, const int32_t *log_values, size_t log_values_length);
 
 /* Fills tables from a model file of exactly bytes_length bytes. Refusal 14, then 1 for short tables. What is in the
  * tables is judged by build. */

@@ -1,5 +1,5 @@
-"""The model file, what `values` prints for it, what build, trial and keep leave, and a batch of moves in figures, from the specification alone: a second implementation, which
-shares nothing with the engine. It is slow and plain on purpose: numbers in rounds, formulas over whole numbers of any size, a place found by
+"""The model file, what `values` prints for it, what build, trial, keep and taking back leave, and a batch of moves in figures, from the specification
+alone: a second implementation, which shares nothing with the engine. It is slow and plain on purpose: numbers in rounds, formulas over whole numbers of any size, a place found by
 looking at every index."""
 import struct
 
@@ -168,14 +168,15 @@ def built(starts, lines, entries):
     return known, values
 
 
-# ── build, trial and keep, over what they are lent ──
-def build_left(counts, columns, starts, record, numbered, order, stored, reader_starts, reader_places):
-    """What a build leaves: answer (number, place, evaluations), record (moves kept, evaluations), numbers, order, stored values, and the starts and
-    the places of the index of readers. The columns of the tables are lent one by one, each of its own length: kinds, made variables, parameters,
+# ── build, trial, keep and taking back, over what they are lent ──
+def build_left(counts, columns, starts, record, numbered, order, stored, reader_starts, reader_places, log_sizes):
+    """What a build leaves: answer (number, place, evaluations), record (moves kept, evaluations), numbers, order, stored values, the starts and
+    the places of the index of readers, and the sizes of the log. The columns of the tables are lent one by one, each of its own length: kinds, made variables, parameters,
     firsts, counts; entry variables, coefficients."""
     n, m, e = counts
-    rooms = [(columns[:5], m), (columns[5:], e), ((starts, numbered, stored), n), ((order,), m), ((reader_starts,), n + 1), ((reader_places,), e)]
-    before = record, numbered, order, stored, reader_starts, reader_places
+    rooms = [(columns[:5], m), (columns[5:], e), ((starts, numbered, stored), n), ((order,), m), ((reader_starts,), n + 1), ((reader_places,), e),
+             ((log_sizes,), 65)]
+    before = record, numbered, order, stored, reader_starts, reader_places, log_sizes
     if not (1 <= n <= 4096 and m <= n and e <= 16384) or any(len(row) < least for rows, least in rooms for row in rows):
         return ((1, 0, 0),) + before
     model = starts[:n], list(zip(*columns[:5]))[:m], list(zip(*columns[5:]))[:e]
@@ -185,7 +186,7 @@ def build_left(counts, columns, starts, record, numbered, order, stored, reader_
     known, values = built(*model)
     first, rows = index(n, *model[1:])
     return ((0, 0, m), (0, m), filled(known, numbered), filled(in_order(known, model[1]), order), filled(values, stored), filled(first, reader_starts),
-            filled(rows, reader_places))
+            filled(rows, reader_places), filled([0], log_sizes))
 
 
 def in_order(known, lines):
@@ -207,7 +208,7 @@ def index(n, lines, entries):
 
 
 class Lent:
-    """What trial and keep are lent of a model: counts, tables, numbers, order, stored values and the index of readers (build's where none is given),
+    """What trial, keep and taking back are lent of a model: counts, tables, numbers, order, stored values and the index of readers (build's where none is given),
     each of the length lent."""
 
     def __init__(self, n, lines, entries, numbers, order, stored, e=None, readers=None):
@@ -238,7 +239,7 @@ def rightly_indexed(lent):
 
 
 def lent_refusal(lent, pairs, move_vars, move_values, asked=0, asked_vars=(), route=1, rooms=()):
-    """Checks 1 to 5, 8, 7 and 9 to 13. A keep asks nothing, by route 1. `rooms` has (length, least length) of the rows to be filled."""
+    """Checks 1 to 5, 8, 7 and 9 to 13. A keep asks nothing, by route 1, and a taking back moves nothing either. `rooms` has (length, least length) of the rows to be filled."""
     n, m, e = lent.n, lent.m, lent.e
     if not (1 <= n <= 4096 and m <= n and e <= 16384 and pairs <= 64 and asked <= 32):
         return 1, 0
@@ -339,15 +340,73 @@ def tried(lent, record, pairs, move_vars, move_values, asked, asked_vars, route,
             filled([int(v in evaluated) for v in range(lent.n)], flags))
 
 
-def kept_move(lent, record, pairs, move_vars, move_values, flags):
-    """What a keep leaves: answer, record, stored values, flags."""
-    bad = lent_refusal(lent, pairs, move_vars, move_values, rooms=[(len(flags), lent.n)])
-    if bad:
-        return bad + (0,), record, lent.stored, flags
-    row, evaluated = routed(lent, 1, dict(zip(move_vars[:pairs], move_values[:pairs])), [])
+class Log:
+    """The log of kept moves in three rows, each of the length lent: how many moves there are and then how many pairs each has, the oldest first;
+    variables; values. The pairs of move k stand from place 64 k on."""
+
+    def __init__(self, sizes, vars, values):
+        self.sizes, self.vars, self.values = list(sizes), list(vars), list(values)
+
+    def rooms(self):
+        return [(len(self.sizes), 65), (len(self.vars), 4096), (len(self.values), 4096)]
+
+    def move(self, k):
+        """Variables and values of move k."""
+        pairs = slice(64 * k, 64 * k + self.sizes[k + 1])
+        return self.vars[pairs], self.values[pairs]
+
+    def unfit(self, lent, kept):
+        """Check 16."""
+        held, made = self.sizes[0], {line[1] for line in lent.lines}
+        if held > 64 or held > kept or any(pairs > 64 for pairs in self.sizes[1:held + 1]):
+            return True
+        moves = [self.move(k) for k in range(held)]
+        return any(BLANK in xs or len(set(vs)) < len(vs) or any(v in made or v >= lent.n for v in vs) for vs, xs in moves)
+
+    def noted(self, old, move_vars):
+        """The log with one more move, over the values before it."""
+        sizes, vars, values = self.sizes, self.vars, self.values
+        if sizes[0] == 64:  # the oldest goes, and all behind it moves up; the last places stay as they are
+            sizes, vars, values = sizes[1:65] + sizes[64:], vars[64:4096] + vars[4032:], values[64:4096] + values[4032:]
+        k, pairs = min(self.sizes[0], 63), len(move_vars)
+        sizes = [k + 1] + sizes[1:k + 1] + [pairs] + sizes[k + 2:]
+        at, end = 64 * k, 64 * k + pairs
+        return Log(sizes, vars[:at] + list(move_vars) + vars[end:], values[:at] + [old[v] for v in move_vars] + values[end:])
+
+    def dropped(self):
+        """The log without its latest move."""
+        return Log([self.sizes[0] - 1] + self.sizes[1:], self.vars, self.values)
+
+
+def changed(lent, kept, move, flags, log):
+    """What a move leaves by route 1, with that number kept and that log: answer, record, stored values, flags, log."""
+    row, evaluated = routed(lent, 1, move, [])
     count = len(evaluated)
-    return ((0, 0, count), (min(record[0] + 1, 4294967295), count), filled(row, lent.stored),
-            filled([int(v in evaluated) for v in range(lent.n)], flags))
+    return (0, 0, count), (kept, count), filled(row, lent.stored), filled([int(v in evaluated) for v in range(lent.n)], flags), log
+
+
+def kept_move(lent, record, pairs, move_vars, move_values, flags, log):
+    """What a keep leaves: answer, record, stored values, flags, log."""
+    bad = lent_refusal(lent, pairs, move_vars, move_values, rooms=[(len(flags), lent.n)] + log.rooms())
+    if not bad and log.unfit(lent, record[0]):
+        bad = 16, 0
+    if bad:
+        return bad + (0,), record, lent.stored, flags, log
+    move_vars = move_vars[:pairs]
+    return changed(lent, min(record[0] + 1, 4294967295), dict(zip(move_vars, move_values)), flags, log.noted(lent.stored, move_vars))
+
+
+def taken_back(lent, record, flags, log):
+    """What taking back the latest kept move leaves: answer, record, stored values, flags, log."""
+    bad = lent_refusal(lent, 0, [], [], rooms=[(len(flags), lent.n)] + log.rooms())
+    if not bad and log.unfit(lent, record[0]):
+        bad = 16, 0
+    if not bad and log.sizes[0] == 0:
+        bad = 15, 0
+    if bad:
+        return bad + (0,), record, lent.stored, flags, log
+    kept = record[0] if record[0] == 4294967295 else record[0] - 1
+    return changed(lent, kept, dict(zip(*log.move(log.sizes[0] - 1))), flags, log.dropped())
 
 
 # ── a batch of moves in figures ──

@@ -4,6 +4,7 @@ use mathlib.Core.List.{List}
 use lib.IntN.{ℤ}
 use Rattle.paper.specs.Tables.{Tables, Index, indexIn}
 use Rattle.paper.specs.Checks.{Verdict}
+use Rattle.paper.specs.Log.{Log, logIn}
 use Rattle.paper.specs.Calls.{Session, Answer, numberOf, placeOf, evaluationsOf, answered, BuildLeft, TrialLeft, KeepLeft}
 use Rattle.paper.specs.File.{counted}
 use Rattle.files.specs.declared.Reading.{Reading}
@@ -19,11 +20,11 @@ inNumbers a = record { number = numberOf a; place = placeOf a; evaluations = eva
 
 -- ── what the caller has, and what the paper's call leaves: the answer in numbers, then the record and the rows ──
 -- build
-abbrev pub leftByBuild : Outcome → code-session.Session → List ℕ → List ℕ → List ℤ → List ℕ → List ℕ → Outcome × (Session × List ℕ × List ℕ × List ℤ × Index)
-leftByBuild r session numbers order stored readerStarts readerPlaces = (r, (recordIn session, numbers, order, stored, indexIn readerStarts readerPlaces))
+abbrev pub leftByBuild : Outcome → code-session.Session → List ℕ → List ℕ → List ℤ → List ℕ → List ℕ → List ℕ → Outcome × (Session × List ℕ × List ℕ × List ℤ × Index × List ℕ)
+leftByBuild r session numbers order stored readerStarts readerPlaces logSizes = (r, (recordIn session, numbers, order, stored, indexIn readerStarts readerPlaces, logSizes))
 
-abbrev pub builtOut : BuildLeft → Outcome × (Session × List ℕ × List ℕ × List ℤ × Index)
-builtOut left = (inNumbers (left .answer), (left .session, left .numbers, left .order, left .stored, left .index))
+abbrev pub builtOut : BuildLeft → Outcome × (Session × List ℕ × List ℕ × List ℤ × Index × List ℕ)
+builtOut left = (inNumbers (left .answer), (left .session, left .numbers, left .order, left .stored, left .index, left .logSizes))
 
 -- trial
 abbrev pub leftByTrial : Outcome → code-session.Session → List ℤ → List ℤ → List ℕ → Outcome × (Session × List ℤ × List ℤ × List ℕ)
@@ -32,12 +33,12 @@ leftByTrial r session results trial flags = (r, (recordIn session, results, tria
 abbrev pub triedOut : TrialLeft → Outcome × (Session × List ℤ × List ℤ × List ℕ)
 triedOut left = (inNumbers (left .answer), (left .session, left .results, left .trial, left .flags))
 
--- keep
-abbrev pub leftByKeep : Outcome → code-session.Session → List ℤ → List ℕ → Outcome × (Session × List ℤ × List ℕ)
-leftByKeep r session stored flags = (r, (recordIn session, stored, flags))
+-- keep and taking back
+abbrev pub leftByKeep : Outcome → code-session.Session → List ℤ → List ℕ → List ℕ → List ℕ → List ℤ → Outcome × (Session × List ℤ × List ℕ × Log)
+leftByKeep r session stored flags logSizes logVars logValues = (r, (recordIn session, stored, flags, logIn logSizes logVars logValues))
 
-abbrev pub keptOut : KeepLeft → Outcome × (Session × List ℤ × List ℕ)
-keptOut left = (inNumbers (left .answer), (left .session, left .stored, left .flags))
+abbrev pub keptOut : KeepLeft → Outcome × (Session × List ℤ × List ℕ × Log)
+keptOut left = (inNumbers (left .answer), (left .session, left .stored, left .flags, left .log))
 
 -- write: the answer by its verdict, which has no evaluations, and the bytes
 abbrev pub writtenOut : Verdict × List ℕ → Outcome × List ℕ

@@ -27,8 +27,9 @@ pub extern "C" fn lukhandro_build(
     stored: &mut [i32],
     reader_starts: &mut [u16],
     reader_places: &mut [u16],
+    log_sizes: &mut [u16],
 ) -> Outcome
-    ensures { λ r. ⌜ leftByBuild r (now (session .exit)) (now (numbers .exit)) (now (order .exit)) (now (stored .exit)) (now («reader_starts» .exit)) (now («reader_places» .exit)) ≡ builtOut (built (toBuild (now (session .entry) .kept) (now (session .entry) .evaluations) n m e (now (kinds .entry)) (now (makes .entry)) (now (params .entry)) (now (firsts .entry)) (now (counts .entry)) (now (vars .entry)) (now (coefs .entry)) (now (starts .entry)) (now (numbers .entry)) (now (order .entry)) (now (stored .entry)) (now («reader_starts» .entry)) (now («reader_places» .entry)))) ⌝ }
+    ensures { λ r. ⌜ leftByBuild r (now (session .exit)) (now (numbers .exit)) (now (order .exit)) (now (stored .exit)) (now («reader_starts» .exit)) (now («reader_places» .exit)) (now («log_sizes» .exit)) ≡ builtOut (built (toBuild (now (session .entry) .kept) (now (session .entry) .evaluations) n m e (now (kinds .entry)) (now (makes .entry)) (now (params .entry)) (now (firsts .entry)) (now (counts .entry)) (now (vars .entry)) (now (coefs .entry)) (now (starts .entry)) (now (numbers .entry)) (now (order .entry)) (now (stored .entry)) (now («reader_starts» .entry)) (now («reader_places» .entry)) (now («log_sizes» .entry)))) ⌝ }
 {
     let answer = engine::build(
         session,
@@ -48,6 +49,7 @@ pub extern "C" fn lukhandro_build(
         stored,
         reader_starts,
         reader_places,
+        log_sizes,
     );
     in_numbers(answer)
 }

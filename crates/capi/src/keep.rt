@@ -1,5 +1,6 @@
 // Keep across the C boundary.
 ghost use mathlib.Core.Path.{_≡_};
+ghost use Rattle.paper.specs.Log.{logIn};
 ghost use Rattle.paper.specs.Calls.{keep as kept};
 ghost use Rattle.judges.specs.Lent.{toModel, toKeep};
 ghost use Rattle.engine.specs.Left.{recordIn};
@@ -31,8 +32,11 @@ pub extern "C" fn lukhandro_keep(
     move_vars: &[u16],
     move_values: &[i32],
     flags: &mut [u8],
+    log_sizes: &mut [u16],
+    log_vars: &mut [u16],
+    log_values: &mut [i32],
 ) -> Outcome
-    ensures { λ r. ⌜ leftByKeep r (now (session .exit)) (now (stored .exit)) (now (flags .exit)) ≡ keptOut (kept (recordIn (now (session .entry))) (toModel n m e (now (kinds .entry)) (now (makes .entry)) (now (params .entry)) (now (firsts .entry)) (now (counts .entry)) (now (vars .entry)) (now (coefs .entry)) (now (numbers .entry)) (now (order .entry)) (now (stored .entry)) (now («reader_starts» .entry)) (now («reader_places» .entry))) (toKeep pairs (now («move_vars» .entry)) (now («move_values» .entry)) (now (flags .entry)))) ⌝ }
+    ensures { λ r. ⌜ leftByKeep r (now (session .exit)) (now (stored .exit)) (now (flags .exit)) (now («log_sizes» .exit)) (now («log_vars» .exit)) (now («log_values» .exit)) ≡ keptOut (kept (recordIn (now (session .entry))) (logIn (now («log_sizes» .entry)) (now («log_vars» .entry)) (now («log_values» .entry))) (toModel n m e (now (kinds .entry)) (now (makes .entry)) (now (params .entry)) (now (firsts .entry)) (now (counts .entry)) (now (vars .entry)) (now (coefs .entry)) (now (numbers .entry)) (now (order .entry)) (now (stored .entry)) (now («reader_starts» .entry)) (now («reader_places» .entry))) (toKeep pairs (now («move_vars» .entry)) (now («move_values» .entry)) (now (flags .entry)))) ⌝ }
 {
     let answer = engine::keep(
         session,
@@ -55,6 +59,9 @@ pub extern "C" fn lukhandro_keep(
         move_vars,
         move_values,
         flags,
+        log_sizes,
+        log_vars,
+        log_values,
     );
     in_numbers(answer)
 }

@@ -3,12 +3,14 @@ mod answers;
 mod build;
 mod file;
 mod keep;
+mod take_back;
 mod trial;
 
 pub use build::lukhandro_build;
 pub use file::lukhandro_read;
 pub use file::lukhandro_write;
 pub use keep::lukhandro_keep;
+pub use take_back::lukhandro_take_back;
 pub use trial::lukhandro_trial;
 
 // What a call answers: 0 and place 0 if accepted, and then how many evaluations it made.

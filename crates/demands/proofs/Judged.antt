@@ -11,6 +11,7 @@ use Rattle.paper.specs.Checks.{Verdict, accepted, refused, check, require}
 use Rattle.paper.specs.Calls.{Answer, numberOf, placeOf, answered}
 use Rattle.paper.proofs.Lists.{and-left, and-right}
 use Rattle.paper.proofs.Least.{firstFail-fails, firstFail-before, firstFail-is}
+use Rattle.paper.proofs.Outcomes as outcomes
 use Rattle.paper.proofs.Verdicts.{andThen, then-then, check-then, check-next, check-stops, require-next, require-stops}
 use Rattle.demands.specs.Refusals.{Line, places, whole, Passed, Passes, none, next, Gives, here, later, Says}
 use Rattle.demands.specs.Demands.{Exactly, Works}
@@ -100,3 +101,10 @@ pub works : {Left : Type 0} (table : List Line) (answer : Left → Answer) (asWa
     → Works table answer asWas y
 works table answer asWas x y v count some e a same stated =
     subst⁻¹ (Works table answer asWas) stated (record { exactly = subst⁻¹ (Exactly table) a (exactly table v count some e); unchanged = same })
+
+-- of a call that the paper judges
+pub call-works : {Left : Type 0} {answer : Left → Answer} {left : Verdict → Left} {asWas : Answer → Left} {ok : ℕ → Bool} {v : Verdict} {x : Left} (table : List Line) (y : Left) (count : ℕ)
+    → outcomes.Judged answer left asWas ok v x → numbersSome table ≡ true → v ≡ judged table → answer (left v) ≡ answered v count → y ≡ x
+    → Works table answer (λ z. asWas (answer z)) y
+call-works {answer = answer} {asWas = asWas} {v = v} {x = x} table y count judged some e a stated =
+    works table answer (λ z. asWas (answer z)) x y v count some e (ap answer (judged .is v refl) ∙ a) (judged .as-was) stated

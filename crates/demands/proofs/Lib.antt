@@ -2,5 +2,6 @@ pub mod Judged
 pub mod One
 pub mod Two
 pub mod Three
+pub mod Logs
 pub mod Planners
 pub mod NotAllowed

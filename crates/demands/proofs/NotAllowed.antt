@@ -6,108 +6,184 @@ use native.Mathlib.Omega.{arith}
 use mathlib.Core.Path.{_≡_, ap, ap₂, sym, _∙_}
 use lib.IntN.{ℤ, pos, natAbs}
 use lib.ListN.{getD}
-use Rattle.paper.specs.Lists.{nat, every}
+use lib.Seq.{getD-take}
+use Rattle.paper.specs.Lists.{nat, every, over}
 use Rattle.paper.specs.Formula.{formula, looked}
-use Rattle.paper.specs.Net.{runs}
+use Rattle.paper.specs.Net.{Values, runs}
 use Rattle.paper.specs.Tables.{rowOf}
-use Rattle.paper.specs.Checks.{Move}
-use Rattle.paper.specs.Calls.{Accepted, numberOf, BuildLent, BuildLeft, buildVerdict, build, Model, Tried, TrialLeft, trialVerdict, trial, Kept, KeepLeft, keepVerdict, keep}
-use Rattle.paper.specs.Demands.{Call, State, modelOf, old, renewed}
+use Rattle.paper.specs.Checks.{accepted}
+use Rattle.paper.specs.Log.{logIn, logged}
+use Rattle.paper.specs.Calls.{Accepted, numberOf, BuildLent, BuildLeft, buildVerdict, build, Model, Tried, TrialLeft, trialVerdict, trial, Kept, KeepLeft, keepVerdict, storedValues, keepLeaves, keep, latest, takeVerdict, takeBack}
+use Rattle.paper.specs.Demands.{Call, State, modelOf, old, renewed, restored}
 use Rattle.paper.specs.Runs.{building, modelA, startA, zeros, zerosZ}
 use Rattle.paper.proofs.Buffers.{over-at}
-use Rattle.demands.specs.Stated.{BuildOutcome, leftBuilt, TrialOutcome, leftTried, KeepOutcome, leftKept}
+use Rattle.paper.proofs.Known.{KeepKnown, keep-known, take-known}
+use Rattle.paper.proofs.Outcomes.{keep-judged, take-judged}
+use Rattle.demands.specs.Stated.{BuildOutcome, leftBuilt, TrialOutcome, leftTried, KeepOutcome, leftKept, TakeOutcome, leftTaken}
 use Rattle.demands.specs.Runs.{ownOf, afterBuild, Run}
 use Rattle.demands.specs.Planners.{handsOn, Keeping}
 use Rattle.demands.specs.Demands.{RunRight}
 use Rattle.demands.proofs.Three.{demand3}
+use Rattle.demands.proofs.Logs.{noted-value}
 
--- ── a build, trial or keep that refuses everything, and a count fixed at m ──
--- model A has 3 rows and is accepted; a move of the end to 28500 is accepted too, and 2 rows are evaluated
+-- ── a build, trial, keep or taking back that refuses everything, and a count fixed at m ──
+-- model A has 3 rows and is accepted; a move of the end to 28500 is accepted too, and 2 rows are evaluated, and again when it is taken back
 abbrev A : BuildLent
 A = building modelA startA
 
-abbrev endMoved : Move
-endMoved = record { pairs = 1; vars = 1 ∷ []; values = pos 28500 ∷ [] }
+abbrev roomA : List ℕ × List ℤ
+roomA = (zeros 4096, zerosZ 4096)
+
+abbrev endTo : ℕ → Kept
+endTo k = record { move = record { pairs = 1; vars = 1 ∷ []; values = pos k ∷ [] }; flags = zeros 6 }
 
 abbrev askFive : Tried
-askFive = record { move = endMoved; asked = 1; askedVars = 5 ∷ []; route = 3; results = zerosZ 1; trial = zerosZ 6; flags = zeros 6 }
+askFive = record { move = endTo 28500 .move; asked = 1; askedVars = 5 ∷ []; route = 3; results = zerosZ 1; trial = zerosZ 6; flags = zeros 6 }
 
-abbrev keepEnd : Kept
-keepEnd = record { move = endMoved; flags = zeros 6 }
+-- the model after build, and with other stored values
+abbrev modelWith : BuildLeft → List ℤ → Model
+modelWith x stored = record { tables = modelA; numbers = x .numbers; order = x .order; stored = stored; index = x .index }
 
-abbrev modelLeft : BuildLeft → Model
-modelLeft x = record { tables = modelA; numbers = x .numbers; order = x .order; stored = x .stored; index = x .index }
+-- a keep after build, and a keep or a taking back after that
+abbrev keptFirst : BuildLeft → Kept → KeepLeft
+keptFirst x c = keep (x .session) (logIn (x .logSizes) (roomA .0) (roomA .1)) (modelWith x (x .stored)) c
+
+abbrev keptNext : BuildLeft → KeepLeft → Kept → KeepLeft
+keptNext x y c = keep (y .session) (y .log) (modelWith x (y .stored)) c
+
+abbrev takenNext : BuildLeft → KeepLeft → List ℕ → KeepLeft
+takenNext x y flags = takeBack (y .session) (y .log) (modelWith x (y .stored)) flags
 
 module _ (start : BuildOutcome A) where
+  abbrev begun : State
+  begun = afterBuild (start .done) (start .stored) (logIn (start .logSizes) (roomA .0) (roomA .1))
+
+  abbrev Kept-first : Kept → Type 0
+  Kept-first c = Keeping start roomA begun (c .move) (c .flags)
+
+  abbrev handed : {c : Kept} → Kept-first c → State
+  handed o = handsOn start roomA begun o
+
+  abbrev Kept-next : {c : Kept} → Kept-first c → Kept → Type 0
+  Kept-next o c = Keeping start roomA (handed o) (c .move) (c .flags)
+
+  abbrev Taken-next : {c : Kept} → Kept-first c → List ℕ → Type 0
+  Taken-next o flags = TakeOutcome (handed o .session) (handed o .log) (modelOf (handed o) (ownOf start roomA)) flags
+
+  first-is : (c : Kept) (o : Kept-first c) → leftKept o ≡ keptFirst (build A) c
+  first-is c o = o .stated ∙ ap (λ (x : BuildLeft). keptFirst x c) (start .stated)
+
+  next-is : (c c′ : Kept) (o : Kept-first c) (q : Kept-next o c′) → leftKept q ≡ keptNext (build A) (keptFirst (build A) c) c′
+  next-is c c′ o q = q .stated ∙ ap₂ (λ (x : BuildLeft) (y : KeepLeft). keptNext x y c′) (start .stated) (first-is c o)
+
+  taken-is : (c : Kept) (o : Kept-first c) (flags : List ℕ) (q : Taken-next o flags) → leftTaken q ≡ takenNext (build A) (keptFirst (build A) c) flags
+  taken-is c o flags q = q .stated ∙ ap₂ (λ (x : BuildLeft) (y : KeepLeft). takenNext x y flags) (start .stated) (first-is c o)
+
   pub build-of-A : leftBuilt start .answer ≡ Accepted 3
   unfolding every formula looked runs rowOf buildVerdict build
   build-of-A = ap (λ (x : BuildLeft). x .answer) (start .stated)
 
-  pub trial-of-A : (o : TrialOutcome (leftBuilt start .session) (modelLeft (leftBuilt start)) askFive) → leftTried o .answer ≡ Accepted 2
+  pub trial-of-A : (o : TrialOutcome (leftBuilt start .session) (modelWith (leftBuilt start) (start .stored)) askFive) → leftTried o .answer ≡ Accepted 2
   unfolding every formula looked runs rowOf buildVerdict build trialVerdict trial
-  trial-of-A o = ap (λ (x : TrialLeft). x .answer) (o .stated ∙ ap (λ (x : BuildLeft). trial (x .session) (modelLeft x) askFive) (start .stated))
+  trial-of-A o = ap (λ (x : TrialLeft). x .answer) (o .stated ∙ ap (λ (x : BuildLeft). trial (x .session) (modelWith x (x .stored)) askFive) (start .stated))
 
-  pub keep-of-A : (o : KeepOutcome (leftBuilt start .session) (modelLeft (leftBuilt start)) keepEnd) → leftKept o .answer ≡ Accepted 2
+  pub keep-of-A : (o : Kept-first (endTo 28500)) → leftKept o .answer ≡ Accepted 2
   unfolding every formula looked runs rowOf buildVerdict build keepVerdict keep
-  keep-of-A o = ap (λ (x : KeepLeft). x .answer) (o .stated ∙ ap (λ (x : BuildLeft). keep (x .session) (modelLeft x) keepEnd) (start .stated))
+  keep-of-A o = ap (λ (x : KeepLeft). x .answer) (first-is (endTo 28500) o)
 
--- ── two moves of one variable: who keeps first does matter ──
--- the end to 28500 and the end to 28801
-abbrev keepLater : Kept
-keepLater = record { move = record { pairs = 1; vars = 1 ∷ []; values = pos 28801 ∷ [] }; flags = zeros 6 }
+  pub take-of-A : (o : Kept-first (endTo 28500)) (q : Taken-next o (zeros 6)) → leftTaken q .answer ≡ Accepted 2
+  unfolding every formula looked runs rowOf buildVerdict build keepVerdict keep takeVerdict takeBack
+  take-of-A o q = ap (λ (x : KeepLeft). x .answer) (taken-is (endTo 28500) o (zeros 6) q)
 
-abbrev inTurn : BuildLeft → KeepLeft → Kept → KeepLeft
-inTurn x y c = keep (y .session) (record { tables = modelA; numbers = x .numbers; order = x .order; stored = y .stored; index = x .index }) c
-
-module _ (start : BuildOutcome A) where
-  abbrev begun : State
-  begun = afterBuild (start .done) (start .stored)
-
-  in-turn : (c c′ : Kept) (o : Keeping start begun (c .move) (c .flags)) (q : Keeping start (handsOn begun o) (c′ .move) (c′ .flags))
-      → leftKept q ≡ inTurn (build A) (keep (build A .session) (modelLeft (build A)) c) c′
-  in-turn c c′ o q =
-      q .stated ∙ ap₂ (λ (x : BuildLeft) (y : KeepLeft). inTurn x y c′) (start .stated) (o .stated ∙ ap (λ (x : BuildLeft). keep (x .session) (modelLeft x) c) (start .stated))
-
-  pub variable-in-common : (o : Keeping start begun (keepEnd .move) (keepEnd .flags)) (p : Keeping start begun (keepLater .move) (keepLater .flags))
-      → (q : Keeping start (handsOn begun o) (keepLater .move) (keepLater .flags)) (r : Keeping start (handsOn begun p) (keepEnd .move) (keepEnd .flags))
-      → q .stored ≡ r .stored → ⊥
+  -- ── two moves of one variable: who keeps first does matter ──
+  -- the end to 28500 and the end to 28801
+  pub variable-in-common : (o : Kept-first (endTo 28500)) (p : Kept-first (endTo 28801)) (q : Kept-next o (endTo 28801)) (r : Kept-next p (endTo 28500)) → q .stored ≡ r .stored → ⊥
   unfolding every formula looked runs rowOf buildVerdict build keepVerdict keep
   variable-in-common o p q r same =
       let end : _≡_ {A = ℕ} 28801 28500 =
       ap (λ (row : List ℤ). natAbs (getD row 1 (pos 0)))
-      (sym (ap (λ (x : KeepLeft). x .stored) (in-turn keepEnd keepLater o q)) ∙ same ∙ ap (λ (x : KeepLeft). x .stored) (in-turn keepLater keepEnd p r)) in
+      (sym (ap (λ (x : KeepLeft). x .stored) (next-is (endTo 28500) (endTo 28801) o q)) ∙ same ∙ ap (λ (x : KeepLeft). x .stored) (next-is (endTo 28801) (endTo 28500) p r)) in
       omega arith
 
 -- ── after any run ──
-module _ {b : BuildLent} (start : BuildOutcome b) (ok : numberOf (leftBuilt start .answer) ≡ 0) (cs : List Call) (now : State) (r : Run start cs now) where
-  right : RunRight start cs now
-  right = demand3 b start ok cs now r
+module _ {b : BuildLent} (start : BuildOutcome b) (room : List ℕ × List ℤ) (ok : numberOf (leftBuilt start .answer) ≡ 0) (cs : List Call) (now : State) (r : Run start room cs now) where
+  -- each call is lent the model's own, and a keep or a taking back the session's log
+  abbrev mine : Model
+  mine = modelOf now (ownOf start room)
 
-  stored-at : (v : ℕ) → v < b .tables .n → getD (now .stored) v (pos 0) ≡ old b cs v
-  stored-at v low = ap (λ row. getD row v (pos 0)) (right .stored) ∙ over-at (old b cs) (b .tables .n) (b .stored) v (pos 0) low
+  abbrev Tries : Tried → Type 0
+  Tries c = TrialOutcome (now .session) mine c
+
+  abbrev Keeps : Kept → Type 0
+  Keeps c = KeepOutcome (now .session) (now .log) mine c
+
+  abbrev Takes : List ℕ → Type 0
+  Takes flags = TakeOutcome (now .session) (now .log) mine flags
+
+  right : RunRight start room cs now
+  right = demand3 b start room ok cs now r
+
+  stored-at : (v : ℕ) → v < b .tables .n → getD (now .stored) v (pos 0) ≡ old b room cs v
+  stored-at v low = ap (λ row. getD row v (pos 0)) (right .stored) ∙ over-at (old b room cs) (b .tables .n) (b .stored) v (pos 0) low
+
+  -- a row with another value at v is not the stored one
+  moved-row : (row : List ℤ) (f : Values) → row ≡ over (b .tables .n) f (b .stored) → (v : ℕ) → v < b .tables .n → (f v ≡ old b room cs v → ⊥) → row ≡ now .stored → ⊥
+  moved-row row f is v low moves same =
+      moves (sym (ap (λ l. getD l v (pos 0)) is ∙ over-at f (b .tables .n) (b .stored) v (pos 0) low) ∙ ap (λ l. getD l v (pos 0)) same ∙ stored-at v low)
 
   -- a keep that does nothing, at the first keep or at any later one, where its move changes the fresh value of some v
-  pub idle-keep : (c : Kept) (o : KeepOutcome (now .session) (modelOf now (ownOf start)) c) → numberOf (leftKept o .answer) ≡ 0
-      → (v : ℕ) → v < b .tables .n → (renewed b cs (c .move) v ≡ old b cs v → ⊥) → o .stored ≡ now .stored → ⊥
-  idle-keep c o z v low moves same = moves (
-      sym (ap (λ row. getD row v (pos 0)) (right .keep-accepted c o z .stored) ∙ over-at (renewed b cs (c .move)) (b .tables .n) (b .stored) v (pos 0) low)
-      ∙ ap (λ row. getD row v (pos 0)) same ∙ stored-at v low)
+  pub idle-keep : (c : Kept) (o : Keeps c) → numberOf (leftKept o .answer) ≡ 0
+      → (v : ℕ) → v < b .tables .n → (renewed b room cs (c .move) v ≡ old b room cs v → ⊥) → o .stored ≡ now .stored → ⊥
+  idle-keep c o z = moved-row (o .stored) (renewed b room cs (c .move)) (right .keep-accepted c o z .stored)
+
+  -- a taking back that does nothing, where the latest move changed the fresh value of some v
+  pub idle-take : (flags : List ℕ) (o : Takes flags) → numberOf (leftTaken o .answer) ≡ 0
+      → (v : ℕ) → v < b .tables .n → (restored b room cs v ≡ old b room cs v → ⊥) → o .stored ≡ now .stored → ⊥
+  idle-take flags o z = moved-row (o .stored) (restored b room cs) (right .take-accepted flags o z .stored)
+
+  -- a taking back that leaves its move in the log, so that the next one would take the same back again
+  pub move-left-in : (flags : List ℕ) (o : Takes flags) → numberOf (leftTaken o .answer) ≡ 0 → logged (leftTaken o .log) ≡ logged (now .log) → ⊥
+  move-left-in flags o z same =
+      let good = take-judged (now .session) (now .log) mine flags .good (sym (ap (λ (x : KeepLeft). numberOf (x .answer)) (o .stated)) ∙ z) in
+      let some = take-known (now .session) (now .log) mine flags good .some in
+      let taken = right .take-accepted flags o z in
+      let fewer = ap (λ (x : KeepLeft). logged (x .log)) (taken .is) ∙ taken .right .fewer in
+      let now-is = ap (λ (s : State). logged (s .log)) (right .is) in
+      omega arith
+
+  -- a keep that logs a new value, where that is not the value before it
+  pub new-logged : (c : Kept) (o : Keeps c) → numberOf (leftKept o .answer) ≡ 0 → (i : ℕ) → i < c .move .pairs
+      → (getD (c .move .values) i (pos 0) ≡ old b room cs (nat (c .move .vars) i) → ⊥)
+      → getD (latest (leftKept o .log) (c .flags) .move .values) i (pos 0) ≡ getD (c .move .values) i (pos 0) → ⊥
+  new-logged c o z i low moves same =
+      moves (sym same ∙ ap (λ (x : KeepLeft). getD (latest (x .log) (c .flags) .move .values) i (pos 0)) left
+      ∙ noted-value (b .tables) (now .log) (now .session .kept) (has .log) (storedValues mine) (c .move) (has .move) i low
+      ∙ getD-take (b .tables .n) (now .stored) (nat (c .move .vars) i) (pos 0) (has .move .low i low) ∙ stored-at (nat (c .move .vars) i) (has .move .low i low))
+    where
+      good : keepVerdict (now .session) (now .log) (modelOf now (ownOf start room)) c ≡ accepted
+      good = keep-judged (now .session) (now .log) mine c .good (sym (ap (λ (x : KeepLeft). numberOf (x .answer)) (o .stated)) ∙ z)
+
+      has : KeepKnown (now .session) (now .log) (modelOf now (ownOf start room)) c
+      has = keep-known (now .session) (now .log) mine c good
+
+      left : leftKept o ≡ keepLeaves (now .session) (now .log) (modelOf now (ownOf start room)) c accepted
+      left = o .stated ∙ keep-judged (now .session) (now .log) mine c .is accepted good
 
   -- an accepted trial's value at a place asked
-  result-at : (c : Tried) (o : TrialOutcome (now .session) (modelOf now (ownOf start)) c) → numberOf (leftTried o .answer) ≡ 0
-      → (i : ℕ) → i < c .asked → getD (o .results) i (pos 0) ≡ renewed b cs (c .move) (nat (c .askedVars) i)
+  result-at : (c : Tried) (o : Tries c) → numberOf (leftTried o .answer) ≡ 0
+      → (i : ℕ) → i < c .asked → getD (o .results) i (pos 0) ≡ renewed b room cs (c .move) (nat (c .askedVars) i)
   result-at c o z i k =
       ap (λ row. getD row i (pos 0)) (right .trial-accepted c o z .results)
-      ∙ over-at (λ j. renewed b cs (c .move) (nat (c .askedVars) j)) (c .asked) (c .results) i (pos 0) k
+      ∙ over-at (λ j. renewed b room cs (c .move) (nat (c .askedVars) j)) (c .asked) (c .results) i (pos 0) k
 
   -- a trial that gives the stored values, where its move changes the fresh value of what is asked
-  pub stored-trial : (c : Tried) (o : TrialOutcome (now .session) (modelOf now (ownOf start)) c) → numberOf (leftTried o .answer) ≡ 0
+  pub stored-trial : (c : Tried) (o : Tries c) → numberOf (leftTried o .answer) ≡ 0
       → (i v : ℕ) → i < c .asked → nat (c .askedVars) i ≡ v → v < b .tables .n
-      → (renewed b cs (c .move) v ≡ old b cs v → ⊥) → getD (o .results) i (pos 0) ≡ getD (now .stored) v (pos 0) → ⊥
-  stored-trial c o z i v k is low moves same = moves (ap (renewed b cs (c .move)) (sym is) ∙ sym (result-at c o z i k) ∙ same ∙ stored-at v low)
+      → (renewed b room cs (c .move) v ≡ old b room cs v → ⊥) → getD (o .results) i (pos 0) ≡ getD (now .stored) v (pos 0) → ⊥
+  stored-trial c o z i v k is low moves same = moves (ap (renewed b room cs (c .move)) (sym is) ∙ sym (result-at c o z i k) ∙ same ∙ stored-at v low)
 
   -- a trial that always gives the same values, where the fresh ones of two moves differ
-  pub same-trial : (c c′ : Tried) (o : TrialOutcome (now .session) (modelOf now (ownOf start)) c) (o′ : TrialOutcome (now .session) (modelOf now (ownOf start)) c′)
+  pub same-trial : (c c′ : Tried) (o : Tries c) (o′ : Tries c′)
       → numberOf (leftTried o .answer) ≡ 0 → numberOf (leftTried o′ .answer) ≡ 0 → (i : ℕ) → i < c .asked → i < c′ .asked
-      → (renewed b cs (c .move) (nat (c .askedVars) i) ≡ renewed b cs (c′ .move) (nat (c′ .askedVars) i) → ⊥) → o .results ≡ o′ .results → ⊥
+      → (renewed b room cs (c .move) (nat (c .askedVars) i) ≡ renewed b room cs (c′ .move) (nat (c′ .askedVars) i) → ⊥) → o .results ≡ o′ .results → ⊥
   same-trial c c′ o o′ z z′ i k k′ moves same = moves (sym (result-at c o z i k) ∙ ap (λ row. getD row i (pos 0)) same ∙ result-at c′ o′ z′ i k′)

@@ -6,10 +6,10 @@ use mathlib.Core.Path.{_≡_, refl, ap, sym, _∙_}
 use lib.IntN.{ℤ}
 use Rattle.paper.specs.Tables.{Tables}
 use Rattle.paper.specs.Checks.{Verdict, accepted, refused}
-use Rattle.paper.specs.Calls.{Session, Answer, Accepted, Refused, numberOf, answered, BuildLent, BuildLeft, build, buildVerdict, Model, Tried, TrialLeft, trial, trialVerdict, Kept, KeepLeft, keep, keepVerdict}
+use Rattle.paper.specs.Log.{Log}
+use Rattle.paper.specs.Calls.{Session, Answer, Accepted, Refused, numberOf, answered, BuildLent, BuildLeft, buildVerdict, Model, Tried, TrialLeft, trialVerdict, Kept, KeepLeft, keepVerdict, takeVerdict}
 use Rattle.paper.specs.File.{write, writeVerdict, read, readVerdict, header, counted}
-use Rattle.paper.specs.Demands.{buildAsWas, trialAsWas, keepAsWas}
-use Rattle.paper.proofs.Outcomes.{build-judged, trial-judged, keep-judged}
+use Rattle.paper.proofs.Outcomes.{build-judged, trial-judged, keep-judged, take-judged}
 use Rattle.paper.proofs.Demands as paper
 use Rattle.tables.specs.declared.Answer as code-answer
 use Rattle.tables.specs.declared.Answer.the-variants as code
@@ -19,10 +19,10 @@ use Rattle.files.specs.declared.Written.{Written}
 use Rattle.files.specs.declared.Written.the-variants as written
 use Rattle.files.specs.declared.Reading.{Reading}
 use Rattle.files.specs.declared.Reading.the-variants as reading
-use Rattle.demands.specs.Stated.{BuildOutcome, leftBuilt, TrialOutcome, leftTried, KeepOutcome, leftKept, WriteOutcome, leftWritten, ReadOutcome, leftRead}
-use Rattle.demands.specs.Refusals.{buildTable, trialTable, keepTable, writeTable, headerLines, roomLines, readTable}
-use Rattle.demands.specs.Demands.{BuildWorks, TrialWorks, KeepWorks, WriteWorks, ReadWorks, Demand1}
-use Rattle.demands.proofs.Judged.{judged, judged-then, lineNumber, works}
+use Rattle.demands.specs.Stated.{BuildOutcome, leftBuilt, TrialOutcome, leftTried, KeepOutcome, leftKept, TakeOutcome, leftTaken, WriteOutcome, leftWritten, ReadOutcome, leftRead}
+use Rattle.demands.specs.Refusals.{buildTable, trialTable, keepTable, takeTable, writeTable, headerLines, roomLines, readTable}
+use Rattle.demands.specs.Demands.{BuildWorks, TrialWorks, KeepWorks, TakeWorks, WriteWorks, ReadWorks, Demand1}
+use Rattle.demands.proofs.Judged.{judged, judged-then, lineNumber, works, call-works}
 
 -- ── which numbers each call gives, in which order ──
 pub build-numbers : (l : BuildLent) → map lineNumber (buildTable l) ≡ 1 ∷ 2 ∷ 3 ∷ 3 ∷ 4 ∷ 5 ∷ 6 ∷ 7 ∷ []
@@ -31,8 +31,12 @@ build-numbers l = refl
 pub trial-numbers : (w : Model) (c : Tried) → map lineNumber (trialTable w c) ≡ 1 ∷ 2 ∷ 3 ∷ 3 ∷ 4 ∷ 5 ∷ 8 ∷ 8 ∷ 7 ∷ 9 ∷ 10 ∷ 11 ∷ 12 ∷ 13 ∷ []
 trial-numbers w c = refl
 
-pub keep-numbers : (w : Model) (c : Kept) → map lineNumber (keepTable w c) ≡ 1 ∷ 2 ∷ 3 ∷ 3 ∷ 4 ∷ 5 ∷ 8 ∷ 8 ∷ 7 ∷ 10 ∷ 11 ∷ 12 ∷ []
-keep-numbers w c = refl
+module _ (s : Session) (g : Log) (w : Model) where
+  pub keep-numbers : (c : Kept) → map lineNumber (keepTable s g w c) ≡ 1 ∷ 2 ∷ 3 ∷ 3 ∷ 4 ∷ 5 ∷ 8 ∷ 8 ∷ 7 ∷ 10 ∷ 11 ∷ 12 ∷ 16 ∷ []
+  keep-numbers c = refl
+
+  pub take-numbers : (flags : List ℕ) → map lineNumber (takeTable s g w flags) ≡ 1 ∷ 2 ∷ 3 ∷ 3 ∷ 4 ∷ 5 ∷ 8 ∷ 8 ∷ 7 ∷ 16 ∷ 15 ∷ []
+  take-numbers flags = refl
 
 -- ── each verdict is its table's ──
 build-table : (l : BuildLent) → buildVerdict l ≡ judged (buildTable l)
@@ -43,9 +47,14 @@ trial-table : (w : Model) (c : Tried) → trialVerdict w c ≡ judged (trialTabl
 unfolding trialVerdict
 trial-table w c = refl
 
-keep-table : (w : Model) (c : Kept) → keepVerdict w c ≡ judged (keepTable w c)
-unfolding keepVerdict
-keep-table w c = refl
+module _ (s : Session) (g : Log) (w : Model) where
+  keep-table : (c : Kept) → keepVerdict s g w c ≡ judged (keepTable s g w c)
+  unfolding keepVerdict
+  keep-table c = refl
+
+  take-table : (flags : List ℕ) → takeVerdict s g w flags ≡ judged (takeTable s g w flags)
+  unfolding takeVerdict
+  take-table flags = refl
 
 write-table : (t : Tables) (starts : List ℤ) (lent : List ℕ) → writeVerdict t starts lent ≡ judged (writeTable t starts lent)
 unfolding writeVerdict
@@ -55,22 +64,19 @@ read-table : (bytes : List ℕ) (t : Tables) (starts : List ℤ) → readVerdict
 unfolding readVerdict header
 read-table bytes t starts = sym (judged-then (headerLines bytes) (roomLines bytes t starts))
 
--- ── build, trial and keep ──
+-- ── build, trial, keep and taking back ──
 pub build-works : (l : BuildLent) (o : BuildOutcome l) → BuildWorks l (leftBuilt o)
-build-works l o =
-    works (buildTable l) (λ x. x .answer) (λ x. buildAsWas l (x .answer)) (build l) (leftBuilt o) (buildVerdict l) _ refl (build-table l)
-    (ap (λ (x : BuildLeft). x .answer) (build-judged l .is (buildVerdict l) refl)) (paper.demand1 .build-refused l) (o .stated)
+build-works l o = call-works (buildTable l) (leftBuilt o) _ (build-judged l) refl (build-table l) refl (o .stated)
 
-module _ (s : Session) (w : Model) where
-  pub trial-works : (c : Tried) (o : TrialOutcome s w c) → TrialWorks s w c (leftTried o)
-  trial-works c o =
-      works (trialTable w c) (λ x. x .answer) (λ x. trialAsWas s c (x .answer)) (trial s w c) (leftTried o) (trialVerdict w c) _ refl (trial-table w c)
-      (ap (λ (x : TrialLeft). x .answer) (trial-judged s w c .is (trialVerdict w c) refl)) (paper.demand1 .trial-refused s w c) (o .stated)
+pub trial-works : (s : Session) (w : Model) (c : Tried) (o : TrialOutcome s w c) → TrialWorks s w c (leftTried o)
+trial-works s w c o = call-works (trialTable w c) (leftTried o) _ (trial-judged s w c) refl (trial-table w c) refl (o .stated)
 
-  pub keep-works : (c : Kept) (o : KeepOutcome s w c) → KeepWorks s w c (leftKept o)
-  keep-works c o =
-      works (keepTable w c) (λ x. x .answer) (λ x. keepAsWas s w c (x .answer)) (keep s w c) (leftKept o) (keepVerdict w c) _ refl (keep-table w c)
-      (ap (λ (x : KeepLeft). x .answer) (keep-judged s w c .is (keepVerdict w c) refl)) (paper.demand1 .keep-refused s w c) (o .stated)
+module _ (s : Session) (g : Log) (w : Model) where
+  pub keep-works : (c : Kept) (o : KeepOutcome s g w c) → KeepWorks s g w c (leftKept o)
+  keep-works c o = call-works (keepTable s g w c) (leftKept o) _ (keep-judged s g w c) refl (keep-table s g w c) refl (o .stated)
+
+  pub take-works : (flags : List ℕ) (o : TakeOutcome s g w flags) → TakeWorks s g w flags (leftTaken o)
+  take-works flags o = call-works (takeTable s g w flags) (leftTaken o) _ (take-judged s g w flags) refl (take-table s g w flags) refl (o .stated)
 
 -- ── files: a verdict that is not acceptance has a number ──
 some-number : (v : Verdict) → (numberOf (answered v 0) ≡ 0 → ⊥) → v ≡ accepted → ⊥
@@ -126,11 +132,13 @@ demand1 = record {
   build = build-works;
   trial = trial-works;
   keep = keep-works;
+  take-back = take-works;
   write = write-works;
   read = read-works;
   build-one = λ l o o′. let e = o .stated ∙ sym (o′ .stated) in (one-answer (ap (λ (x : BuildLeft). x .answer) e), e);
   trial-one = λ s w c o o′. let e = o .stated ∙ sym (o′ .stated) in (one-answer (ap (λ (x : TrialLeft). x .answer) e), e);
-  keep-one = λ s w c o o′. let e = o .stated ∙ sym (o′ .stated) in (one-answer (ap (λ (x : KeepLeft). x .answer) e), e);
+  keep-one = λ s g w c o o′. let e = o .stated ∙ sym (o′ .stated) in (one-answer (ap (λ (x : KeepLeft). x .answer) e), e);
+  take-one = λ s g w flags o o′. let e = o .stated ∙ sym (o′ .stated) in (one-answer (ap (λ (x : KeepLeft). x .answer) e), e);
   write-one = λ t starts lent o o′. let e = o .stated ∙ sym (o′ .stated) in
       (sym (written-is (o .answer)) ∙ ap (λ x. writtenBy (x .0)) e ∙ written-is (o′ .answer), ap (λ x. x .1) e);
   read-one = λ bytes lent starts o o′. let e = o .stated ∙ sym (o′ .stated) in

@@ -36,6 +36,7 @@ module _ {l : BuildLent} (o : BuildOutcome l) where
         (map-same (number (net t) (t .n)) (nat (o .numbers)) (inputsOf t v) (λ i m. sym (number-at i (inputs-below t sound v i m))));
     ordered = ap (λ (x : BuildLeft). x .order) (o .stated) ∙ right .ordered;
     indexed = ap (λ (x : BuildLeft). x .index) (o .stated) ∙ right .indexed;
+    empty = ap (λ (x : BuildLeft). x .logSizes) (o .stated) ∙ right .empty;
     stored = λ v low.
         value-at v low ∙ right .stored-meet v
         ∙ ap (λ x. cond (isMade t v) x (startValues l v))

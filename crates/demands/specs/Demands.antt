@@ -1,21 +1,22 @@
 -- The three demands, over every outcome that the public calls' contracts allow. The contracts ask nothing of what is handed in, and a proved
 -- call ends; the rest stands here. `proofs/One`, `Two` and `Three` prove it. Assumes nothing.
-use Prim.Native.Nat.{ℕ, min, _<_, _≤_}
+use Prim.Native.Nat.{ℕ, _<_, _≤_}
 use mathlib.Core.Bool.{true}
 use mathlib.Core.List.{List, [], _∷_, _++_}
 use mathlib.Core.Path.{_≡_}
 use lib.IntN.{ℤ}
-use lib.ListN.{length, take, drop}
+use lib.ListN.{length, set, take, drop}
 use Rattle.paper.specs.Lists.{nat, over}
 use Rattle.paper.specs.Net.{valuation, numbering, input-to-output}
 use Rattle.paper.specs.Tables.{Tables, net, valuesIn, order, index}
 use Rattle.paper.specs.Checks.{Verdict, accepted}
-use Rattle.paper.specs.Calls.{Session, Answer, Accepted, Refused, numberOf, placeOf, evaluationsOf, answered, BuildLent, BuildLeft, startValues, Model, Tried, TrialLeft, Kept, KeepLeft}
+use Rattle.paper.specs.Log.{Log, logGood}
+use Rattle.paper.specs.Calls.{Session, Answer, Accepted, Refused, numberOf, placeOf, evaluationsOf, answered, BuildLent, BuildLeft, startValues, Model, Tried, TrialLeft, Kept, KeepLeft, latest}
 use Rattle.paper.specs.File.{endsAt, held, counted}
-use Rattle.paper.specs.Demands.{buildAsWas, trialAsWas, keepAsWas, Circular, FivePassed, LeastUnnumbered, Fitting, cut, Lends, Call, keeps, State, modelOf, ownModel, after, history, old, renewed, evaluatedBy, Told, tried, triedSet, TrialRight, kept, KeepRight}
-use Rattle.demands.specs.Stated.{BuildOutcome, leftBuilt, TrialOutcome, leftTried, KeepOutcome, leftKept, WriteOutcome, leftWritten, ReadOutcome, leftRead}
-use Rattle.demands.specs.Refusals.{Line, Passes, Gives, buildTable, trialTable, keepTable, writeTable, readTable}
-use Rattle.demands.specs.Runs.{ownOf, afterTrial, afterKeep, Run}
+use Rattle.paper.specs.Demands.{buildAsWas, trialAsWas, keepAsWas, Circular, FivePassed, LeastUnnumbered, Fitting, cut, Lent, own, Lends, Call, keeps, takes, State, lentOf, modelOf, passedOn, ownModel, after, history, old, renewed, restored, evaluatedBy, Told, tried, triedSet, TrialRight, kept, KeepRight, taken, TakeRight}
+use Rattle.demands.specs.Stated.{BuildOutcome, leftBuilt, TrialOutcome, leftTried, KeepOutcome, leftKept, TakeOutcome, leftTaken, WriteOutcome, leftWritten, ReadOutcome, leftRead}
+use Rattle.demands.specs.Refusals.{Line, Passes, Gives, buildTable, trialTable, keepTable, takeTable, writeTable, readTable}
+use Rattle.demands.specs.Runs.{ownOf, afterTrial, Run}
 
 -- ── demand 1: a call works, or refuses with the paper's number and place exactly where the table gives them, and then changes nothing ──
 pub record Exactly (table : List Line) (a : Answer) : Type 0 where
@@ -35,8 +36,11 @@ BuildWorks l = Works (buildTable l) (λ x. x .answer) (λ x. buildAsWas l (x .an
 abbrev pub TrialWorks : Session → (w : Model) (c : Tried) → TrialLeft → Type 0
 TrialWorks s w c = Works (trialTable w c) (λ x. x .answer) (λ x. trialAsWas s c (x .answer))
 
-abbrev pub KeepWorks : Session → (w : Model) (c : Kept) → KeepLeft → Type 0
-KeepWorks s w c = Works (keepTable w c) (λ x. x .answer) (λ x. keepAsWas s w c (x .answer))
+abbrev pub KeepWorks : (s : Session) (g : Log) (w : Model) (c : Kept) → KeepLeft → Type 0
+KeepWorks s g w c = Works (keepTable s g w c) (λ x. x .answer) (λ x. keepAsWas s g w (c .flags) (x .answer))
+
+abbrev pub TakeWorks : (s : Session) (g : Log) (w : Model) (flags : List ℕ) → KeepLeft → Type 0
+TakeWorks s g w flags = Works (takeTable s g w flags) (λ x. x .answer) (λ x. keepAsWas s g w flags (x .answer))
 
 abbrev pub WriteWorks : (t : Tables) (starts : List ℤ) (lent : List ℕ) → Verdict × List ℕ → Type 0
 WriteWorks t starts lent = Works (writeTable t starts lent) (λ x. answered (x .0) 0) (λ x. (x .0, lent))
@@ -47,13 +51,15 @@ ReadWorks bytes lent lentStarts = Works (readTable bytes lent lentStarts) (λ x.
 pub record Demand1 : Type 0 where
   pub build : (l : BuildLent) (o : BuildOutcome l) → BuildWorks l (leftBuilt o)
   pub trial : (s : Session) (w : Model) (c : Tried) (o : TrialOutcome s w c) → TrialWorks s w c (leftTried o)
-  pub keep : (s : Session) (w : Model) (c : Kept) (o : KeepOutcome s w c) → KeepWorks s w c (leftKept o)
+  pub keep : (s : Session) (g : Log) (w : Model) (c : Kept) (o : KeepOutcome s g w c) → KeepWorks s g w c (leftKept o)
+  pub take-back : (s : Session) (g : Log) (w : Model) (flags : List ℕ) (o : TakeOutcome s g w flags) → TakeWorks s g w flags (leftTaken o)
   pub write : (t : Tables) (starts : List ℤ) (lent : List ℕ) (o : WriteOutcome t starts lent) → WriteWorks t starts lent (leftWritten o)
   pub read : (bytes : List ℕ) (lent : Tables) (lentStarts : List ℤ) (o : ReadOutcome bytes lent lentStarts) → ReadWorks bytes lent lentStarts (leftRead o)
   -- any two outcomes that a statement allows are equal: the answer, the record, every row to its end
   pub build-one : (l : BuildLent) (o o′ : BuildOutcome l) → (o .done .answer ≡ o′ .done .answer) × (leftBuilt o ≡ leftBuilt o′)
   pub trial-one : (s : Session) (w : Model) (c : Tried) (o o′ : TrialOutcome s w c) → (o .done .answer ≡ o′ .done .answer) × (leftTried o ≡ leftTried o′)
-  pub keep-one : (s : Session) (w : Model) (c : Kept) (o o′ : KeepOutcome s w c) → (o .done .answer ≡ o′ .done .answer) × (leftKept o ≡ leftKept o′)
+  pub keep-one : (s : Session) (g : Log) (w : Model) (c : Kept) (o o′ : KeepOutcome s g w c) → (o .done .answer ≡ o′ .done .answer) × (leftKept o ≡ leftKept o′)
+  pub take-one : (s : Session) (g : Log) (w : Model) (flags : List ℕ) (o o′ : TakeOutcome s g w flags) → (o .done .answer ≡ o′ .done .answer) × (leftTaken o ≡ leftTaken o′)
   pub write-one : (t : Tables) (starts : List ℤ) (lent : List ℕ) (o o′ : WriteOutcome t starts lent) → (o .answer ≡ o′ .answer) × (o .bytes ≡ o′ .bytes)
   pub read-one : (bytes : List ℕ) (lent : Tables) (lentStarts : List ℤ) (o o′ : ReadOutcome bytes lent lentStarts)
       → (o .answer ≡ o′ .answer) × (counted 0 0 0 (o .rows) ≡ counted 0 0 0 (o′ .rows)) × (o .starts ≡ o′ .starts)
@@ -68,6 +74,8 @@ pub record BuiltRight {l : BuildLent} (o : BuildOutcome l) : Type 0 where
   pub ordered : o .order ≡ order (l .tables) ++ drop (l .tables .m) (l .order)
   -- the rows that read each variable
   pub indexed : o .index ≡ index (l .tables) (l .index)
+  -- the log is empty
+  pub empty : o .logSizes ≡ set (l .logSizes) 0 0
   -- each value is the start value at a search variable, and what the formula gives of the inputs' values at a made one
   pub stored : (v : ℕ) → v < l .tables .n → valuesIn (l .tables) (o .stored) v ≡ valuation (net (l .tables)) (startValues l) (valuesIn (l .tables) (o .stored)) v
 
@@ -89,37 +97,53 @@ pub record Demand2 : Type 0 where
       → (lent : List ℕ) → length bytes ≤ length lent
       → (w : WriteOutcome (leftRead r .1 .0) (leftRead r .1 .1) lent) → leftWritten w ≡ (accepted, bytes ++ drop (length bytes) lent)
 
--- ── demand 3: over any run of trials and kept moves after an accepted build ──
-module _ {b : BuildLent} (start : BuildOutcome b) (cs : List Call) (now : State) where
+-- ── demand 3: over any run of trials, kept moves and takings back after an accepted build ──
+module _ {b : BuildLent} (start : BuildOutcome b) (room : List ℕ × List ℤ) (cs : List Call) (now : State) where
+  abbrev mine : Lends
+  mine = ownModel b room
+
   -- an accepted trial, by any route: the values worked out afresh, and the evaluations are the size of the route's set
-  pub record TrialFresh (c : Tried) (o : TrialOutcome (now .session) (modelOf now (ownOf start)) c) : Type 0 where
-    pub results : o .results ≡ over (c .asked) (λ i. renewed b cs (c .move) (nat (c .askedVars) i)) (c .results)
-    pub told : Told b cs (triedSet b cs (ownModel b) c) (evaluationsOf (leftTried o .answer)) (o .flags) (c .flags)
+  pub record TrialFresh (c : Tried) (o : TrialOutcome (now .session) (modelOf now (ownOf start room)) c) : Type 0 where
+    pub results : o .results ≡ over (c .asked) (λ i. renewed b room cs (c .move) (nat (c .askedVars) i)) (c .results)
+    pub told : Told b room cs (triedSet b room cs mine c) (evaluationsOf (leftTried o .answer)) (o .flags) (c .flags)
     -- it is the paper's trial, and that is right in all else
-    pub is : leftTried o ≡ tried b cs (ownModel b) c
-    pub right : TrialRight b cs (ownModel b) c
+    pub is : leftTried o ≡ tried b room cs mine c
+    pub right : TrialRight b room cs mine c
 
   -- an accepted keep: it leaves exactly the fresh values
-  pub record KeepFresh (c : Kept) (o : KeepOutcome (now .session) (modelOf now (ownOf start)) c) : Type 0 where
-    pub stored : o .stored ≡ over (b .tables .n) (renewed b cs (c .move)) (b .stored)
-    pub told : Told b cs (evaluatedBy b cs input-to-output (c .move) []) (evaluationsOf (leftKept o .answer)) (o .flags) (c .flags)
-    pub is : leftKept o ≡ kept b cs (ownModel b) c
-    pub right : KeepRight b cs (ownModel b) c
+  pub record KeepFresh (c : Kept) (o : KeepOutcome (now .session) (now .log) (modelOf now (ownOf start room)) c) : Type 0 where
+    pub stored : o .stored ≡ over (b .tables .n) (renewed b room cs (c .move)) (b .stored)
+    pub told : Told b room cs (evaluatedBy b room cs input-to-output (c .move) []) (evaluationsOf (leftKept o .answer)) (o .flags) (c .flags)
+    pub is : leftKept o ≡ kept b room cs mine own c
+    pub right : KeepRight b room cs mine own c
+
+  -- an accepted taking back: it leaves exactly the values before the latest move that was kept and not taken back
+  pub record TakeFresh (flags : List ℕ) (o : TakeOutcome (now .session) (now .log) (modelOf now (ownOf start room)) flags) : Type 0 where
+    pub stored : o .stored ≡ over (b .tables .n) (restored b room cs) (b .stored)
+    pub told : Told b room cs (evaluatedBy b room cs input-to-output (latest (now .log) flags .move) []) (evaluationsOf (leftTaken o .answer)) (o .flags) flags
+    pub is : leftTaken o ≡ taken b room cs mine own flags
+    pub right : TakeRight b room cs mine own flags
 
   pub record RunRight : Type 0 where
-    -- after every run the state is the paper's: the fresh values of the moves kept, and their number up to its ceiling
-    pub is : now ≡ after b cs
-    pub stored : now .stored ≡ over (b .tables .n) (old b cs) (b .stored)
-    pub moves : now .session .kept ≡ min (length (history b cs)) 4294967295
+    -- after every run the state is the paper's: the fresh values of the moves kept and not taken back, their number, and a log that is fit
+    pub is : now ≡ after b room cs
+    pub stored : now .stored ≡ over (b .tables .n) (old b room cs) (b .stored)
+    pub moves : length cs < 4294967295 → now .session .kept ≡ length (history b room cs)
+    pub log-good : logGood (now .log) (b .tables) (now .session .kept) ≡ true
     -- the next call, if it is accepted and was lent the model's own
-    pub trial-accepted : (c : Tried) (o : TrialOutcome (now .session) (modelOf now (ownOf start)) c) → numberOf (leftTried o .answer) ≡ 0 → TrialFresh c o
-    pub keep-accepted : (c : Kept) (o : KeepOutcome (now .session) (modelOf now (ownOf start)) c) → numberOf (leftKept o .answer) ≡ 0 → KeepFresh c o
+    pub trial-accepted : (c : Tried) (o : TrialOutcome (now .session) (modelOf now (ownOf start room)) c) → numberOf (leftTried o .answer) ≡ 0 → TrialFresh c o
+    pub keep-accepted : (c : Kept) (o : KeepOutcome (now .session) (now .log) (modelOf now (ownOf start room)) c) → numberOf (leftKept o .answer) ≡ 0 → KeepFresh c o
+    pub take-accepted : (flags : List ℕ) (o : TakeOutcome (now .session) (now .log) (modelOf now (ownOf start room)) flags) → numberOf (leftTaken o .answer) ≡ 0 → TakeFresh flags o
     -- no trial alters a stored value, and a refused call leaves the state, whatever it was lent
     pub trial-stored : (l : Lends) (c : Tried) (o : TrialOutcome (now .session) (modelOf now l) c) → afterTrial now (o .done) .stored ≡ now .stored
     pub trial-refused : (l : Lends) (c : Tried) (o : TrialOutcome (now .session) (modelOf now l) c) → (numberOf (leftTried o .answer) ≡ 0 → ⊥)
         → afterTrial now (o .done) ≡ now
-    pub keep-refused : (l : Lends) (c : Kept) (o : KeepOutcome (now .session) (modelOf now l) c) → (numberOf (leftKept o .answer) ≡ 0 → ⊥)
-        → (afterKeep now (l .stored) (o .done) (o .stored) ≡ now) × (history b (keeps l c ∷ cs) ≡ history b cs)
+    pub keep-refused : (l : Lends) (g : Lent Log) (c : Kept) (o : KeepOutcome (now .session) (lentOf g (now .log)) (modelOf now l) c) → (numberOf (leftKept o .answer) ≡ 0 → ⊥)
+        → (passedOn now l g (leftKept o) ≡ now) × (history b room (keeps l g c ∷ cs) ≡ history b room cs)
+    pub take-refused : (l : Lends) (g : Lent Log) (flags : List ℕ) (o : TakeOutcome (now .session) (lentOf g (now .log)) (modelOf now l) flags) → (numberOf (leftTaken o .answer) ≡ 0 → ⊥)
+        → (passedOn now l g (leftTaken o) ≡ now) × (history b room (takes l g flags ∷ cs) ≡ history b room cs)
 
 abbrev pub Demand3 : Type 0
-Demand3 = (b : BuildLent) (start : BuildOutcome b) → numberOf (leftBuilt start .answer) ≡ 0 → (cs : List Call) (now : State) → Run start cs now → RunRight start cs now
+Demand3 =
+    (b : BuildLent) (start : BuildOutcome b) (room : List ℕ × List ℤ) → numberOf (leftBuilt start .answer) ≡ 0 → (cs : List Call) (now : State) → Run start room cs now
+    → RunRight start room cs now

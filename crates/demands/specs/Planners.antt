@@ -6,23 +6,25 @@ use mathlib.Core.List.{List}
 use mathlib.Core.Path.{_≡_}
 use lib.ListN.{length}
 use Rattle.paper.specs.Checks.{Move}
+use lib.IntN.{ℤ}
+use Rattle.paper.specs.Log.{Log}
 use Rattle.paper.specs.Calls.{Session, numberOf, BuildLent, Model, Kept}
-use Rattle.paper.specs.Demands.{own, Call, State, modelOf}
+use Rattle.paper.specs.Demands.{own, Call, State, modelOf, passedOn}
 use Rattle.paper.specs.Moves.{Apart, AllPairs, joined}
 use Rattle.demands.specs.Stated.{BuildOutcome, leftBuilt, KeepOutcome, leftKept}
-use Rattle.demands.specs.Runs.{ownOf, afterKeep, Run}
+use Rattle.demands.specs.Runs.{ownOf, Run}
 
--- the call was accepted, and what it hands on to the next
-abbrev pub Accepts : {s : Session} {w : Model} {c : Kept} → KeepOutcome s w c → Type 0
+-- the call was accepted
+abbrev pub Accepts : {s : Session} {g : Log} {w : Model} {c : Kept} → KeepOutcome s g w c → Type 0
 Accepts o = numberOf (leftKept o .answer) ≡ 0
 
-abbrev pub handsOn : {s : Session} {w : Model} {c : Kept} → State → KeepOutcome s w c → State
-handsOn now o = afterKeep now own (o .done) (o .stored)
-
-module _ {b : BuildLent} (start : BuildOutcome b) where
-  -- a keep of a move, lent the model's own and a row of flags
+module _ {b : BuildLent} (start : BuildOutcome b) (room : List ℕ × List ℤ) where
+  -- a keep of a move, lent the model's own, the session's log and a row of flags, and what it hands on
   abbrev pub Keeping : State → Move → List ℕ → Type 0
-  Keeping now mv flags = KeepOutcome (now .session) (modelOf now (ownOf start)) (record { move = mv; flags = flags })
+  Keeping now mv flags = KeepOutcome (now .session) (now .log) (modelOf now (ownOf start room)) (record { move = mv; flags = flags })
+
+  abbrev pub handsOn : (now : State) {mv : Move} {flags : List ℕ} → Keeping now mv flags → State
+  handsOn now o = passedOn now (ownOf start room) own (leftKept o)
 
   -- a row of flags that is long enough
   abbrev pub Room : List ℕ → Type 0
@@ -45,8 +47,8 @@ module _ {b : BuildLent} (start : BuildOutcome b) where
 
 abbrev pub TwoPlanners : Type 0
 TwoPlanners =
-    (b : BuildLent) (start : BuildOutcome b) → numberOf (leftBuilt start .answer) ≡ 0 → (cs : List Call) (now : State) → Run start cs now
+    (b : BuildLent) (start : BuildOutcome b) (room : List ℕ × List ℤ) → numberOf (leftBuilt start .answer) ≡ 0 → (cs : List Call) (now : State) → Run start room cs now
     → (first second : Move)
     → Apart first second
-    → (f g : List ℕ) (o : Keeping start now first f) (p : Keeping start now second g) → Accepts o → Accepts p
-    → EitherOrder start now first second f g o p
+    → (f g : List ℕ) (o : Keeping start room now first f) (p : Keeping start room now second g) → Accepts o → Accepts p
+    → EitherOrder start room now first second f g o p

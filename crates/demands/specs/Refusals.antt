@@ -10,7 +10,8 @@ use lib.ListN.{length, take}
 use Rattle.paper.specs.Lists.{between, total, nat}
 use Rattle.paper.specs.Tables.{Tables, ends}
 use Rattle.paper.specs.Checks.{Verdict, accepted, refused, kindGood, shapeGood, numberGood, madeOnce, startGood, storedGood, numbered, indexed, Move, movable, namedOnce, hasValue}
-use Rattle.paper.specs.Calls.{BuildLent, buildFits, startValues, Model, storedValues, Tried, trialFits, Kept, keepFits}
+use Rattle.paper.specs.Log.{Log, logged, logGood}
+use Rattle.paper.specs.Calls.{Session, BuildLent, buildFits, startValues, Model, storedValues, Tried, trialFits, Kept, keepFits, takeFits}
 use Rattle.paper.specs.File.{field, rowsAt, entriesAt, endsAt, held, counted, nIn, mIn, eIn}
 
 -- a number with a test of each place below a bound, or with one test and a fixed place
@@ -29,7 +30,7 @@ tableLines t =
     ∷ places 5 (t .m) (madeOnce t)
     ∷ []
 
--- 8 of the numbers and order, 8 of the index, and then 7, of the model lent to trial and keep
+-- 8 of the numbers and order, 8 of the index, and then 7, of the model lent to trial, keep and taking back
 abbrev pub modelLines : Model → List Line
 modelLines w = let t = w .tables in
     whole 8 0 (numbered t (w .numbers) (w .order)) ∷ whole 8 0 (indexed t (w .index)) ∷ places 7 (t .n) (storedGood t (storedValues w)) ∷ []
@@ -47,8 +48,15 @@ trialTable w c = let t = w .tables in
     whole 1 0 (trialFits w c) ∷ (tableLines t ++ modelLines w ++ (whole 9 0 (between 1 (c .route) 3) ∷ [])
     ++ moveLines t (c .move) ++ (places 13 (c .asked) (λ i. ltb (nat (c .askedVars) i) (t .n)) ∷ []))
 
-abbrev pub keepTable : Model → Kept → List Line
-keepTable w c = whole 1 0 (keepFits w c) ∷ (tableLines (w .tables) ++ modelLines w ++ moveLines (w .tables) (c .move))
+-- 16, of the log
+abbrev pub logLines : Session → Log → Tables → List Line
+logLines s g t = whole 16 0 (logGood g t (s .kept)) ∷ []
+
+abbrev pub keepTable : Session → Log → Model → Kept → List Line
+keepTable s g w c = whole 1 0 (keepFits g w c) ∷ (tableLines (w .tables) ++ modelLines w ++ moveLines (w .tables) (c .move) ++ logLines s g (w .tables))
+
+abbrev pub takeTable : Session → Log → Model → List ℕ → List Line
+takeTable s g w flags = whole 1 0 (takeFits g w flags) ∷ (tableLines (w .tables) ++ modelLines w ++ logLines s g (w .tables) ++ (whole 15 0 (ltb 0 (logged g)) ∷ []))
 
 abbrev pub writeTable : Tables → List ℤ → List ℕ → List Line
 writeTable t starts bytes = whole 1 0 (held t starts && leb (endsAt (t .n) (t .m) (t .e)) (length bytes)) ∷ []

@@ -6,6 +6,7 @@ use Prim.Native.Nat.{ℕ}
 use lib.IntN.{ℤ}
 use Rattle.paper.specs.Tables.{Tables, Index}
 use Rattle.paper.specs.Checks.{Verdict}
+use Rattle.paper.specs.Log.{Log}
 use Rattle.paper.specs.Calls as call
 use Rattle.paper.specs.Calls.{Session, BuildLent, BuildLeft, Model, Tried, TrialLeft, Kept, KeepLeft}
 use Rattle.paper.specs.File as file
@@ -23,10 +24,11 @@ pub record BuildOutcome (l : BuildLent) : Type 0 where
   pub order : List ℕ
   pub stored : List ℤ
   pub index : Index
-  pub stated : leftByBuild done numbers order stored (index .starts) (index .places) ≡ call.build l
+  pub logSizes : List ℕ
+  pub stated : leftByBuild done numbers order stored (index .starts) (index .places) logSizes ≡ call.build l
 
 abbrev pub leftBuilt : {l : BuildLent} → BuildOutcome l → BuildLeft
-leftBuilt o = leftByBuild (o .done) (o .numbers) (o .order) (o .stored) (o .index .starts) (o .index .places)
+leftBuilt o = leftByBuild (o .done) (o .numbers) (o .order) (o .stored) (o .index .starts) (o .index .places) (o .logSizes)
 
 -- ── trial: the stored values are lent to read only ──
 pub record TrialOutcome (s : Session) (w : Model) (c : Tried) : Type 0 where
@@ -40,14 +42,26 @@ abbrev pub leftTried : {s : Session} {w : Model} {c : Tried} → TrialOutcome s 
 leftTried o = leftByTrial (o .done) (o .results) (o .trial) (o .flags)
 
 -- ── keep ──
-pub record KeepOutcome (s : Session) (w : Model) (c : Kept) : Type 0 where
+pub record KeepOutcome (s : Session) (g : Log) (w : Model) (c : Kept) : Type 0 where
   pub done : Done
   pub stored : List ℤ
   pub flags : List ℕ
-  pub stated : leftByKeep done stored flags ≡ call.keep s w c
+  pub log : Log
+  pub stated : leftByKeep done stored flags (log .sizes) (log .vars) (log .values) ≡ call.keep s g w c
 
-abbrev pub leftKept : {s : Session} {w : Model} {c : Kept} → KeepOutcome s w c → KeepLeft
-leftKept o = leftByKeep (o .done) (o .stored) (o .flags)
+abbrev pub leftKept : {s : Session} {g : Log} {w : Model} {c : Kept} → KeepOutcome s g w c → KeepLeft
+leftKept o = leftByKeep (o .done) (o .stored) (o .flags) (o .log .sizes) (o .log .vars) (o .log .values)
+
+-- ── taking back: of the log, the pairs are lent to read only ──
+pub record TakeOutcome (s : Session) (g : Log) (w : Model) (lentFlags : List ℕ) : Type 0 where
+  pub done : Done
+  pub stored : List ℤ
+  pub flags : List ℕ
+  pub logSizes : List ℕ
+  pub stated : leftByKeep done stored flags logSizes (g .vars) (g .values) ≡ call.takeBack s g w lentFlags
+
+abbrev pub leftTaken : {s : Session} {g : Log} {w : Model} {lentFlags : List ℕ} → TakeOutcome s g w lentFlags → KeepLeft
+leftTaken {s} {g} o = leftByKeep (o .done) (o .stored) (o .flags) (o .logSizes) (g .vars) (g .values)
 
 -- ── write ──
 pub record WriteOutcome (t : Tables) (starts : List ℤ) (lent : List ℕ) : Type 0 where

@@ -1,7 +1,7 @@
 // A case is a call with all that it is lent. Its numbers have two bytes each, but for moves kept and route, which have four:
 //
 //  0  length of the case, length of its name, length of its values: all in bytes
-//  6  which call: 1 a trial, 2 a keep, 3 a build, 4 the figures of a batch
+//  6  which call: 1 a trial, 2 a keep, 3 a build, 4 the figures of a batch, 5 a taking back
 //  8  n, m, e, pairs, asked
 // 18  the plan of fourteen rows: kinds, made variables, firsts, counts, entry variables, numbers, order, reader starts, reader places, move variables
 //     and asked variables; then coefficients; then parameters and new values
@@ -9,13 +9,15 @@
 //     starts and reader places
 // 86  how many results are shown, of a build how many reader starts and how many reader places, and how many of each other row
 // 90  moves kept, route
-// 98  the name, and the stored values, zeros past the end; of a build, its start values
+// 98  how many sizes, variables and values of the log are lent; the length of its sizes and of its pairs in bytes; how many sizes are shown
+// 110 the name; the stored values, zeros past the end, of a build its start values; the log's sizes, zeros past the end; its pairs, each with place,
+//     variable and value, the value of four bytes
 use crate::batches::count_case;
+use crate::kept::change_case;
 use crate::print;
 use engine::Done;
 use engine::Session;
 use pools::calls::build_planned;
-use pools::calls::keep_planned;
 use pools::calls::try_planned;
 use pools::fields::after;
 use pools::fields::half;
@@ -37,16 +39,16 @@ pub fn count(case: &[u8], at: usize) -> usize {
 
 // The name of the case.
 pub fn name(case: &[u8]) -> &[u8] {
-    part(case, 98, count(case, 2))
+    part(case, 110, count(case, 2))
 }
 
 // The bytes of the stored values.
 pub fn values_of(case: &[u8]) -> &[u8] {
-    part(case, after(98, count(case, 2)), count(case, 4))
+    part(case, after(110, count(case, 2)), count(case, 4))
 }
 
 // The record before the call.
-fn record(case: &[u8]) -> Session {
+pub fn record(case: &[u8]) -> Session {
     Session {
         kept: word(case, 90),
         evaluations: 9,
@@ -116,54 +118,6 @@ fn try_case(case: &[u8], plan: &[u16], pool: &[u16], coefs: &[i16], values: &[i3
     );
 }
 
-// Keeps the move of a case with the rows to fill that are lent, and prints what comes back and what is left.
-fn keep_filling(
-    case: &[u8],
-    plan: &[u16],
-    pool: &[u16],
-    coefs: &[i16],
-    values: &[i32],
-    stored: &mut [i32],
-    flags: &mut [u8],
-) {
-    let done = keep_planned(
-        record(case),
-        count(case, 8),
-        count(case, 10),
-        count(case, 12),
-        plan,
-        pool,
-        row_signed32(values, plan, 24),
-        row_signed16(coefs, plan, 22),
-        stored,
-        count(case, 14),
-        row16(pool, plan, 18),
-        row_signed32(values, plan, 26),
-        flags,
-    );
-    print::kept(name(case), done);
-    print::values(b"; stored", count(case, 88), stored);
-    print::flags(count(case, 88), flags);
-}
-
-// Keeps the move of a case.
-fn keep_case(case: &[u8], plan: &[u16], pool: &[u16], coefs: &[i16], values: &[i32]) {
-    let mut stored = [0i32; 4097];
-    let mut flags = [7u8; 4097];
-    fill_signed32(&mut stored, values_of(case));
-    let s = least(count(case, 74), 4097);
-    let f = least(count(case, 80), 4097);
-    keep_filling(
-        case,
-        plan,
-        pool,
-        coefs,
-        values,
-        &mut stored[0..s],
-        &mut flags[0..f],
-    );
-}
-
 // Prints what comes back of a build, and what it leaves.
 fn print_built(
     case: &[u8],
@@ -173,6 +127,7 @@ fn print_built(
     stored: &[i32],
     reader_starts: &[u16],
     reader_places: &[u16],
+    log_sizes: &[u16],
 ) {
     print::built(name(case), done);
     numbers(b"; numbers", count(case, 88), row);
@@ -180,6 +135,7 @@ fn print_built(
     print::values(b"; stored", count(case, 88), stored);
     numbers(b"; reader starts", count(case, 86), reader_starts);
     numbers(b"; reader places", count(case, 86), reader_places);
+    numbers(b"; log", count(case, 108), log_sizes);
 }
 
 // Builds the model of a case with the rows to fill that are lent, and prints what comes back and what is left.
@@ -195,6 +151,7 @@ fn build_filling(
     stored: &mut [i32],
     reader_starts: &mut [u16],
     reader_places: &mut [u16],
+    log_sizes: &mut [u16],
 ) {
     let done = build_planned(
         record(case),
@@ -211,6 +168,7 @@ fn build_filling(
         stored,
         reader_starts,
         reader_places,
+        log_sizes,
     );
     print_built(
         case,
@@ -220,6 +178,7 @@ fn build_filling(
         stored,
         reader_starts,
         reader_places,
+        log_sizes,
     );
 }
 
@@ -231,6 +190,7 @@ fn build_case(case: &[u8], plan: &[u16], pool: &[u16], coefs: &[i16], values: &[
     let mut stored = [77i32; 4097];
     let mut reader_starts = [77u16; 4098];
     let mut reader_places = [77u16; 16385];
+    let mut log_sizes = [77u16; 66];
     fill_signed32(&mut starts, values_of(case));
     let s = least(count(case, 74), 4097);
     let n = least(count(case, 76), 4097);
@@ -238,6 +198,7 @@ fn build_case(case: &[u8], plan: &[u16], pool: &[u16], coefs: &[i16], values: &[
     let t = least(count(case, 80), 4097);
     let r = least(count(case, 82), 4098);
     let p = least(count(case, 84), 16385);
+    let l = least(count(case, 98), 66);
     build_filling(
         case,
         plan,
@@ -250,6 +211,7 @@ fn build_case(case: &[u8], plan: &[u16], pool: &[u16], coefs: &[i16], values: &[
         &mut stored[0..t],
         &mut reader_starts[0..r],
         &mut reader_places[0..p],
+        &mut log_sizes[0..l],
     );
 }
 
@@ -260,12 +222,12 @@ pub fn make(case: &[u8], pool: &[u16], coefs: &[i16], values: &[i32]) {
     let which = half(case, 6);
     if which == 1 {
         try_case(case, &plan, pool, coefs, values);
-    } else if which == 2 {
-        keep_case(case, &plan, pool, coefs, values);
     } else if which == 3 {
         build_case(case, &plan, pool, coefs, values);
-    } else {
+    } else if which == 4 {
         count_case(case, &plan, pool, coefs, values);
+    } else {
+        change_case(case, &plan, pool, coefs, values);
     }
     text(b"\n");
 }

@@ -1,8 +1,9 @@
-// What build, trial and keep say on both sides of every edge of their refusals, what they leave, and batches of moves in figures: for each file that
-// the arguments name, a line for each of its cases. A file has the number of its cases and the bytes of its three pools (4 bytes each), the pools
+// What build, trial, keep and taking back say on both sides of every edge of their refusals, what they leave, and batches of moves in figures: for each
+// file that the arguments name, a line for each of its cases. A file has the number of its cases and the bytes of its three pools (4 bytes each), the pools
 // (numbers of two bytes, signed ones of two, signed ones of four), and the cases. Past its end a pool has zeros.
 mod batches;
 mod cases;
+mod kept;
 mod print;
 
 use crate::cases::make;
@@ -66,7 +67,7 @@ fn make_file(bytes: &[u8]) {
 
 // Makes the cases of the file that argument i names.
 fn make_argument(i: usize) {
-    let mut file = [0u8; 35000];
+    let mut file = [0u8; 36000];
     let got = read_argument(i, &mut file);
     make_file(&file[..got]);
 }

@@ -3,6 +3,7 @@ use engine::Done;
 use figures::Counted;
 use figures::Totals;
 use libc::STDOUT_FILENO;
+use pools::fields::least;
 use pools::print::answer;
 use pools::print::number;
 use pools::print::record;
@@ -33,6 +34,12 @@ pub fn kept(name: &[u8], done: Done) {
     come_to(name, done);
 }
 
+// Prints what a taking back comes to.
+pub fn taken(name: &[u8], done: Done) {
+    text(b"take back, ");
+    come_to(name, done);
+}
+
 // Prints what a build comes to.
 pub fn built(name: &[u8], done: Done) {
     text(b"build, ");
@@ -50,6 +57,25 @@ pub fn values(name: &[u8], shown: usize, row: &[i32]) {
 // Prints the first flags of a row.
 pub fn flags(shown: usize, row: &[u8]) {
     pools::print::flags(b"; flags", shown, row);
+}
+
+// Prints a pair of a log with its place, unless nothing was ever written there.
+fn pair(place: usize, variable: u16, x: i32) {
+    if (variable == 77) & (x == 77) {
+        return;
+    }
+    number(place as u64);
+    text(b":");
+    number(integers::wide(variable) as u64);
+    values(b"", 1, &[x]);
+}
+
+// Prints the pairs of a log.
+pub fn pairs(vars: &[u16], row: &[i32]) {
+    text(b"; pairs");
+    for i in 0..least(vars.len(), row.len()) {
+        pair(i, vars[i], row[i]);
+    }
 }
 
 // A number without its sign.

@@ -1,21 +1,27 @@
 -- From an accepted verdict to what the writing relies on, and from what is written to the call's equation. Assumes nothing.
-use Prim.Native.Nat.{ℕ, zero, suc, min, _≤_, _<_}
+use Prim.Native.Nat.{ℕ, zero, suc, pred, min, _+_, _-_, _*_, _≤_, _<_}
+use native.Mathlib.Nat.{le-of-eq}
+use native.Mathlib.Numerals.{add-one}
 use native.Mathlib.Omega.{arith}
-use mathlib.Core.Bool.{true, _&&_}
-use mathlib.Core.List.{List, [], _∷_}
-use mathlib.Core.Path.{_≡_, refl, ap, ap₂}
+use mathlib.Core.Bool.{true, cond, _&&_}
+use mathlib.Core.List.{List, [], _∷_, _++_}
+use mathlib.Core.Path.{_≡_, refl, ap, ap₂, sym, subst, _∙_}
 use lib.Dec.{ltb}
-use lib.IntN.{ℤ}
-use lib.ListN.{length, take}
+use lib.IntN.{ℤ, pos}
+use lib.ListN.{length, getD, set, take, drop, length-drop}
+use lib.Seq.{getD-take, take-all}
 use borrow.Author.Tests.{leb-true, lt-ltb}
 use Rattle.paper.specs.Lists.{all, nat}
-use Rattle.paper.specs.Checks.{accepted}
-use Rattle.paper.specs.Calls.{Session, Accepted, Model, Tried, trialFits, trialVerdict, trial, Kept, keepFits, keepVerdict, keep}
+use Rattle.paper.specs.Checks.{accepted, Move}
+use Rattle.paper.specs.Log.{Log, logIn, laidAt, logged, back, roomMade, noted, dropped}
+use Rattle.paper.specs.Calls.{Session, Accepted, Model, storedValues, Tried, trialFits, trialVerdict, trial, Kept, KeepLeft, keepFits, keepVerdict, keep, latest, takeFits, takeVerdict, takeBack}
 use Rattle.paper.proofs.Lists.{each}
 use Rattle.paper.proofs.Verdicts.{require-held}
-use Rattle.paper.proofs.Outcomes.{trial-meets, keep-meets}
-use Rattle.paper.proofs.Known.{ModelKnown, MoveKnown, trial-known, keep-known}
+use Rattle.paper.proofs.Outcomes.{trial-meets, keep-meets, take-meets}
+use Rattle.paper.proofs.Buffers.{over-same}
+use Rattle.paper.proofs.Known.{ModelKnown, MoveKnown, trial-known, keep-known, take-known, latest-known}
 use Rattle.readers.proofs.Known.{laid-of, indexed-known}
+use Rattle.logs.specs.Noting.{Named}
 use Rattle.judges.proofs.Lengths.{index-long}
 use Rattle.fills.specs.Accepted.{Keeping, Trying, TrialFilled, KeepFilled}
 
@@ -36,11 +42,58 @@ keeping w c k v h = let (starts, places) = index-long (w .tables) (w .index) (k 
   search = v .search;
 }
 
-pub keeping-of : (w : Model) (c : Kept) → keepVerdict w c ≡ accepted → Keeping (w .tables) (w .order) (w .index) (w .stored) c
-unfolding keepVerdict
-keeping-of w c e =
-    let k = keep-known w c e in let fits = each _ (require-held 1 0 (keepFits w c) _ e) in
-    keeping w c (k .model) (k .move) (leb-true _ _ (fits .1 .1 .0))
+-- where the latest move stands in a log
+pub record Latest (g : Log) (at : ℕ) : Type 0 where
+  pub few : at < 64
+  pub in-sizes : at + 1 < length (g .sizes)
+  pub in-vars : 64 * at ≤ length (g .vars)
+  pub in-values : 64 * at ≤ length (g .values)
+
+-- a row from a place on, as a program lends it
+rest : {A : Type 0} (k : ℕ) (row : List A) → take (length row - k) (drop k row) ≡ drop k row
+rest k row = take-all (length row - k) (drop k row) (le-of-eq (length-drop k row))
+
+-- the latest move, as a program reads it from the three rows
+pub latest-is : (g : Log) (flags : List ℕ) (at pairs : ℕ) → at ≡ pred (logged g) → pairs ≡ nat (g .sizes) (at + 1)
+    → record { move = record { pairs = pairs; vars = take (length (g .vars) - 64 * at) (drop (64 * at) (g .vars)); values = take (length (g .values) - 64 * at) (drop (64 * at) (g .values)) }; flags = flags }
+    ≡ latest g flags
+latest-is g flags at pairs e p =
+    (λ i. record { move = record { pairs = (p ∙ ap (nat (g .sizes)) (add-one at)) i; vars = rest (64 * at) (g .vars) i; values = rest (64 * at) (g .values) i }; flags = flags })
+    ∙ ap (λ k. record { move = back g k; flags = flags }) e
+
+module _ (s : Session) (g : Log) (w : Model) where
+  -- of the record only the number kept plays a part
+  pub keep-by-kept : (c : Kept) → keepVerdict s g w c ≡ keepVerdict (record { kept = s .kept; evaluations = 0 }) g w c
+  unfolding keepVerdict
+  keep-by-kept c = refl
+
+  pub take-by-kept : (flags : List ℕ) → takeVerdict s g w flags ≡ takeVerdict (record { kept = s .kept; evaluations = 0 }) g w flags
+  unfolding takeVerdict
+  take-by-kept flags = refl
+
+  pub keeping-of : (c : Kept) → keepVerdict s g w c ≡ accepted → Keeping (w .tables) (w .order) (w .index) (w .stored) c
+  unfolding keepVerdict
+  keeping-of c e =
+      let k = keep-known s g w c e in let fits = each _ (require-held 1 0 (keepFits g w c) _ e) in
+      keeping w c (k .model) (k .move) (leb-true _ _ (fits .1 .1 .0))
+
+  -- what noting the move asks for
+  pub named-of : (c : Kept) → keepVerdict s g w c ≡ accepted → Named (w .stored) (c .move .pairs) (c .move .vars)
+  named-of c e = let k = keep-known s g w c e in let long = k .model .stored-long in
+      record { few = k .move .few; in-vars = k .move .vars-long; low = λ i l. let h = k .move .low i l in omega arith }
+
+  module _ (flags : List ℕ) (e : takeVerdict s g w flags ≡ accepted) where
+    pub latest-at : {at : ℕ} → at ≡ pred (logged g) → Latest g at
+    latest-at {at} here =
+        let k = take-known s g w flags e in let some = k .some in let few = k .log .few in let fits = each _ (k .log .fits) in
+        let sizes = leb-true 65 (length (g .sizes)) (fits .0) in let vars = leb-true 4096 (length (g .vars)) (fits .1 .0) in let values = leb-true 4096 (length (g .values)) (fits .1 .1 .0) in
+        record { few = omega arith; in-sizes = omega arith; in-vars = omega arith; in-values = omega arith }
+
+    pub taking-of : (c : Kept) → c ≡ latest g flags → Keeping (w .tables) (w .order) (w .index) (w .stored) c
+    unfolding takeVerdict
+    taking-of c is =
+        let k = take-known s g w flags e in let fits = each _ (require-held 1 0 (takeFits g w flags) _ e) in
+        subst (Keeping (w .tables) (w .order) (w .index) (w .stored)) (sym is) (keeping w (latest g flags) (k .model) (latest-known s g w flags k) (leb-true _ _ (fits .1 .0)))
 
 pub trying-of : (w : Model) (c : Tried) → trialVerdict w c ≡ accepted → Trying (w .tables) (w .order) (w .index) (w .stored) c
 unfolding trialVerdict
@@ -62,9 +115,26 @@ trial-met s w c count results trial′ flags v f =
     trial-meets s w c _ accepted v (ap Accepted (f .count-is)) (ap (λ n. record { kept = s .kept; evaluations = n }) (f .count-is))
     (f .results-are) (f .trial-is) (f .flags-are)
 
-pub keep-met : (s : Session) (w : Model) (c : Kept) (count kept : ℕ) (stored : List ℤ) (flags : List ℕ) → keepVerdict w c ≡ accepted
-    → KeepFilled (w .tables) (w .stored) c count stored flags → kept ≡ min (suc (s .kept)) 4294967295
-    → record { answer = Accepted count; session = record { kept = kept; evaluations = count }; stored = stored; flags = flags } ≡ keep s w c
-keep-met s w c count kept stored flags v f e =
-    keep-meets s w c _ accepted v (ap Accepted (f .count-is)) (ap₂ (λ n k. record { kept = k; evaluations = n }) (f .count-is) e)
-    (f .stored-is) (f .flags-are)
+-- a move is noted over the row of stored values as over the values that it holds
+noted-row : (g : Log) (w : Model) (mv : Move) → ((i : ℕ) → i < mv .pairs → nat (mv .vars) i < w .tables .n) → noted g (λ v. getD (w .stored) v (pos 0)) mv ≡ noted g (storedValues w) mv
+noted-row g w mv low = let k = min (logged g) 63 in
+    ap (λ (row : List ℤ). logIn (set (set (roomMade g .sizes) 0 (suc k)) (suc k) (mv .pairs)) (laidAt (64 * k) (mv .pairs) (nat (mv .vars)) (roomMade g .vars)) (take (64 * k) (roomMade g .values) ++ row))
+    (over-same (λ i. getD (w .stored) (nat (mv .vars) i) (pos 0)) (mv .pairs) (drop (64 * k) (roomMade g .values)) (λ i. storedValues w (nat (mv .vars) i))
+    (λ i l. sym (getD-take (w .tables .n) (w .stored) (nat (mv .vars) i) (pos 0) (low i l))))
+
+module _ (s : Session) (g : Log) (w : Model) (count kept : ℕ) (stored : List ℤ) (flags : List ℕ) (log : Log) where
+  abbrev left : KeepLeft
+  left = record { answer = Accepted count; session = record { kept = kept; evaluations = count }; stored = stored; flags = flags; log = log }
+
+  pub keep-met : (c : Kept) → keepVerdict s g w c ≡ accepted → KeepFilled (w .tables) (w .stored) c count stored flags → kept ≡ min (suc (s .kept)) 4294967295
+      → log ≡ noted g (λ v. getD (w .stored) v (pos 0)) (c .move) → left ≡ keep s g w c
+  keep-met c v f e noting =
+      keep-meets s g w left accepted c v (ap Accepted (f .count-is)) (ap₂ (λ n k. record { kept = k; evaluations = n }) (f .count-is) e)
+      (f .stored-is) (f .flags-are) (noting ∙ noted-row g w (c .move) (keep-known s g w c v .move .low))
+
+  pub take-met : (lentFlags : List ℕ) (c : Kept) → c ≡ latest g lentFlags → takeVerdict s g w lentFlags ≡ accepted → KeepFilled (w .tables) (w .stored) c count stored flags
+      → kept ≡ cond (ltb (s .kept) 4294967295) (pred (s .kept)) (s .kept) → log ≡ dropped g → left ≡ takeBack s g w lentFlags
+  take-met lentFlags c is v filled e dropping =
+      let f = subst (λ z. KeepFilled (w .tables) (w .stored) z count stored flags) is filled in
+      take-meets s g w left accepted lentFlags v (ap Accepted (f .count-is)) (ap₂ (λ n k. record { kept = k; evaluations = n }) (f .count-is) e)
+      (f .stored-is) (f .flags-are) dropping

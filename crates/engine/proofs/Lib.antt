@@ -2,3 +2,4 @@ pub mod Accepts
 pub mod Record
 pub mod Setting
 pub mod Spelled
+pub mod Walking

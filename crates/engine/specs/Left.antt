@@ -3,6 +3,7 @@ use Prim.Native.Nat.{ℕ}
 use mathlib.Core.List.{List}
 use lib.IntN.{ℤ}
 use Rattle.paper.specs.Tables.{indexIn}
+use Rattle.paper.specs.Log.{logIn}
 use Rattle.paper.specs.Calls.{Answer, Accepted, Refused, Session, BuildLeft, TrialLeft, KeepLeft}
 use Rattle.tables.specs.declared.Answer as code-answer
 use Rattle.tables.specs.declared.Answer.the-variants as code
@@ -18,15 +19,16 @@ answerIn (code.Refused number place) = Refused number place
 abbrev pub recordIn : code-session.Session → Session
 recordIn s = record { kept = s .kept; evaluations = s .evaluations }
 
--- by build: the answer, the record, the three rows, and the index of readers
-abbrev pub leftByBuild : Done → List ℕ → List ℕ → List ℤ → List ℕ → List ℕ → BuildLeft
-leftByBuild r numbers order stored readerStarts readerPlaces = record {
+-- by build: the answer, the record, the three rows, the index of readers, and the sizes of the log
+abbrev pub leftByBuild : Done → List ℕ → List ℕ → List ℤ → List ℕ → List ℕ → List ℕ → BuildLeft
+leftByBuild r numbers order stored readerStarts readerPlaces logSizes = record {
   answer = answerIn (r .answer);
   session = recordIn (r .session);
   numbers = numbers;
   order = order;
   stored = stored;
   index = indexIn readerStarts readerPlaces;
+  logSizes = logSizes;
 }
 
 -- by trial: the answer, the record, and the three rows
@@ -39,11 +41,12 @@ leftByTrial r results trial flags = record {
   flags = flags;
 }
 
--- by keep: the answer, the record, the stored values and the flags
-abbrev pub leftByKeep : Done → List ℤ → List ℕ → KeepLeft
-leftByKeep r stored flags = record {
+-- by keep and by taking back: the answer, the record, the stored values, the flags and the log
+abbrev pub leftByKeep : Done → List ℤ → List ℕ → List ℕ → List ℕ → List ℤ → KeepLeft
+leftByKeep r stored flags logSizes logVars logValues = record {
   answer = answerIn (r .answer);
   session = recordIn (r .session);
   stored = stored;
   flags = flags;
+  log = logIn logSizes logVars logValues;
 }

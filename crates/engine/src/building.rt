@@ -28,8 +28,9 @@ pub fn build_core(
     stored: &mut [i32],
     reader_starts: &mut [u16],
     reader_places: &mut [u16],
+    log_sizes: &mut [u16],
 ) -> Done
-    ensures { λ r. ⌜ leftByBuild r (now (numbers .exit)) (now (order .exit)) (now (stored .exit)) (now («reader_starts» .exit)) (now («reader_places» .exit)) ≡ build (toBuild (session .kept) (session .evaluations) n m e (now (kinds .entry)) (now (makes .entry)) (now (params .entry)) (now (firsts .entry)) (now (counts .entry)) (now (vars .entry)) (now (coefs .entry)) (now (starts .entry)) (now (numbers .entry)) (now (order .entry)) (now (stored .entry)) (now («reader_starts» .entry)) (now («reader_places» .entry))) ⌝ }
+    ensures { λ r. ⌜ leftByBuild r (now (numbers .exit)) (now (order .exit)) (now (stored .exit)) (now («reader_starts» .exit)) (now («reader_places» .exit)) (now («log_sizes» .exit)) ≡ build (toBuild (session .kept) (session .evaluations) n m e (now (kinds .entry)) (now (makes .entry)) (now (params .entry)) (now (firsts .entry)) (now (counts .entry)) (now (vars .entry)) (now (coefs .entry)) (now (starts .entry)) (now (numbers .entry)) (now (order .entry)) (now (stored .entry)) (now («reader_starts» .entry)) (now («reader_places» .entry)) (now («log_sizes» .entry))) ⌝ }
 {
     let mut state = [0u16; 4096];
     let judged = judge_build(
@@ -49,6 +50,7 @@ pub fn build_core(
         stored,
         reader_starts,
         reader_places,
+        log_sizes,
         &mut state,
     );
     let Answer::Accepted { .. } = judged else {
@@ -75,6 +77,7 @@ pub fn build_core(
         stored,
         reader_starts,
         reader_places,
+        log_sizes,
     );
     let evaluations = m as u32;
     Done {

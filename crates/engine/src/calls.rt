@@ -1,6 +1,8 @@
 // The calls over a lent session record, and for callers that hold none.
 ghost use mathlib.Core.Path.{_≡_};
-ghost use Rattle.paper.specs.Calls.{build as built, trial as tried, keep as kept};
+ghost use lib.ListN.{replicate};
+ghost use Rattle.paper.specs.Log.{logIn};
+ghost use Rattle.paper.specs.Calls.{build as built, trial as tried, keep as kept, takeBack};
 ghost use Rattle.judges.specs.Lent.{toBuild, toModel, toTry, toKeep};
 ghost use Rattle.engine.specs.Left.{recordIn, leftByBuild, leftByTrial, leftByKeep};
 use crate::Done;
@@ -8,6 +10,7 @@ use crate::Session;
 use crate::building::build_core;
 use crate::counters::set_counts;
 use crate::keeping::keep_core;
+use crate::taking::take_back_core;
 use crate::trying::trial_core;
 use tables::Answer;
 
@@ -30,8 +33,9 @@ pub fn build(
     stored: &mut [i32],
     reader_starts: &mut [u16],
     reader_places: &mut [u16],
+    log_sizes: &mut [u16],
 ) -> Answer
-    ensures { λ r. ⌜ leftByBuild (record { answer = r; session = now (session .exit) }) (now (numbers .exit)) (now (order .exit)) (now (stored .exit)) (now («reader_starts» .exit)) (now («reader_places» .exit)) ≡ built (toBuild (now (session .entry) .kept) (now (session .entry) .evaluations) n m e (now (kinds .entry)) (now (makes .entry)) (now (params .entry)) (now (firsts .entry)) (now (counts .entry)) (now (vars .entry)) (now (coefs .entry)) (now (starts .entry)) (now (numbers .entry)) (now (order .entry)) (now (stored .entry)) (now («reader_starts» .entry)) (now («reader_places» .entry))) ⌝ }
+    ensures { λ r. ⌜ leftByBuild (record { answer = r; session = now (session .exit) }) (now (numbers .exit)) (now (order .exit)) (now (stored .exit)) (now («reader_starts» .exit)) (now («reader_places» .exit)) (now («log_sizes» .exit)) ≡ built (toBuild (now (session .entry) .kept) (now (session .entry) .evaluations) n m e (now (kinds .entry)) (now (makes .entry)) (now (params .entry)) (now (firsts .entry)) (now (counts .entry)) (now (vars .entry)) (now (coefs .entry)) (now (starts .entry)) (now (numbers .entry)) (now (order .entry)) (now (stored .entry)) (now («reader_starts» .entry)) (now («reader_places» .entry)) (now («log_sizes» .entry))) ⌝ }
 {
     let done = build_core(
         *session,
@@ -51,12 +55,13 @@ pub fn build(
         stored,
         reader_starts,
         reader_places,
+        log_sizes,
     );
     set_counts(session, done.session.kept, done.session.evaluations);
     done.answer
 }
 
-// Build over a record of its own: its parameters and result are plain, so who calls it needs no proof by hand.
+// Build over a record and a log of its own, for callers that keep no move.
 pub fn build_new(
     n: usize,
     m: usize,
@@ -75,14 +80,14 @@ pub fn build_new(
     reader_starts: &mut [u16],
     reader_places: &mut [u16],
 ) -> Done
-    ensures { λ r. ⌜ leftByBuild r (now (numbers .exit)) (now (order .exit)) (now (stored .exit)) (now («reader_starts» .exit)) (now («reader_places» .exit)) ≡ built (toBuild 0 0 n m e (now (kinds .entry)) (now (makes .entry)) (now (params .entry)) (now (firsts .entry)) (now (counts .entry)) (now (vars .entry)) (now (coefs .entry)) (now (starts .entry)) (now (numbers .entry)) (now (order .entry)) (now (stored .entry)) (now («reader_starts» .entry)) (now («reader_places» .entry))) ⌝ }
+    ensures { λ r. ⌜ leftByBuild r (now (numbers .exit)) (now (order .exit)) (now (stored .exit)) (now («reader_starts» .exit)) (now («reader_places» .exit)) (replicate 65 0) ≡ built (toBuild 0 0 n m e (now (kinds .entry)) (now (makes .entry)) (now (params .entry)) (now (firsts .entry)) (now (counts .entry)) (now (vars .entry)) (now (coefs .entry)) (now (starts .entry)) (now (numbers .entry)) (now (order .entry)) (now (stored .entry)) (now («reader_starts» .entry)) (now («reader_places» .entry)) (replicate 65 0)) ⌝ }
 {
-    let mut s = Session {
-        kept: 0,
-        evaluations: 0,
-    };
-    let answer = build(
-        &mut s,
+    let mut log_sizes = [0u16; 65];
+    build_core(
+        Session {
+            kept: 0,
+            evaluations: 0,
+        },
         n,
         m,
         e,
@@ -99,11 +104,8 @@ pub fn build_new(
         stored,
         reader_starts,
         reader_places,
-    );
-    Done {
-        answer: answer,
-        session: s,
-    }
+        &mut log_sizes,
+    )
 }
 
 // Trial: the asked values that a move would give, by one of three routes; the stored values stay.
@@ -189,8 +191,11 @@ pub fn keep(
     move_vars: &[u16],
     move_values: &[i32],
     flags: &mut [u8],
+    log_sizes: &mut [u16],
+    log_vars: &mut [u16],
+    log_values: &mut [i32],
 ) -> Answer
-    ensures { λ r. ⌜ leftByKeep (record { answer = r; session = now (session .exit) }) (now (stored .exit)) (now (flags .exit)) ≡ kept (recordIn (now (session .entry))) (toModel n m e (now (kinds .entry)) (now (makes .entry)) (now (params .entry)) (now (firsts .entry)) (now (counts .entry)) (now (vars .entry)) (now (coefs .entry)) (now (numbers .entry)) (now (order .entry)) (now (stored .entry)) (now («reader_starts» .entry)) (now («reader_places» .entry))) (toKeep pairs (now («move_vars» .entry)) (now («move_values» .entry)) (now (flags .entry))) ⌝ }
+    ensures { λ r. ⌜ leftByKeep (record { answer = r; session = now (session .exit) }) (now (stored .exit)) (now (flags .exit)) (now («log_sizes» .exit)) (now («log_vars» .exit)) (now («log_values» .exit)) ≡ kept (recordIn (now (session .entry))) (logIn (now («log_sizes» .entry)) (now («log_vars» .entry)) (now («log_values» .entry))) (toModel n m e (now (kinds .entry)) (now (makes .entry)) (now (params .entry)) (now (firsts .entry)) (now (counts .entry)) (now (vars .entry)) (now (coefs .entry)) (now (numbers .entry)) (now (order .entry)) (now (stored .entry)) (now («reader_starts» .entry)) (now («reader_places» .entry))) (toKeep pairs (now («move_vars» .entry)) (now («move_values» .entry)) (now (flags .entry))) ⌝ }
 {
     let done = keep_core(
         *session,
@@ -213,6 +218,60 @@ pub fn keep(
         move_vars,
         move_values,
         flags,
+        log_sizes,
+        log_vars,
+        log_values,
+    );
+    set_counts(session, done.session.kept, done.session.evaluations);
+    done.answer
+}
+
+// Taking back: the stored values become those before the latest kept move.
+pub fn take_back(
+    session: &mut Session,
+    n: usize,
+    m: usize,
+    e: usize,
+    kinds: &[u16],
+    makes: &[u16],
+    params: &[i32],
+    firsts: &[u16],
+    counts: &[u16],
+    vars: &[u16],
+    coefs: &[i16],
+    numbers: &[u16],
+    order: &[u16],
+    stored: &mut [i32],
+    reader_starts: &[u16],
+    reader_places: &[u16],
+    flags: &mut [u8],
+    log_sizes: &mut [u16],
+    log_vars: &[u16],
+    log_values: &[i32],
+) -> Answer
+    ensures { λ r. ⌜ leftByKeep (record { answer = r; session = now (session .exit) }) (now (stored .exit)) (now (flags .exit)) (now («log_sizes» .exit)) (now («log_vars» .entry)) (now («log_values» .entry)) ≡ takeBack (recordIn (now (session .entry))) (logIn (now («log_sizes» .entry)) (now («log_vars» .entry)) (now («log_values» .entry))) (toModel n m e (now (kinds .entry)) (now (makes .entry)) (now (params .entry)) (now (firsts .entry)) (now (counts .entry)) (now (vars .entry)) (now (coefs .entry)) (now (numbers .entry)) (now (order .entry)) (now (stored .entry)) (now («reader_starts» .entry)) (now («reader_places» .entry))) (now (flags .entry)) ⌝ }
+{
+    let done = take_back_core(
+        *session,
+        n,
+        m,
+        e,
+        kinds,
+        makes,
+        params,
+        firsts,
+        counts,
+        vars,
+        coefs,
+        numbers,
+        order,
+        stored,
+        reader_starts,
+        reader_places,
+        flags,
+        log_sizes,
+        log_vars,
+        log_values,
     );
     set_counts(session, done.session.kept, done.session.evaluations);
     done.answer

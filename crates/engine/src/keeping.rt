@@ -1,5 +1,6 @@
 // Keep: judged first, and written only once it is accepted.
 ghost use mathlib.Core.Path.{_≡_};
+ghost use Rattle.paper.specs.Log.{logIn};
 ghost use Rattle.paper.specs.Calls.{keep as kept};
 ghost use Rattle.judges.specs.Lent.{toModel, toKeep};
 ghost use Rattle.engine.specs.Left.{recordIn, leftByKeep};
@@ -7,6 +8,7 @@ use crate::Done;
 use crate::Session;
 use fills::fill_keep;
 use judges::judge_keep;
+use logs::note_move;
 use moves::kept_once_more;
 use tables::Answer;
 
@@ -32,10 +34,14 @@ pub fn keep_core(
     move_vars: &[u16],
     move_values: &[i32],
     flags: &mut [u8],
+    log_sizes: &mut [u16],
+    log_vars: &mut [u16],
+    log_values: &mut [i32],
 ) -> Done
-    ensures { λ r. ⌜ leftByKeep r (now (stored .exit)) (now (flags .exit)) ≡ kept (recordIn session) (toModel n m e (now (kinds .entry)) (now (makes .entry)) (now (params .entry)) (now (firsts .entry)) (now (counts .entry)) (now (vars .entry)) (now (coefs .entry)) (now (numbers .entry)) (now (order .entry)) (now (stored .entry)) (now («reader_starts» .entry)) (now («reader_places» .entry))) (toKeep pairs (now («move_vars» .entry)) (now («move_values» .entry)) (now (flags .entry))) ⌝ }
+    ensures { λ r. ⌜ leftByKeep r (now (stored .exit)) (now (flags .exit)) (now («log_sizes» .exit)) (now («log_vars» .exit)) (now («log_values» .exit)) ≡ kept (recordIn session) (logIn (now («log_sizes» .entry)) (now («log_vars» .entry)) (now («log_values» .entry))) (toModel n m e (now (kinds .entry)) (now (makes .entry)) (now (params .entry)) (now (firsts .entry)) (now (counts .entry)) (now (vars .entry)) (now (coefs .entry)) (now (numbers .entry)) (now (order .entry)) (now (stored .entry)) (now («reader_starts» .entry)) (now («reader_places» .entry))) (toKeep pairs (now («move_vars» .entry)) (now («move_values» .entry)) (now (flags .entry))) ⌝ }
 {
     let judged = judge_keep(
+        session.kept,
         n,
         m,
         e,
@@ -55,6 +61,9 @@ pub fn keep_core(
         move_vars,
         move_values,
         flags,
+        log_sizes,
+        log_vars,
+        log_values,
     );
     let Answer::Accepted { .. } = judged else {
         return Done {
@@ -62,6 +71,7 @@ pub fn keep_core(
             session: session,
         };
     };
+    note_move(stored, pairs, move_vars, log_sizes, log_vars, log_values);
     let evaluations = fill_keep(
         n,
         m,

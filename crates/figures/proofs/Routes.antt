@@ -46,8 +46,8 @@ same-number w asked mv r e =
 
 pub same-result : SameResult
 unfolding tried
-same-result b ok cs proper asked mv r z =
-    let w = modelOf (after b cs) (ownModel b) in let c = asking w asked r mv in
-    let alike = trial-alike (record { kept = 0; evaluations = 0 }) (after b cs .session) w c in
+same-result b ok room cs proper asked mv r z =
+    let w = modelOf (after b room cs) (ownModel b room) in let c = asking w asked r mv in
+    let alike = trial-alike (record { kept = 0; evaluations = 0 }) (after b room cs .session) w c in
     ap (λ (l : List ℤ). getD l 0 (pos 0))
-    (alike .1 ∙ demand3 b ok cs proper .trial-accepted c (sym (ap numberOf (alike .0)) ∙ z) .results)
+    (alike .1 ∙ demand3 b ok room cs proper .trial-accepted c (sym (ap numberOf (alike .0)) ∙ z) .results)

@@ -38,9 +38,9 @@ OrderChangesNothing =
 abbrev pub SameNumber : Type 0
 SameNumber = (w : Model) (asked : ℕ) (mv : Move) (r : ℕ) → between 1 r 3 ≡ true → tried w asked r mv .number ≡ tried w asked 1 mv .number
 
--- and over stored values that the calls left the same result: the fresh value of the asked variable
+-- and over stored values that the calls left the same result: the fresh value of the asked variable. `room` are the rows for the pairs of the log
 abbrev pub SameResult : Type 0
 SameResult =
-    (b : BuildLent) → numberOf (build b .answer) ≡ 0 → (cs : List Call) → Proper b cs
-    → (asked : ℕ) (mv : Move) (r : ℕ) → tried (modelOf (after b cs) (ownModel b)) asked r mv .number ≡ 0
-    → tried (modelOf (after b cs) (ownModel b)) asked r mv .result ≡ renewed b cs mv asked
+    (b : BuildLent) → numberOf (build b .answer) ≡ 0 → (room : List ℕ × List ℤ) (cs : List Call) → Proper b room cs
+    → (asked : ℕ) (mv : Move) (r : ℕ) → tried (modelOf (after b room cs) (ownModel b room)) asked r mv .number ≡ 0
+    → tried (modelOf (after b room cs) (ownModel b room)) asked r mv .result ≡ renewed b room cs mv asked

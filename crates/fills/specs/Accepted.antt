@@ -10,7 +10,7 @@ use lib.ListN.{length}
 use Rattle.paper.specs.Lists.{all, nat}
 use Rattle.paper.specs.Tables.{Tables, Index, indexIn, isMade}
 use Rattle.paper.specs.Checks.{accepted}
-use Rattle.paper.specs.Calls.{evaluationsOf, BuildLent, buildVerdict, Tried, TrialLeft, askedList, trialLeaves, Kept, KeepLeft, keepLeaves}
+use Rattle.paper.specs.Calls.{evaluationsOf, BuildLent, buildVerdict, Tried, TrialLeft, askedList, trialLeaves, Kept, keptCount, keptStored, keptFlags}
 use Rattle.order.specs.Formed.{bare}
 use Rattle.order.specs.Numbering.{Numbered}
 use Rattle.readers.specs.Index.{Indexed}
@@ -41,12 +41,9 @@ module _ (t : Tables) (ord : List ℕ) (x : Index) (stored : List ℤ) where
     pub asked : all (λ v. ltb v (t .n)) (askedList c) ≡ true
 
 module _ (t : Tables) (stored : List ℤ) where
-  -- what an accepted call leaves
+  -- what an accepted trial leaves
   abbrev pub trialLeft : Tried → TrialLeft
   trialLeft c = trialLeaves (record { tables = t; numbers = []; order = []; stored = stored; index = indexIn [] [] }) c (record { kept = 0; evaluations = 0 }) accepted
-
-  abbrev pub keepLeft : Kept → KeepLeft
-  keepLeft c = keepLeaves (record { tables = t; numbers = []; order = []; stored = stored; index = indexIn [] [] }) c (record { kept = 0; evaluations = 0 }) accepted
 
   -- the count and the rows are what it leaves
   pub record TrialFilled (c : Tried) (count : ℕ) (results trial : List ℤ) (flags : List ℕ) : Type 0 where
@@ -56,6 +53,6 @@ module _ (t : Tables) (stored : List ℤ) where
     pub flags-are : flags ≡ trialLeft c .flags
 
   pub record KeepFilled (c : Kept) (count : ℕ) (stored′ : List ℤ) (flags : List ℕ) : Type 0 where
-    pub count-is : count ≡ evaluationsOf (keepLeft c .answer)
-    pub stored-is : stored′ ≡ keepLeft c .stored
-    pub flags-are : flags ≡ keepLeft c .flags
+    pub count-is : count ≡ keptCount t stored c
+    pub stored-is : stored′ ≡ keptStored t stored c
+    pub flags-are : flags ≡ keptFlags t stored c

@@ -11,7 +11,7 @@ use order::write_order;
 use readers::write_readers;
 use routes::work_out;
 
-// Writes the numbers, the order, the index of readers, and every value.
+// Writes the numbers, the order, the index of readers and every value, and empties the log.
 pub fn fill_model(
     n: usize,
     m: usize,
@@ -30,12 +30,14 @@ pub fn fill_model(
     stored: &mut [i32],
     reader_starts: &mut [u16],
     reader_places: &mut [u16],
+    log_sizes: &mut [u16],
 )
-    requires { ⌜ Buildable (toBuild 0 0 n m e (now kinds) (now makes) (now params) (now firsts) (now counts) (now vars) (now coefs) (now starts) (now numbers) (now order) (now stored) (now «reader_starts») (now «reader_places»)) (now state) ⌝ }
-    ensures { λ _. ⌜ now (numbers .exit) ≡ buildLeaves (toBuild 0 0 n m e (now (kinds .entry)) (now (makes .entry)) (now (params .entry)) (now (firsts .entry)) (now (counts .entry)) (now (vars .entry)) (now (coefs .entry)) (now (starts .entry)) (now (numbers .entry)) (now (order .entry)) (now (stored .entry)) (now («reader_starts» .entry)) (now («reader_places» .entry))) accepted .numbers ⌝ }
-    ensures { λ _. ⌜ now (order .exit) ≡ buildLeaves (toBuild 0 0 n m e (now (kinds .entry)) (now (makes .entry)) (now (params .entry)) (now (firsts .entry)) (now (counts .entry)) (now (vars .entry)) (now (coefs .entry)) (now (starts .entry)) (now (numbers .entry)) (now (order .entry)) (now (stored .entry)) (now («reader_starts» .entry)) (now («reader_places» .entry))) accepted .order ⌝ }
-    ensures { λ _. ⌜ now (stored .exit) ≡ buildLeaves (toBuild 0 0 n m e (now (kinds .entry)) (now (makes .entry)) (now (params .entry)) (now (firsts .entry)) (now (counts .entry)) (now (vars .entry)) (now (coefs .entry)) (now (starts .entry)) (now (numbers .entry)) (now (order .entry)) (now (stored .entry)) (now («reader_starts» .entry)) (now («reader_places» .entry))) accepted .stored ⌝ }
-    ensures { λ _. ⌜ indexIn (now («reader_starts» .exit)) (now («reader_places» .exit)) ≡ buildLeaves (toBuild 0 0 n m e (now (kinds .entry)) (now (makes .entry)) (now (params .entry)) (now (firsts .entry)) (now (counts .entry)) (now (vars .entry)) (now (coefs .entry)) (now (starts .entry)) (now (numbers .entry)) (now (order .entry)) (now (stored .entry)) (now («reader_starts» .entry)) (now («reader_places» .entry))) accepted .index ⌝ }
+    requires { ⌜ Buildable (toBuild 0 0 n m e (now kinds) (now makes) (now params) (now firsts) (now counts) (now vars) (now coefs) (now starts) (now numbers) (now order) (now stored) (now «reader_starts») (now «reader_places») (now «log_sizes»)) (now state) ⌝ }
+    ensures { λ _. ⌜ now (numbers .exit) ≡ buildLeaves (toBuild 0 0 n m e (now (kinds .entry)) (now (makes .entry)) (now (params .entry)) (now (firsts .entry)) (now (counts .entry)) (now (vars .entry)) (now (coefs .entry)) (now (starts .entry)) (now (numbers .entry)) (now (order .entry)) (now (stored .entry)) (now («reader_starts» .entry)) (now («reader_places» .entry)) (now («log_sizes» .entry))) accepted .numbers ⌝ }
+    ensures { λ _. ⌜ now (order .exit) ≡ buildLeaves (toBuild 0 0 n m e (now (kinds .entry)) (now (makes .entry)) (now (params .entry)) (now (firsts .entry)) (now (counts .entry)) (now (vars .entry)) (now (coefs .entry)) (now (starts .entry)) (now (numbers .entry)) (now (order .entry)) (now (stored .entry)) (now («reader_starts» .entry)) (now («reader_places» .entry)) (now («log_sizes» .entry))) accepted .order ⌝ }
+    ensures { λ _. ⌜ now (stored .exit) ≡ buildLeaves (toBuild 0 0 n m e (now (kinds .entry)) (now (makes .entry)) (now (params .entry)) (now (firsts .entry)) (now (counts .entry)) (now (vars .entry)) (now (coefs .entry)) (now (starts .entry)) (now (numbers .entry)) (now (order .entry)) (now (stored .entry)) (now («reader_starts» .entry)) (now («reader_places» .entry)) (now («log_sizes» .entry))) accepted .stored ⌝ }
+    ensures { λ _. ⌜ indexIn (now («reader_starts» .exit)) (now («reader_places» .exit)) ≡ buildLeaves (toBuild 0 0 n m e (now (kinds .entry)) (now (makes .entry)) (now (params .entry)) (now (firsts .entry)) (now (counts .entry)) (now (vars .entry)) (now (coefs .entry)) (now (starts .entry)) (now (numbers .entry)) (now (order .entry)) (now (stored .entry)) (now («reader_starts» .entry)) (now («reader_places» .entry)) (now («log_sizes» .entry))) accepted .index ⌝ }
+    ensures { λ _. ⌜ now («log_sizes» .exit) ≡ buildLeaves (toBuild 0 0 n m e (now (kinds .entry)) (now (makes .entry)) (now (params .entry)) (now (firsts .entry)) (now (counts .entry)) (now (vars .entry)) (now (coefs .entry)) (now (starts .entry)) (now (numbers .entry)) (now (order .entry)) (now (stored .entry)) (now («reader_starts» .entry)) (now («reader_places» .entry)) (now («log_sizes» .entry))) accepted .logSizes ⌝ }
 {
     write_numbers(n, m, makes, firsts, counts, vars, state, numbers);
     write_order(n, m, makes, firsts, counts, vars, state, order);
@@ -55,4 +57,5 @@ pub fn fill_model(
         order,
         stored,
     );
+    log_sizes[0] = 0;
 }

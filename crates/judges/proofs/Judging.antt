@@ -28,7 +28,7 @@ module _ (l : BuildLent) where
   fromSix = check 6 (t .n) (ends t) (check 7 (t .n) (startGood t (startValues l)) accepted)
 
   -- the record plays no part
-  pub any-session : (s : Session) → buildVerdict l ≡ buildVerdict (record { session = s; tables = t; starts = l .starts; numbers = l .numbers; order = l .order; stored = l .stored; index = l .index })
+  pub any-session : (s : Session) → buildVerdict l ≡ buildVerdict (record { session = s; tables = t; starts = l .starts; numbers = l .numbers; order = l .order; stored = l .stored; index = l .index; logSizes = l .logSizes })
   unfolding buildVerdict
   any-session s = refl
 
@@ -44,6 +44,7 @@ module _ (l : BuildLent) where
     pub stored : t .n ≤ length (l .stored)
     pub index-starts : suc (t .n) ≤ length (l .index .starts)
     pub index-places : t .e ≤ length (l .index .places)
+    pub log : 65 ≤ length (l .logSizes)
 
   pub fitting : buildFits l ≡ true → Fitting
   fitting h =
@@ -56,6 +57,7 @@ module _ (l : BuildLent) where
         stored = leb-true _ _ (long .1 .1 .1 .0);
         index-starts = index-long t (l .index) (long .1 .1 .1 .1 .0) .0;
         index-places = index-long t (l .index) (long .1 .1 .1 .1 .0) .1;
+        log = leb-true _ _ (long .1 .1 .1 .1 .1 .0);
       }
 
   pub stops-1 : buildFits l ≡ false → buildVerdict l ≡ refused 1 0

@@ -6,6 +6,7 @@ use lib.Dec.{ltb}
 use Rattle.paper.specs.Lists.{nat, between}
 use Rattle.paper.specs.Tables.{Tables}
 use Rattle.paper.specs.Checks.{Verdict, accepted, check, require, moveChecks}
+use Rattle.paper.specs.Log.{Log, logGood}
 use Rattle.paper.specs.Calls.{BuildLent, buildVerdict, Model, modelChecks, Tried}
 use Rattle.tables.specs.Answers.{answerOf}
 use Rattle.tables.specs.Makers.{Makers}
@@ -26,3 +27,7 @@ pub record ModelJudged (w : Model) (by : List ℕ) (r : Answer) : Type 0 where
 -- checks 9 to 13 of a trial
 abbrev pub askChecks : Tried → Tables → Verdict
 askChecks c t = require 9 0 (between 1 (c .route) 3) (moveChecks (c .move) t (check 13 (c .asked) (λ i. ltb (nat (c .askedVars) i) (t .n)) accepted))
+
+-- check 16 of a log
+abbrev pub logChecks : Log → Tables → ℕ → Verdict → Verdict
+logChecks l t kept = require 16 0 (logGood l t kept)

@@ -5,9 +5,9 @@ use lib.IntN.{ℤ}
 use Rattle.paper.specs.Tables.{lent, indexIn}
 use Rattle.paper.specs.Calls.{BuildLent, Model, Tried, Kept}
 
--- to build: the record's two counters, the tables, start values, and the rows to fill
-abbrev pub toBuild : ℕ → ℕ → ℕ → ℕ → ℕ → List ℕ → List ℕ → List ℤ → List ℕ → List ℕ → List ℕ → List ℤ → List ℤ → List ℕ → List ℕ → List ℤ → List ℕ → List ℕ → BuildLent
-toBuild kept evaluations n m e kinds makes params firsts counts vars coefs starts numbers order stored readerStarts readerPlaces = record {
+-- to build: the record's two counters, the tables, start values, the rows to fill, and the sizes of the log
+abbrev pub toBuild : ℕ → ℕ → ℕ → ℕ → ℕ → List ℕ → List ℕ → List ℤ → List ℕ → List ℕ → List ℕ → List ℤ → List ℤ → List ℕ → List ℕ → List ℤ → List ℕ → List ℕ → List ℕ → BuildLent
+toBuild kept evaluations n m e kinds makes params firsts counts vars coefs starts numbers order stored readerStarts readerPlaces logSizes = record {
   session = record { kept = kept; evaluations = evaluations };
   tables = lent n m e kinds makes params firsts counts vars coefs;
   starts = starts;
@@ -15,9 +15,10 @@ toBuild kept evaluations n m e kinds makes params firsts counts vars coefs start
   order = order;
   stored = stored;
   index = indexIn readerStarts readerPlaces;
+  logSizes = logSizes;
 }
 
--- to trial and keep: the model
+-- to trial, keep and taking back: the model
 abbrev pub toModel : ℕ → ℕ → ℕ → List ℕ → List ℕ → List ℤ → List ℕ → List ℕ → List ℕ → List ℤ → List ℕ → List ℕ → List ℤ → List ℕ → List ℕ → Model
 toModel n m e kinds makes params firsts counts vars coefs numbers order stored readerStarts readerPlaces =
     record { tables = lent n m e kinds makes params firsts counts vars coefs; numbers = numbers; order = order; stored = stored; index = indexIn readerStarts readerPlaces }

@@ -4,7 +4,8 @@ ghost use mathlib.Core.Bool.{_&&_};
 ghost use mathlib.Core.Path.{_≡_};
 ghost use lib.Dec.{leb};
 ghost use lib.ListN.{length};
-ghost use Rattle.paper.specs.Calls.{buildFits, modelFits, trialFits, keepFits};
+ghost use Rattle.paper.specs.Log.{logIn, logFits};
+ghost use Rattle.paper.specs.Calls.{buildFits, modelFits, trialFits, keepFits, takeFits};
 ghost use Rattle.judges.specs.Lent.{toBuild, toModel, toTry, toKeep};
 use moves::move_sizes;
 use tables::sizes;
@@ -34,8 +35,9 @@ pub fn build_fits(
     stored: &[i32],
     reader_starts: &[u16],
     reader_places: &[u16],
+    log_sizes: &[u16],
 ) -> bool
-    ensures { λ r. ⌜ r ≡ buildFits (toBuild 0 0 n m e (now (kinds .entry)) (now (makes .entry)) (now (params .entry)) (now (firsts .entry)) (now (counts .entry)) (now (vars .entry)) (now (coefs .entry)) (now (starts .entry)) (now (numbers .entry)) (now (order .entry)) (now (stored .entry)) (now («reader_starts» .entry)) (now («reader_places» .entry))) ⌝ }
+    ensures { λ r. ⌜ r ≡ buildFits (toBuild 0 0 n m e (now (kinds .entry)) (now (makes .entry)) (now (params .entry)) (now (firsts .entry)) (now (counts .entry)) (now (vars .entry)) (now (coefs .entry)) (now (starts .entry)) (now (numbers .entry)) (now (order .entry)) (now (stored .entry)) (now («reader_starts» .entry)) (now («reader_places» .entry)) (now («log_sizes» .entry))) ⌝ }
 {
     sizes(
         n,
@@ -54,6 +56,7 @@ pub fn build_fits(
         & (m <= order.len())
         & (n <= stored.len())
         & index_fits(n, e, reader_starts, reader_places)
+        & (65 <= log_sizes.len())
 }
 
 // Check 1 of the model that trial and keep are lent.
@@ -148,6 +151,13 @@ pub fn trial_fits(
         & (n <= flags.len())
 }
 
+// Check 1 of a log: room for 64 moves of 64 pairs.
+fn log_fits(log_sizes: &[u16], log_vars: &[u16], log_values: &[i32]) -> bool
+    ensures { λ r. ⌜ r ≡ logFits (logIn (now («log_sizes» .entry)) (now («log_vars» .entry)) (now («log_values» .entry))) ⌝ }
+{
+    (65 <= log_sizes.len()) & (4096 <= log_vars.len()) & (4096 <= log_values.len())
+}
+
 // Check 1 of keep.
 pub fn keep_fits(
     n: usize,
@@ -169,8 +179,11 @@ pub fn keep_fits(
     move_vars: &[u16],
     move_values: &[i32],
     flags: &[u8],
+    log_sizes: &[u16],
+    log_vars: &[u16],
+    log_values: &[i32],
 ) -> bool
-    ensures { λ r. ⌜ r ≡ keepFits (toModel n m e (now (kinds .entry)) (now (makes .entry)) (now (params .entry)) (now (firsts .entry)) (now (counts .entry)) (now (vars .entry)) (now (coefs .entry)) (now (numbers .entry)) (now (order .entry)) (now (stored .entry)) (now («reader_starts» .entry)) (now («reader_places» .entry))) (toKeep pairs (now («move_vars» .entry)) (now («move_values» .entry)) (now (flags .entry))) ⌝ }
+    ensures { λ r. ⌜ r ≡ keepFits (logIn (now («log_sizes» .entry)) (now («log_vars» .entry)) (now («log_values» .entry))) (toModel n m e (now (kinds .entry)) (now (makes .entry)) (now (params .entry)) (now (firsts .entry)) (now (counts .entry)) (now (vars .entry)) (now (coefs .entry)) (now (numbers .entry)) (now (order .entry)) (now (stored .entry)) (now («reader_starts» .entry)) (now («reader_places» .entry))) (toKeep pairs (now («move_vars» .entry)) (now («move_values» .entry)) (now (flags .entry))) ⌝ }
 {
     model_fits(
         n,
@@ -191,4 +204,50 @@ pub fn keep_fits(
     )
         & move_sizes(pairs, move_vars, move_values)
         & (n <= flags.len())
+        & log_fits(log_sizes, log_vars, log_values)
+}
+
+// Check 1 of taking back.
+pub fn take_fits(
+    n: usize,
+    m: usize,
+    e: usize,
+    kinds: &[u16],
+    makes: &[u16],
+    params: &[i32],
+    firsts: &[u16],
+    counts: &[u16],
+    vars: &[u16],
+    coefs: &[i16],
+    numbers: &[u16],
+    order: &[u16],
+    stored: &[i32],
+    reader_starts: &[u16],
+    reader_places: &[u16],
+    flags: &[u8],
+    log_sizes: &[u16],
+    log_vars: &[u16],
+    log_values: &[i32],
+) -> bool
+    ensures { λ r. ⌜ r ≡ takeFits (logIn (now («log_sizes» .entry)) (now («log_vars» .entry)) (now («log_values» .entry))) (toModel n m e (now (kinds .entry)) (now (makes .entry)) (now (params .entry)) (now (firsts .entry)) (now (counts .entry)) (now (vars .entry)) (now (coefs .entry)) (now (numbers .entry)) (now (order .entry)) (now (stored .entry)) (now («reader_starts» .entry)) (now («reader_places» .entry))) (now (flags .entry)) ⌝ }
+{
+    model_fits(
+        n,
+        m,
+        e,
+        kinds,
+        makes,
+        params,
+        firsts,
+        counts,
+        vars,
+        coefs,
+        numbers,
+        order,
+        stored,
+        reader_starts,
+        reader_places,
+    )
+        & (n <= flags.len())
+        & log_fits(log_sizes, log_vars, log_values)
 }

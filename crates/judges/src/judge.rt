@@ -28,10 +28,11 @@ pub fn judge_build(
     stored: &[i32],
     reader_starts: &[u16],
     reader_places: &[u16],
+    log_sizes: &[u16],
     state: &mut [u16; 4096],
 ) -> Answer
     requires { ⌜ Clean 4096 (now state) ⌝ }
-    ensures { λ r. ⌜ BuildJudged (toBuild 0 0 n m e (now (kinds .entry)) (now (makes .entry)) (now (params .entry)) (now (firsts .entry)) (now (counts .entry)) (now (vars .entry)) (now (coefs .entry)) (now (starts .entry)) (now (numbers .entry)) (now (order .entry)) (now (stored .entry)) (now («reader_starts» .entry)) (now («reader_places» .entry))) (now (state .exit)) r ⌝ }
+    ensures { λ r. ⌜ BuildJudged (toBuild 0 0 n m e (now (kinds .entry)) (now (makes .entry)) (now (params .entry)) (now (firsts .entry)) (now (counts .entry)) (now (vars .entry)) (now (coefs .entry)) (now (starts .entry)) (now (numbers .entry)) (now (order .entry)) (now (stored .entry)) (now («reader_starts» .entry)) (now («reader_places» .entry)) (now («log_sizes» .entry))) (now (state .exit)) r ⌝ }
 {
     if !build_fits(
         n,
@@ -50,6 +51,7 @@ pub fn judge_build(
         stored,
         reader_starts,
         reader_places,
+        log_sizes,
     ) {
         return refused(1, 0);
     }

@@ -1,16 +1,22 @@
-// The verdicts of the two calls that take a move, before anything lent is written.
+// The verdicts of the calls that change values, before anything lent is written.
 ghost use mathlib.Core.List.{[]};
+ghost use mathlib.Core.Bool.{true};
 ghost use mathlib.Core.Path.{_≡_};
 ghost use Prim.Native.Nat.{_≤_};
+ghost use lib.Dec.{ltb};
 ghost use lib.ListN.{length};
-ghost use Rattle.paper.specs.Calls.{trialVerdict, keepVerdict};
+ghost use Rattle.paper.specs.Checks.{accepted, require, moveChecks};
+ghost use Rattle.paper.specs.Log.{logIn, logged, logFits};
+ghost use Rattle.paper.specs.Calls.{trialVerdict, keepVerdict, takeVerdict};
 ghost use Rattle.tables.specs.Answers.{answerOf};
-ghost use Rattle.moves.specs.Moves.{OfMakers};
+ghost use Rattle.moves.specs.Moves.{OfMakers, moveOf};
 ghost use Rattle.judges.specs.Lent.{toModel, toTry, toKeep};
-ghost use Rattle.judges.specs.Judged.{askChecks};
+ghost use Rattle.judges.specs.Judged.{askChecks, logChecks};
 use crate::fits::keep_fits;
+use crate::fits::take_fits;
 use crate::fits::trial_fits;
 use crate::model::model_checks;
+use logs::log_good;
 use moves::move_checks;
 use tables::Answer;
 use tables::first_unknown;
@@ -43,6 +49,54 @@ fn ask_checks(
         return refused(13, unknown);
     }
     moved
+}
+
+// Checks 10 to 12, and 16: the move and the log.
+fn keep_checks(
+    n: usize,
+    by: &[u16],
+    kept: u32,
+    pairs: usize,
+    move_vars: &[u16],
+    move_values: &[i32],
+    log_sizes: &[u16],
+    log_vars: &[u16],
+    log_values: &[i32],
+) -> Answer
+    requires { ⌜ (n ≤ length (now by)) × (pairs ≤ 64) × (pairs ≤ length (now «move_vars»)) × (pairs ≤ length (now «move_values»)) ⌝ }
+    requires { ⌜ logFits (logIn (now «log_sizes») (now «log_vars») (now «log_values»)) ≡ true ⌝ }
+    ensures { λ r. ⌜ OfMakers n (now (by .entry)) (λ t. r ≡ answerOf 0 (moveChecks (moveOf pairs (now («move_vars» .entry)) (now («move_values» .entry))) t (logChecks (logIn (now («log_sizes» .entry)) (now («log_vars» .entry)) (now («log_values» .entry))) t kept accepted))) ⌝ }
+{
+    let moved = move_checks(n, by, pairs, move_vars, move_values);
+    let Answer::Accepted { .. } = moved else {
+        return moved;
+    };
+    if !log_good(n, by, kept, log_sizes, log_vars, log_values) {
+        return refused(16, 0);
+    }
+    moved
+}
+
+// Checks 16 and 15: the log, and whether it holds a move.
+fn take_checks(
+    n: usize,
+    by: &[u16],
+    kept: u32,
+    log_sizes: &[u16],
+    log_vars: &[u16],
+    log_values: &[i32],
+) -> Answer
+    requires { ⌜ n ≤ length (now by) ⌝ }
+    requires { ⌜ logFits (logIn (now «log_sizes») (now «log_vars») (now «log_values»)) ≡ true ⌝ }
+    ensures { λ r. ⌜ OfMakers n (now (by .entry)) (λ t. r ≡ answerOf 0 (logChecks (logIn (now («log_sizes» .entry)) (now («log_vars» .entry)) (now («log_values» .entry))) t kept (require 15 0 (ltb 0 (logged (logIn (now («log_sizes» .entry)) (now («log_vars» .entry)) (now («log_values» .entry))))) accepted))) ⌝ }
+{
+    if !log_good(n, by, kept, log_sizes, log_vars, log_values) {
+        return refused(16, 0);
+    }
+    if log_sizes[0] == 0 {
+        return refused(15, 0);
+    }
+    Answer::Accepted { evaluations: 0 }
 }
 
 // The verdict of trial: checks 1 to 13 without 6, and 8 before 7.
@@ -136,8 +190,9 @@ pub fn judge_trial(
     )
 }
 
-// The verdict of keep: those of trial without 9 and 13.
+// The verdict of keep: those of trial without 9 and 13, and then 16.
 pub fn judge_keep(
+    kept: u32,
     n: usize,
     m: usize,
     e: usize,
@@ -157,8 +212,11 @@ pub fn judge_keep(
     move_vars: &[u16],
     move_values: &[i32],
     flags: &[u8],
+    log_sizes: &[u16],
+    log_vars: &[u16],
+    log_values: &[i32],
 ) -> Answer
-    ensures { λ r. ⌜ r ≡ answerOf 0 (keepVerdict (toModel n m e (now (kinds .entry)) (now (makes .entry)) (now (params .entry)) (now (firsts .entry)) (now (counts .entry)) (now (vars .entry)) (now (coefs .entry)) (now (numbers .entry)) (now (order .entry)) (now (stored .entry)) (now («reader_starts» .entry)) (now («reader_places» .entry))) (toKeep pairs (now («move_vars» .entry)) (now («move_values» .entry)) (now (flags .entry)))) ⌝ }
+    ensures { λ r. ⌜ r ≡ answerOf 0 (keepVerdict (record { kept = kept; evaluations = 0 }) (logIn (now («log_sizes» .entry)) (now («log_vars» .entry)) (now («log_values» .entry))) (toModel n m e (now (kinds .entry)) (now (makes .entry)) (now (params .entry)) (now (firsts .entry)) (now (counts .entry)) (now (vars .entry)) (now (coefs .entry)) (now (numbers .entry)) (now (order .entry)) (now (stored .entry)) (now («reader_starts» .entry)) (now («reader_places» .entry))) (toKeep pairs (now («move_vars» .entry)) (now («move_values» .entry)) (now (flags .entry)))) ⌝ }
 {
     if !keep_fits(
         n,
@@ -180,6 +238,9 @@ pub fn judge_keep(
         move_vars,
         move_values,
         flags,
+        log_sizes,
+        log_vars,
+        log_values,
     ) {
         return refused(1, 0);
     }
@@ -205,5 +266,88 @@ pub fn judge_keep(
     let Answer::Accepted { .. } = checked else {
         return checked;
     };
-    move_checks(n, &by, pairs, move_vars, move_values)
+    keep_checks(
+        n,
+        &by,
+        kept,
+        pairs,
+        move_vars,
+        move_values,
+        log_sizes,
+        log_vars,
+        log_values,
+    )
+}
+
+// The verdict of taking back: the model's checks, the log's, and then whether it holds a move.
+pub fn judge_take_back(
+    kept: u32,
+    n: usize,
+    m: usize,
+    e: usize,
+    kinds: &[u16],
+    makes: &[u16],
+    params: &[i32],
+    firsts: &[u16],
+    counts: &[u16],
+    vars: &[u16],
+    coefs: &[i16],
+    numbers: &[u16],
+    order: &[u16],
+    stored: &[i32],
+    reader_starts: &[u16],
+    reader_places: &[u16],
+    flags: &[u8],
+    log_sizes: &[u16],
+    log_vars: &[u16],
+    log_values: &[i32],
+) -> Answer
+    ensures { λ r. ⌜ r ≡ answerOf 0 (takeVerdict (record { kept = kept; evaluations = 0 }) (logIn (now («log_sizes» .entry)) (now («log_vars» .entry)) (now («log_values» .entry))) (toModel n m e (now (kinds .entry)) (now (makes .entry)) (now (params .entry)) (now (firsts .entry)) (now (counts .entry)) (now (vars .entry)) (now (coefs .entry)) (now (numbers .entry)) (now (order .entry)) (now (stored .entry)) (now («reader_starts» .entry)) (now («reader_places» .entry))) (now (flags .entry))) ⌝ }
+{
+    if !take_fits(
+        n,
+        m,
+        e,
+        kinds,
+        makes,
+        params,
+        firsts,
+        counts,
+        vars,
+        coefs,
+        numbers,
+        order,
+        stored,
+        reader_starts,
+        reader_places,
+        flags,
+        log_sizes,
+        log_vars,
+        log_values,
+    ) {
+        return refused(1, 0);
+    }
+    let mut by = [0u16; 4096];
+    let checked = model_checks(
+        n,
+        m,
+        e,
+        kinds,
+        makes,
+        params,
+        firsts,
+        counts,
+        vars,
+        coefs,
+        numbers,
+        order,
+        stored,
+        reader_starts,
+        reader_places,
+        &mut by,
+    );
+    let Answer::Accepted { .. } = checked else {
+        return checked;
+    };
+    take_checks(n, &by, kept, log_sizes, log_vars, log_values)
 }

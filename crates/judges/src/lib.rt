@@ -7,4 +7,5 @@ mod model;
 
 pub use judge::judge_build;
 pub use judge_moves::judge_keep;
+pub use judge_moves::judge_take_back;
 pub use judge_moves::judge_trial;

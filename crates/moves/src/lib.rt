@@ -10,6 +10,7 @@ mod value;
 pub use begin::begin_route;
 pub use copy::copy_asked;
 pub use copy::copy_values;
+pub use kept::kept_once_less;
 pub use kept::kept_once_more;
 pub use pair::first_blank;
 pub use pair::first_unmovable;

@@ -8,7 +8,7 @@ use mathlib.Core.List.{List, [], _∷_, _++_}
 use mathlib.Core.Path.{_≡_, refl, ap, ap₂, sym, _∙_}
 use lib.Dec.{eqb, ltb}
 use lib.ListN.{length, getD, take, drop, set, length-append, length-drop, length-set, take-append-drop, List·getD-append}
-use lib.Seq.{take-at, drop-at, take-suc, take-suc-set, drop-set-lt, getD-append-seam, set-append-left, getD-set-same, getD-set-other, ext-getD, getD-take, length-take-le}
+use lib.Seq.{take-at, drop-at, take-suc, take-suc-set, drop-set-lt, take-append-le, drop-append-le, getD-append-seam, set-append-left, getD-set-same, getD-set-other, ext-getD, getD-take, length-take-le}
 use borrow.Author.Tests.{ltb-true, ltb-false, eqb-true, eqb-false}
 use Rattle.paper.specs.Lists.{tally, size, below, over}
 use Rattle.paper.proofs.Lists.{tally-append}
@@ -39,6 +39,15 @@ module _ {A : Type 0} (f : ℕ → A) where
 pub below-list : {A : Type 0} (l : List A) (d : A) (n : ℕ) → n ≤ length l → below (λ i. getD l i d) n ≡ take n l
 below-list l d zero h = refl
 below-list l d (suc n) h = ap (_++ (getD l n d ∷ [])) (below-list l d n (omega arith)) ∙ sym (take-suc l n d h)
+
+-- what stands from k on does not show in a part that ends before it
+pub part-front : {A : Type 0} (l : List A) (a n k : ℕ) (rest : List A) → a + n ≤ k → k ≤ length l → take n (drop a (take k l ++ rest)) ≡ take n (drop a l)
+part-front l a n k rest h low = before rest ∙ sym (before (drop k l)) ∙ ap (λ z. take n (drop a z)) (take-append-drop k l)
+  where
+    before : (r : List _) → take n (drop a (take k l ++ r)) ≡ take n (drop a (take k l))
+    before r =
+        let q = length-take-le k l low in let p = length-drop a (take k l) in
+        ap (take n) (drop-append-le a (take k l) r (omega arith)) ∙ take-append-le n (drop a (take k l)) r (omega arith)
 
 -- ── a row with f over its first n places ──
 module _ {A : Type 0} (f : ℕ → A) (n : ℕ) (before : List A) where

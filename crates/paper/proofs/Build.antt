@@ -40,6 +40,7 @@ module _ (b : BuildLent) where
     stored = ap (λ (x : BuildLeft). x .stored) left;
     stored-meet = afresh-equation (net t) (lawful t) (t .n) (known .chains) (startValues b);
     session = ap (λ (x : BuildLeft). x .session) left;
+    empty = ap (λ (x : BuildLeft). x .logSizes) left;
     answer = ap (λ (x : BuildLeft). x .answer) left;
   }
     where

@@ -1,21 +1,23 @@
 -- What an accepted call knows of all that it was lent: each check as facts. Assumes nothing.
-use Prim.Native.Nat.{ℕ, zero, suc, _≤_, _<_}
+use Prim.Native.Nat.{ℕ, zero, suc, pred, _≤_, _<_}
 use native.Mathlib.Omega.{arith}
 use mathlib.Core.Bool.{Bool, true, false, _||_, false≢true}
-use mathlib.Core.List.{[], _∷_}
+use mathlib.Core.List.{List, [], _∷_}
 use mathlib.Core.Path.{_≡_, refl, sym, _∙_}
 use lib.IntN.{ℤ, pos}
 use lib.Dec.{eqb, ltb}
-use lib.ListN.{length, getD, take}
-use borrow.Author.Tests.{ltb-true, leb-true, eqb-true, not-true}
+use lib.ListN.{length, getD, take, length-drop}
+use borrow.Author.Tests.{ltb-true, leb-true, le-leb, eqb-true, not-true}
 use Rattle.integers.specs.Integers.{eqZ}
 use Rattle.paper.specs.Lists.{any, between, nat, below}
 use Rattle.paper.specs.Formula.{blank}
 use Rattle.paper.specs.Net.{able, number, names}
 use Rattle.paper.specs.Tables.{Tables, net, isMade, inputsOf, ends, order}
 use Rattle.paper.specs.Checks.{Verdict, accepted, sized, startGood, storedGood, numbered, indexed, Move, movePairs, moveFits, movable, namedOnce, hasValue, moveChecks, Sound}
-use Rattle.paper.specs.Calls.{BuildLent, indexFits, buildFits, startValues, buildVerdict, Model, modelFits, storedValues, modelChecks, Tried, trialFits, trialVerdict, Kept, keepFits, keepVerdict}
-use Rattle.paper.proofs.Lists.{and-left, and-right, each}
+use Rattle.paper.specs.Log.{Log, moveGood, logged, back, logFits, logGood}
+use Rattle.paper.specs.Calls.{Session, BuildLent, indexFits, buildFits, startValues, buildVerdict, Model, modelFits, storedValues, modelChecks, Tried, trialFits, trialVerdict, Kept, keepFits, keepVerdict, latest, takeFits, takeVerdict}
+use Rattle.paper.proofs.Lists.{and-left, and-right, each, all-yes}
+use Rattle.paper.proofs.Least.{allBelow-at}
 use Rattle.paper.proofs.Verdicts.{check-rest, check-held, require-rest, require-held}
 use Rattle.paper.proofs.Scan.{any-append}
 use Rattle.paper.proofs.Sizes.{sized-facts}
@@ -48,7 +50,7 @@ build-known b e =
       starts = check-held 7 (t .n) (startGood t (startValues b)) accepted (check-rest 6 (t .n) (ends t) _ (p .1));
     }
 
--- ── the model of a trial or keep: checks 1 to 5, 8 and 7 ──
+-- ── the model of a trial, keep or taking back: checks 1 to 5, 8 and 7 ──
 pub record ModelKnown (w : Model) : Type 0 where
   pub sound : Sound (w .tables)
   pub numbers-long : w .tables .n ≤ length (w .numbers)
@@ -132,7 +134,7 @@ named-below t mv k v e =
     let (i, l, r) = below-has (λ (p : ℕ × ℤ). eqb (p .0) v) (λ i. (nat (mv .vars) i, getD (mv .values) i (pos 0))) (mv .pairs) e in
     rw (eqb-true (nat (mv .vars) i) v r) at (k .low i l)
 
--- ── trial and keep ──
+-- ── trial ──
 pub record TrialKnown (w : Model) (c : Tried) : Type 0 where
   pub model : ModelKnown w
   pub route : between 1 (c .route) 3 ≡ true
@@ -155,13 +157,88 @@ trial-known w c e =
       asked = λ i k. ltb-true (nat (c .askedVars) i) n (check-held 13 (c .asked) (λ j. ltb (nat (c .askedVars) j) n) accepted (m .1) i k);
     }
 
-pub record KeepKnown (w : Model) (c : Kept) : Type 0 where
+-- ── a log: checks 1 and 16 ──
+-- it has these lengths
+pub record Long (l : Log) : Type 0 where
+  pub in-sizes : 65 ≤ length (l .sizes)
+  pub in-vars : 4096 ≤ length (l .vars)
+  pub in-values : 4096 ≤ length (l .values)
+
+pub fits-long : (l : Log) → logFits l ≡ true → Long l
+fits-long l fits = let long = each _ fits in record {
+  in-sizes = leb-true 65 (length (l .sizes)) (long .0);
+  in-vars = leb-true 4096 (length (l .vars)) (long .1 .0);
+  in-values = leb-true 4096 (length (l .values)) (long .1 .1 .0);
+}
+
+pub long-fits : (l : Log) → Long l → logFits l ≡ true
+long-fits l long = all-yes _ (le-leb 65 (length (l .sizes)) (long .in-sizes), (le-leb 4096 (length (l .vars)) (long .in-vars), (le-leb 4096 (length (l .values)) (long .in-values), tt)))
+
+-- it has room for 64 moves and not more than that or than the number kept, and each passes the checks of a move
+pub record LogKnown (l : Log) (t : Tables) (kept : ℕ) : Type 0 where
+  pub fits : logFits l ≡ true
+  pub few : logged l ≤ 64
+  pub low : logged l ≤ kept
+  pub moves : (k : ℕ) → k < logged l → MoveKnown t (back l k)
+
+-- what is good as a logged move has passed checks 10 to 12
+pub good-known : (t : Tables) (mv : Move) → moveGood t mv ≡ true → (mv .pairs ≤ 64 → (mv .pairs ≤ length (mv .vars)) × (mv .pairs ≤ length (mv .values))) → MoveKnown t mv
+good-known t mv good long =
+    let held = each _ good in
+    let most = leb-true (mv .pairs) 64 (held .0) in
+    let ten-at = allBelow-at (movable mv t) (mv .pairs) (held .1 .0) in
+    record {
+      few = most;
+      vars-long = long most .0;
+      values-long = long most .1;
+      low = λ i l. ltb-true (nat (mv .vars) i) (t .n) (and-left (ltb (nat (mv .vars) i) (t .n)) _ (ten-at i l));
+      search = λ i l. not-true (isMade t (nat (mv .vars) i)) (and-right (ltb (nat (mv .vars) i) (t .n)) _ (ten-at i l));
+      once = λ i l. not-true (any (eqb (nat (mv .vars) i)) (take i (mv .vars))) (allBelow-at (namedOnce mv) (mv .pairs) (held .1 .1 .0) i l);
+      full = λ i l. not-true (eqZ (getD (mv .values) i (pos 0)) blank) (allBelow-at (hasValue mv) (mv .pairs) (held .1 .1 .1 .0) i l);
+    }
+
+pub log-known : (l : Log) (t : Tables) (kept : ℕ) → logFits l ≡ true → logGood l t kept ≡ true → LogKnown l t kept
+log-known l t kept fits good =
+    let held = each _ good in let long = fits-long l fits in
+    let most = leb-true (logged l) 64 (held .0) in
+    record {
+      fits = fits;
+      few = most;
+      low = leb-true (logged l) kept (held .1 .0);
+      moves = λ k h. good-known t (back l k) (allBelow-at (λ j. moveGood t (back l j)) (logged l) (held .1 .1 .0) k h)
+          (λ p. (simp length-drop (omega arith), simp length-drop (omega arith)));
+    }
+
+pub record KeepKnown (s : Session) (l : Log) (w : Model) (c : Kept) : Type 0 where
   pub model : ModelKnown w
   pub move : MoveKnown (w .tables) (c .move)
+  pub log : LogKnown l (w .tables) (s .kept)
 
-pub keep-known : (w : Model) (c : Kept) → keepVerdict w c ≡ accepted → KeepKnown w c
+pub keep-known : (s : Session) (l : Log) (w : Model) (c : Kept) → keepVerdict s l w c ≡ accepted → KeepKnown s l w c
 unfolding keepVerdict
-keep-known w c e =
-    let fits = each _ (require-held 1 0 (keepFits w c) _ e) in
-    let a = model-known w _ (fits .0) (require-rest 1 0 (keepFits w c) _ e) in
-    record { model = a .0; move = move-known (w .tables) (c .move) accepted (fits .1 .0) (a .1) .0 }
+keep-known s l w c e =
+    let fits = each _ (require-held 1 0 (keepFits l w c) _ e) in
+    let a = model-known w _ (fits .0) (require-rest 1 0 (keepFits l w c) _ e) in
+    let b = move-known (w .tables) (c .move) _ (fits .1 .0) (a .1) in
+    record { model = a .0; move = b .0; log = log-known l (w .tables) (s .kept) (fits .1 .1 .1 .0) (require-held 16 0 (logGood l (w .tables) (s .kept)) accepted (b .1)) }
+
+pub record TakeKnown (s : Session) (l : Log) (w : Model) (flags : List ℕ) : Type 0 where
+  pub model : ModelKnown w
+  pub log : LogKnown l (w .tables) (s .kept)
+  pub some : 0 < logged l
+
+pub take-known : (s : Session) (l : Log) (w : Model) (flags : List ℕ) → takeVerdict s l w flags ≡ accepted → TakeKnown s l w flags
+unfolding takeVerdict
+take-known s l w flags e =
+    let fits = each _ (require-held 1 0 (takeFits l w flags) _ e) in
+    let a = model-known w _ (fits .0) (require-rest 1 0 (takeFits l w flags) _ e) in
+    let good = logGood l (w .tables) (s .kept) in
+    record {
+      model = a .0;
+      log = log-known l (w .tables) (s .kept) (fits .1 .1 .0) (require-held 16 0 good _ (a .1));
+      some = ltb-true 0 (logged l) (require-held 15 0 (ltb 0 (logged l)) accepted (require-rest 16 0 good _ (a .1)));
+    }
+
+-- the move that takes the latest back passes the checks of a move
+pub latest-known : (s : Session) (l : Log) (w : Model) (flags : List ℕ) → TakeKnown s l w flags → MoveKnown (w .tables) (latest l flags .move)
+latest-known s l w flags known = let some = known .some in known .log .moves (pred (logged l)) (omega arith)

@@ -21,8 +21,9 @@ pub mod Needed
 pub mod Known
 pub mod Outcomes
 pub mod Build
-pub mod Session
 pub mod Moves
+pub mod Log
+pub mod Session
 pub mod Windows
 pub mod Extreme
 pub mod Formulas

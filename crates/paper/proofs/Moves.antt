@@ -17,7 +17,8 @@ use Rattle.paper.specs.Formula.{blank}
 use Rattle.paper.specs.Net.{Net, Values, Route, input-to-output, able, new, moved, names}
 use Rattle.paper.specs.Tables.{Tables, net, isMade, valuesIn}
 use Rattle.paper.specs.Checks.{accepted, numbered, indexed, storedGood, Move, movePairs, moveFits, movable, namedOnce, hasValue}
-use Rattle.paper.specs.Calls.{newValues, Model, modelFits, storedValues, Kept, keepFits, keepVerdict}
+use Rattle.paper.specs.Log.{Log, logFits, logGood}
+use Rattle.paper.specs.Calls.{Session, newValues, Model, modelFits, storedValues, Kept, keptStored, keepFits, keepVerdict}
 use Rattle.paper.proofs.Lists.{clash, eqb-self, all-yes, any-at}
 use Rattle.paper.proofs.Buffers.{length-below, getD-below, over-length, over-front}
 use Rattle.paper.proofs.Scan.{any-append}
@@ -27,7 +28,7 @@ use Rattle.paper.proofs.Lawful.{Lawful, lawful}
 use Rattle.paper.proofs.Eight.{numbered-of}
 use Rattle.paper.proofs.Fresh.{unnamed}
 use Rattle.paper.proofs.Routes.{new-equation}
-use Rattle.paper.proofs.Known.{ModelKnown, MoveKnown, KeepKnown}
+use Rattle.paper.proofs.Known.{ModelKnown, MoveKnown}
 use Rattle.paper.specs.Moves.{pairAt, Has, Apart, AllPairs, joined}
 
 -- ── tests and pairs ──
@@ -39,7 +40,7 @@ any-none : {A : Type 0} (p : A → Bool) (xs : List A) (d : A) → ((i : ℕ) �
 any-none p [] d h = refl
 any-none p (x ∷ xs) d h = ap₂ _||_ (h 0 (omega arith)) (any-none p xs d (λ i l. h (suc i) (omega arith)))
 
-pair-same : {x y : ℕ} {p q : ℤ} → x ≡ y → p ≡ q → _≡_ {A = ℕ × ℤ} (x, p) (y, q)
+pub pair-same : {x y : ℕ} {p q : ℤ} → x ≡ y → p ≡ q → _≡_ {A = ℕ × ℤ} (x, p) (y, q)
 pair-same e h = λ i. (e i, h i)
 
 -- ── pairs put into values ──
@@ -107,7 +108,28 @@ named-has mv s v e = let (i, l, q) = moved-place (pairAt mv) (mv .pairs) s v e i
 has-names : (mv : Move) (p : ℕ × ℤ) → Has mv p → names (movePairs mv) (p .0) ≡ true
 has-names mv p h = subst (λ (q : ℕ × ℤ). names (movePairs mv) (q .0) ≡ true) (h .is) (names-place (pairAt mv) (mv .pairs) (h .place) (h .low))
 
+-- the move that takes one back: its variables, with the values before it
+abbrev pub undo : Values → Move → Move
+undo old mv = record { pairs = mv .pairs; vars = mv .vars; values = below (λ i. old (nat (mv .vars) i)) (mv .pairs) }
+
+-- it does take it back, where the values before it are those that it was put into
+pub taken-back : (mv : Move) (old s : Values) → ((i : ℕ) → i < mv .pairs → old (nat (mv .vars) i) ≡ s (nat (mv .vars) i))
+    → moved (movePairs (undo old mv)) (moved (movePairs mv) s) ≡ s
+taken-back mv old s same = fun-ext (λ v. go v (names (movePairs (undo old mv)) v) refl)
+  where
+    go : (v : ℕ) (x : Bool) → names (movePairs (undo old mv)) v ≡ x → moved (movePairs (undo old mv)) (moved (movePairs mv) s) v ≡ s v
+    go v true q =
+        let h = named-has (undo old mv) (moved (movePairs mv) s) v q in
+        sym (ap (λ (p : ℕ × ℤ). p .1) (h .is)) ∙ getD-below (λ i. old (nat (mv .vars) i)) (mv .pairs) (h .place) (pos 0) (h .low)
+        ∙ same (h .place) (h .low) ∙ ap (λ (p : ℕ × ℤ). s (p .0)) (h .is)
+    go v false q = unnamed (movePairs (undo old mv)) (moved (movePairs mv) s) v q ∙ unnamed (movePairs mv) s v (not-so (names (movePairs mv) v) (λ e.
+        let h = named-has mv s v e in
+        clash (subst (λ (p : ℕ × ℤ). names (movePairs (undo old mv)) (p .0) ≡ true) (h .is) (names-place (pairAt (undo old mv)) (mv .pairs) (h .place) (h .low))) q))
+
 module _ (t : Tables) (mv : Move) (known : MoveKnown t mv) where
+  pub movable-at : (i : ℕ) → i < mv .pairs → movable mv t i ≡ true
+  movable-at i l = ap₂ _&&_ (lt-ltb (nat (mv .vars) i) (t .n) (known .low i l)) (ap not (known .search i l))
+
   -- an accepted move names each variable at one place
   earlier : (i k : ℕ) → i < k → k < mv .pairs → nat (mv .vars) i ≡ nat (mv .vars) k → ⊥
   earlier i k l h e =
@@ -245,17 +267,19 @@ module _ (t : Tables) (a b : Move) (known-a : MoveKnown t a) (known-b : MoveKnow
           (sym (ap (λ (p : ℕ × ℤ). p .0) (later-at i z (omega arith))) ∙ e ∙ ap (λ (p : ℕ × ℤ). p .0) (later-at k y h))
 
 -- ── what is accepted ──
--- a keep whose model and move pass their checks
-pub keep-accepts : (w : Model) (c : Kept) → ModelKnown w → MoveKnown (w .tables) (c .move) → w .tables .n ≤ length (c .flags) → keepVerdict w c ≡ accepted
+-- a keep whose model, move and log pass their checks
+pub keep-accepts : (s : Session) (g : Log) (w : Model) (c : Kept) → ModelKnown w → MoveKnown (w .tables) (c .move) → w .tables .n ≤ length (c .flags)
+    → logFits g ≡ true → logGood g (w .tables) (s .kept) ≡ true → keepVerdict s g w c ≡ accepted
 unfolding keepVerdict
-keep-accepts w c model move room = let t = w .tables in let mv = c .move in
-    require-next 1 0 (keepFits w c) _ fits ∙ tables-next t (model .sound) _
+keep-accepts s g w c model move room log-fits log-good = let t = w .tables in let mv = c .move in
+    require-next 1 0 (keepFits g w c) _ fits ∙ tables-next t (model .sound) _
     ∙ require-next 8 0 (numbered t (w .numbers) (w .order)) _ (numbered-of t (w .numbers) (w .order) (λ v l. model .chains v) (model .numbers-are) (model .order-is))
     ∙ require-next 8 0 (indexed t (w .index)) _ (model .index-is)
     ∙ check-next 7 (t .n) (storedGood t (storedValues w)) _ (model .stored)
-    ∙ check-next 10 (mv .pairs) (movable mv t) _ (λ i l. ap₂ _&&_ (lt-ltb (nat (mv .vars) i) (t .n) (move .low i l)) (ap not (move .search i l)))
+    ∙ check-next 10 (mv .pairs) (movable mv t) _ (movable-at t mv move)
     ∙ check-next 11 (mv .pairs) (namedOnce mv) _ (λ i l. ap not (move .once i l))
-    ∙ check-next 12 (mv .pairs) (hasValue mv) accepted (λ i l. ap not (move .full i l))
+    ∙ check-next 12 (mv .pairs) (hasValue mv) _ (λ i l. ap not (move .full i l))
+    ∙ require-next 16 0 (logGood g t (s .kept)) accepted log-good
   where
     model-fits : modelFits w ≡ true
     model-fits = ap₂ _&&_ (model .sound .sized) (all-yes _ (le-leb _ _ (model .numbers-long), (le-leb _ _ (model .order-long), (le-leb _ _ (model .stored-long), (model .index-fits, tt)))))
@@ -263,19 +287,16 @@ keep-accepts w c model move room = let t = w .tables in let mv = c .move in
     move-fits : moveFits (c .move) ≡ true
     move-fits = all-yes _ (le-leb _ _ (move .few), (le-leb _ _ (move .vars-long), (le-leb _ _ (move .values-long), tt)))
 
-    fits : keepFits w c ≡ true
-    fits = all-yes _ (model-fits, (move-fits, (le-leb _ _ room, tt)))
+    fits : keepFits g w c ≡ true
+    fits = all-yes _ (model-fits, (move-fits, (le-leb _ _ room, (log-fits, tt))))
 
 -- route 1 leaves a search variable with the move's value
 new-search : (N : Net) (L : Lawful N) (k : ℕ) → ((v : ℕ) → able (N .ins) k v ≡ true) → (r : Route) (old s : Values) (v : ℕ) → N .made v ≡ false → new N r old s k v ≡ s v
 new-search N L k ends r old s v e = new-equation N L k ends r old s v ∙ rw e
 
 -- the model as an accepted keep leaves it passes the same checks
-abbrev pub rowKept : (w : Model) (c : Kept) → List ℤ
-rowKept w c = over (w .tables .n) (newValues (w .tables) (storedValues w) input-to-output (movePairs (c .move)) []) (w .stored)
-
-pub keep-leaves-known : (w : Model) (c : Kept) → KeepKnown w c → ModelKnown (record { tables = w .tables; numbers = w .numbers; order = w .order; stored = rowKept w c; index = w .index })
-keep-leaves-known w c known = let m = known .model in record {
+pub keep-leaves-known : (w : Model) (c : Kept) → ModelKnown w → MoveKnown (w .tables) (c .move) → ModelKnown (record { tables = w .tables; numbers = w .numbers; order = w .order; stored = keptStored (w .tables) (w .stored) c; index = w .index })
+keep-leaves-known w c m move = record {
   sound = m .sound;
   numbers-long = m .numbers-long;
   order-long = m .order-long;
@@ -300,20 +321,20 @@ keep-leaves-known w c known = let m = known .model in record {
     f : Values
     f = newValues (w .tables) (storedValues w) input-to-output (movePairs (c .move)) []
 
-    value-at : (v : ℕ) → v < w .tables .n → valuesIn (w .tables) (rowKept w c) v ≡ f v
+    value-at : (v : ℕ) → v < w .tables .n → valuesIn (w .tables) (keptStored (w .tables) (w .stored) c) v ≡ f v
     value-at v l = ap (λ (row : List ℤ). getD row v (pos 0)) (over-front f (w .tables .n) (w .stored)) ∙ getD-below f (w .tables .n) v (pos 0) l
 
-    rest : (m z : Bool) → m ≡ false → (m || not z) ≡ true → z ≡ false
+    rest : (x z : Bool) → x ≡ false → (x || not z) ≡ true → z ≡ false
     rest true z e h = absurd (true≢false e)
     rest false z e h = not-true z h
 
     full : (v : ℕ) → v < w .tables .n → isMade (w .tables) v ≡ false → (x : Bool) → names (movePairs (c .move)) v ≡ x → eqZ (moved (movePairs (c .move)) (storedValues w) v) blank ≡ false
     full v l e true q = let h = named-has (c .move) old v q in
-        subst (λ (p : ℕ × ℤ). eqZ (p .1) blank ≡ false) (h .is) (known .move .full (h .place) (h .low))
-    full v l e false q = ap (λ z. eqZ z blank) (unnamed mv old v q) ∙ rest (isMade t v) (eqZ (old v) blank) e (known .model .stored v l)
+        subst (λ (p : ℕ × ℤ). eqZ (p .1) blank ≡ false) (h .is) (move .full (h .place) (h .low))
+    full v l e false q = ap (λ z. eqZ z blank) (unnamed mv old v q) ∙ rest (isMade t v) (eqZ (old v) blank) e (m .stored v l)
 
-    good : (v : ℕ) → v < w .tables .n → (x : Bool) → isMade (w .tables) v ≡ x → storedGood (w .tables) (valuesIn (w .tables) (rowKept w c)) v ≡ true
-    good v l true e = ap (λ b. b || not (eqZ (valuesIn t (rowKept w c) v) blank)) e
+    good : (v : ℕ) → v < w .tables .n → (x : Bool) → isMade (w .tables) v ≡ x → storedGood (w .tables) (valuesIn (w .tables) (keptStored (w .tables) (w .stored) c)) v ≡ true
+    good v l true e = ap (λ b. b || not (eqZ (valuesIn t (keptStored (w .tables) (w .stored) c) v) blank)) e
     good v l false e =
-        ap₂ (λ b z. b || not (eqZ z blank)) e (value-at v l ∙ new-search (net t) (lawful t) (t .n) (known .model .chains) input-to-output old (moved mv old) v e)
+        ap₂ (λ b z. b || not (eqZ z blank)) e (value-at v l ∙ new-search (net t) (lawful t) (t .n) (m .chains) input-to-output old (moved mv old) v e)
         ∙ ap not (full v l e (names mv v) refl)

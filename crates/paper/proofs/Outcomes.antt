@@ -2,18 +2,20 @@
 -- program meets a call's equation by its verdict and field by field. Assumes nothing.
 use Prim.Native.Nat.{ℕ, suc, pred}
 use native.Mathlib.Omega.{arith}
-use mathlib.Core.Bool.{Bool, true, false, cond, not, _&&_}
+use mathlib.Core.Bool.{Bool, true, false, cond, not, _&&_, _||_}
+use mathlib.Core.List.{List}
 use mathlib.Core.Path.{_≡_, refl, ap, sym, _∙_}
 use lib.Dec.{eqb, leb, ltb}
 use lib.ListN.{take}
 use Rattle.paper.specs.Lists.{between, total, nat, firstFail}
 use Rattle.paper.specs.Tables.{Tables, ends}
 use Rattle.paper.specs.Checks.{Verdict, accepted, refused, check, require, kindGood, shapeGood, numberGood, madeOnce, tableChecks, startGood, storedGood, numbered, indexed, Move, movable, namedOnce, hasValue, moveChecks}
-use Rattle.paper.specs.Calls.{Session, Answer, numberOf, BuildLent, BuildLeft, buildFits, startValues, buildVerdict, buildLeaves, build, Model, storedValues, modelChecks, Tried, TrialLeft, trialFits, trialVerdict, trialLeaves, trial, Kept, KeepLeft, keepFits, keepVerdict, keepLeaves, keep}
+use Rattle.paper.specs.Log.{Log, logged, logGood}
+use Rattle.paper.specs.Calls.{Session, Answer, numberOf, BuildLent, BuildLeft, buildFits, startValues, buildVerdict, buildLeaves, build, Model, storedValues, modelChecks, Tried, TrialLeft, trialFits, trialVerdict, trialLeaves, trial, Kept, KeepLeft, keepFits, keepVerdict, keepLeaves, keep, takeFits, takeVerdict, takeLeaves, takeBack}
 use Rattle.paper.specs.Demands.{buildAsWas, trialAsWas, keepAsWas}
 use Rattle.paper.proofs.Verdicts.{refused-not}
 
--- build gives 1 to 7; trial all of 1 to 13 but 6; keep the same except 9 and 13
+-- build gives 1 to 7; trial all of 1 to 13 but 6; keep the same except 9 and 13, and 16; taking back 1 to 8 but 6, 15 and 16
 abbrev pub buildNumber : ℕ → Bool
 buildNumber code = leb code 7
 
@@ -21,7 +23,10 @@ abbrev pub trialNumber : ℕ → Bool
 trialNumber code = leb code 13 && not (eqb code 6)
 
 abbrev pub keepNumber : ℕ → Bool
-keepNumber code = leb code 13 && not (eqb code 6) && not (eqb code 9) && not (eqb code 13)
+keepNumber code = (leb code 12 && not (eqb code 6) && not (eqb code 9)) || eqb code 16
+
+abbrev pub takeNumber : ℕ → Bool
+takeNumber code = (leb code 8 && not (eqb code 6)) || eqb code 15 || eqb code 16
 
 -- ── which numbers a verdict gives: never 0 if it refuses ──
 data Gives (ok : ℕ → Bool) : Verdict → Type 0 where
@@ -50,7 +55,7 @@ unfolding buildVerdict
 build-gives l = let t = l .tables in let ok = buildNumber in
     lacks ok 0 0 (buildFits l) refl (tables-give ok t refl refl refl refl (fails ok 5 (t .n) (ends t) refl (fails ok 6 (t .n) (startGood t (startValues l)) refl passed)))
 
--- trial and keep: the same checks of model and move
+-- trial, keep and taking back: the same checks of model and move
 module _ (ok : ℕ → Bool) where
   model-gives : (w : Model) {next : Verdict} → ok 2 ≡ true → ok 3 ≡ true → ok 4 ≡ true → ok 5 ≡ true → ok 8 ≡ true → ok 7 ≡ true → Gives ok next → Gives ok (modelChecks w next)
   model-gives w o₂ o₃ o₄ o₅ o₈ o₇ h = let t = w .tables in
@@ -65,10 +70,17 @@ trial-gives w c = let ok = trialNumber in
     lacks ok 0 0 (trialFits w c) refl (model-gives ok w refl refl refl refl refl refl (lacks ok 8 0 (between 1 (c .route) 3) refl
     (move-gives ok (w .tables) (c .move) refl refl refl (fails ok 12 (c .asked) (λ i. ltb (nat (c .askedVars) i) (w .tables .n)) refl passed))))
 
-keep-gives : (w : Model) (c : Kept) → Gives keepNumber (keepVerdict w c)
+keep-gives : (s : Session) (l : Log) (w : Model) (c : Kept) → Gives keepNumber (keepVerdict s l w c)
 unfolding keepVerdict
-keep-gives w c = let ok = keepNumber in
-    lacks ok 0 0 (keepFits w c) refl (model-gives ok w refl refl refl refl refl refl (move-gives ok (w .tables) (c .move) refl refl refl passed))
+keep-gives s l w c = let ok = keepNumber in
+    lacks ok 0 0 (keepFits l w c) refl (model-gives ok w refl refl refl refl refl refl
+    (move-gives ok (w .tables) (c .move) refl refl refl (lacks ok 15 0 (logGood l (w .tables) (s .kept)) refl passed)))
+
+take-gives : (s : Session) (l : Log) (w : Model) (flags : List ℕ) → Gives takeNumber (takeVerdict s l w flags)
+unfolding takeVerdict
+take-gives s l w flags = let ok = takeNumber in
+    lacks ok 0 0 (takeFits l w flags) refl (model-gives ok w refl refl refl refl refl refl
+    (lacks ok 15 0 (logGood l (w .tables) (s .kept)) refl (lacks ok 14 0 (ltb 0 (logged l)) refl passed)))
 
 -- ── what holds of every call: x is what it leaves, by its verdict v ──
 pub record Judged {Left : Type 0} (answer : Left → Answer) (left : Verdict → Left) (asWas : Answer → Left) (ok : ℕ → Bool) (v : Verdict) (x : Left) : Type 0 where
@@ -108,22 +120,40 @@ pub trial-judged : (s : Session) (w : Model) (c : Tried) → Judged (λ (x : Tri
 unfolding trial
 trial-judged s w c = judge (λ (x : TrialLeft). x .answer) (trialLeaves w c s) (trialAsWas s c) trialNumber (trialVerdict w c) refl (trial-gives w c) refl (λ code place. refl) (λ code place. refl)
 
-pub keep-judged : (s : Session) (w : Model) (c : Kept) → Judged (λ (x : KeepLeft). x .answer) (keepLeaves w c s) (keepAsWas s w c) keepNumber (keepVerdict w c) (keep s w c)
-unfolding keep
-keep-judged s w c = judge (λ (x : KeepLeft). x .answer) (keepLeaves w c s) (keepAsWas s w c) keepNumber (keepVerdict w c) refl (keep-gives w c) refl (λ code place. refl) (λ code place. refl)
+module _ (s : Session) (l : Log) (w : Model) where
+  pub keep-judged : (c : Kept) → Judged (λ (x : KeepLeft). x .answer) (keepLeaves s l w c) (keepAsWas s l w (c .flags)) keepNumber (keepVerdict s l w c) (keep s l w c)
+  unfolding keep
+  keep-judged c =
+      judge (λ (x : KeepLeft). x .answer) (keepLeaves s l w c) (keepAsWas s l w (c .flags)) keepNumber (keepVerdict s l w c) refl (keep-gives s l w c) refl (λ code place. refl) (λ code place. refl)
+
+  pub take-judged : (flags : List ℕ) → Judged (λ (x : KeepLeft). x .answer) (takeLeaves s l w flags) (keepAsWas s l w flags) takeNumber (takeVerdict s l w flags) (takeBack s l w flags)
+  unfolding takeBack
+  take-judged flags =
+      judge (λ (x : KeepLeft). x .answer) (takeLeaves s l w flags) (keepAsWas s l w flags) takeNumber (takeVerdict s l w flags) refl (take-gives s l w flags) refl (λ code place. refl) (λ code place. refl)
 
 -- ── how a program meets a call's equation: by its verdict, and field by field ──
 pub build-meets : (l : BuildLent) (x : BuildLeft) (v : Verdict) → buildVerdict l ≡ v
     → x .answer ≡ buildLeaves l v .answer → x .session ≡ buildLeaves l v .session → x .numbers ≡ buildLeaves l v .numbers
-    → x .order ≡ buildLeaves l v .order → x .stored ≡ buildLeaves l v .stored → x .index ≡ buildLeaves l v .index → x ≡ build l
-build-meets l x v e a s n o w k = (λ i. record { answer = a i; session = s i; numbers = n i; order = o i; stored = w i; index = k i }) ∙ sym (build-judged l .is v e)
+    → x .order ≡ buildLeaves l v .order → x .stored ≡ buildLeaves l v .stored → x .index ≡ buildLeaves l v .index
+    → x .logSizes ≡ buildLeaves l v .logSizes → x ≡ build l
+build-meets l x v e a s n o w k g = (λ i. record { answer = a i; session = s i; numbers = n i; order = o i; stored = w i; index = k i; logSizes = g i }) ∙ sym (build-judged l .is v e)
 
 pub trial-meets : (s : Session) (w : Model) (c : Tried) (x : TrialLeft) (v : Verdict) → trialVerdict w c ≡ v
     → x .answer ≡ trialLeaves w c s v .answer → x .session ≡ trialLeaves w c s v .session → x .results ≡ trialLeaves w c s v .results
     → x .trial ≡ trialLeaves w c s v .trial → x .flags ≡ trialLeaves w c s v .flags → x ≡ trial s w c
 trial-meets s w c x v e a z r t f = (λ i. record { answer = a i; session = z i; results = r i; trial = t i; flags = f i }) ∙ sym (trial-judged s w c .is v e)
 
-pub keep-meets : (s : Session) (w : Model) (c : Kept) (x : KeepLeft) (v : Verdict) → keepVerdict w c ≡ v
-    → x .answer ≡ keepLeaves w c s v .answer → x .session ≡ keepLeaves w c s v .session → x .stored ≡ keepLeaves w c s v .stored
-    → x .flags ≡ keepLeaves w c s v .flags → x ≡ keep s w c
-keep-meets s w c x v e a z t f = (λ i. record { answer = a i; session = z i; stored = t i; flags = f i }) ∙ sym (keep-judged s w c .is v e)
+-- of keep and taking back
+same-left : (x y : KeepLeft) → x .answer ≡ y .answer → x .session ≡ y .session → x .stored ≡ y .stored → x .flags ≡ y .flags → x .log ≡ y .log → x ≡ y
+same-left x y a z t f g = λ i. record { answer = a i; session = z i; stored = t i; flags = f i; log = g i }
+
+module _ (s : Session) (l : Log) (w : Model) (x : KeepLeft) (v : Verdict) where
+  pub keep-meets : (c : Kept) → keepVerdict s l w c ≡ v
+      → x .answer ≡ keepLeaves s l w c v .answer → x .session ≡ keepLeaves s l w c v .session → x .stored ≡ keepLeaves s l w c v .stored
+      → x .flags ≡ keepLeaves s l w c v .flags → x .log ≡ keepLeaves s l w c v .log → x ≡ keep s l w c
+  keep-meets c e a z t f g = same-left x (keepLeaves s l w c v) a z t f g ∙ sym (keep-judged s l w c .is v e)
+
+  pub take-meets : (flags : List ℕ) → takeVerdict s l w flags ≡ v
+      → x .answer ≡ takeLeaves s l w flags v .answer → x .session ≡ takeLeaves s l w flags v .session → x .stored ≡ takeLeaves s l w flags v .stored
+      → x .flags ≡ takeLeaves s l w flags v .flags → x .log ≡ takeLeaves s l w flags v .log → x ≡ takeBack s l w flags
+  take-meets flags e a z t f g = same-left x (takeLeaves s l w flags v) a z t f g ∙ sym (take-judged s l w flags .is v e)

@@ -1,33 +1,58 @@
--- Demand 3: after an accepted build, over any run of trials and keeps, each keep puts its move into the search values and leaves fresh ones, a
--- trial works over them and leaves them, and a refused call leaves everything. Assumes nothing.
-use Prim.Native.Nat.{ℕ, suc, min, _≤_}
+-- Demand 3: after an accepted build, over any run of trials, keeps and takings back, each keep puts its move into the search values and each
+-- taking back takes the latest out again, both leave fresh values, a trial works over them and leaves them, and a refused call leaves everything.
+-- Assumes nothing.
+use Prim.Native.Nat.{ℕ, suc, pred, min, _≤_, _<_}
 use native.Mathlib.Nat.{lt-irrefl}
 use native.Mathlib.Omega.{arith}
-use mathlib.Core.Bool.{Bool, true, false, cond, _||_}
+use mathlib.Core.Bool.{Bool, true, false, cond, not, _||_}
 use mathlib.Core.List.{List, [], _∷_}
-use mathlib.Core.Path.{_≡_, refl, ap, ap₂, sym, _∙_, fun-ext, subst, subst⁻¹}
+use mathlib.Core.Path.{_≡_, refl, ap, sym, _∙_, fun-ext, subst, subst⁻¹}
 use lib.IntN.{ℤ, pos}
 use lib.Dec.{eqb, ltb}
-use lib.ListN.{length, getD, take, length-take, List·getD-eq-default}
-use borrow.Author.Tests.{ltb-true, ltb-false}
+use lib.ListN.{length, getD, set, take, length-take, List·getD-eq-default}
+use lib.Seq.{getD-set-same}
+use borrow.Author.Tests.{ltb-true, ltb-false, leb-true, not-true}
+use Rattle.integers.specs.Integers.{eqZ}
 use Rattle.paper.specs.Lists.{tally, nat, size, below, over}
+use Rattle.paper.specs.Formula.{blank}
 use Rattle.paper.specs.Net.{Net, Values, Route, input-to-output, afresh, new, moved, names, evaluated}
 use Rattle.paper.specs.Tables.{Tables, net, isMade, valuesIn}
-use Rattle.paper.specs.Checks.{Verdict, accepted, refused, leaves, movePairs}
-use Rattle.paper.specs.Calls.{Session, numberOf, evaluationsOf, newValues, evaluates, BuildLent, BuildLeft, startValues, build, Model, Tried, TrialLeft, askedList, routeOf, trialVerdict, trialLeaves, trial, Kept, KeepLeft, keepVerdict, keepLeaves, keep}
-use Rattle.paper.specs.Demands.{evaluatedBy, Row, own, another, Lends, Call, tries, keeps, State, rowLent, rowAfter, modelOf, verdictOf, lendsOf, step, keptBy, applied, ownModel, fresh, after, history, Proper, old, renewed, tried, triedSet, TrialRight, kept, KeepRight, Told, Demand3}
+use Rattle.paper.specs.Checks.{Verdict, accepted, refused, leaves, sized, movePairs}
+use Rattle.paper.specs.Log.{Log, logIn, logged, back, logGood, dropped}
+use Rattle.paper.specs.Calls.{Answer, Refused, numberOf, evaluationsOf, newValues, evaluates, BuildLent, BuildLeft, startValues, build, Model, Tried, TrialLeft, askedList, routeOf, trialVerdict, trialLeaves, trial, Kept, KeepLeft, storedValues, keptStored, keepVerdict, keepLeaves, keep, latest, takeVerdict, takeLeaves, takeBack}
+use Rattle.paper.specs.Demands.{keepAsWas, evaluatedBy, Lent, own, another, Lends, Call, tries, keeps, takes, State, lentOf, ownAfter, rest, modelOf, verdictOf, lendsOf, logOf, passedOn, step, standing, applied, ownModel, fresh, after, history, Proper, old, renewed, tried, triedSet, TrialRight, kept, KeepRight, taken, TakeRight, Told, Demand3}
+use Rattle.paper.proofs.Lists.{and-right, each}
 use Rattle.paper.proofs.Buffers.{length-below, getD-below, over-front, over-over, ones-below}
 use Rattle.paper.proofs.Lawful.{lawful}
 use Rattle.paper.proofs.Accept.{made-below}
-use Rattle.paper.proofs.Fresh.{unnamed, afresh-equation}
+use Rattle.paper.proofs.Fresh.{unnamed, afresh-equation, afresh-search}
 use Rattle.paper.proofs.Routes.{step-fresh}
-use Rattle.paper.proofs.Known.{BuildKnown, build-known, keep-known, named-below}
-use Rattle.paper.proofs.Outcomes.{build-judged, trial-judged, keep-judged}
+use Rattle.paper.proofs.Known.{BuildKnown, build-known, MoveKnown, named-below, KeepKnown, keep-known, TakeKnown, take-known, latest-known}
+use Rattle.paper.proofs.Outcomes.{build-judged, trial-judged, keep-judged, take-judged}
+use Rattle.paper.proofs.Log.{Undoes, undoes-low, undoes-latest, good-log, dropped-logged, dropped-good, dropped-undoes, noted-logged, noted-good, noted-undoes}
 
--- a row that a call leaves as it was lent leaves the session's own as it was
-own-row : (r : Row) (left mine : List ℤ) → left ≡ rowLent r mine → rowAfter r left mine ≡ mine
-own-row own left mine e = e
-own-row (another row) left mine e = refl
+-- what a call leaves as it was lent leaves the session's own as it was
+own-left : {A : Type 0} (r : Lent A) (left mine : A) → left ≡ lentOf r mine → ownAfter r left mine ≡ mine
+own-left own left mine e = e
+own-left (another other) left mine e = refl
+
+-- so a refused keep or taking back, whatever it was lent, leaves the state
+passed-as-was : (now : State) (l : Lends) (g : Lent Log) (flags : List ℕ) (answer : Answer) (left : KeepLeft)
+    → left ≡ keepAsWas (now .session) (lentOf g (now .log)) (modelOf now l) flags answer → passedOn now l g left ≡ now
+passed-as-was now l g flags answer left e = λ i. record {
+  session = e i .session;
+  stored = own-left (l .stored) (left .stored) (now .stored) (ap (λ (x : KeepLeft). x .stored) e) i;
+  log = own-left g (left .log) (now .log) (ap (λ (x : KeepLeft). x .log) e) i;
+}
+
+-- and a call that is not accepted leaves the history
+refused-stays : {A : Type 0} (v : Verdict) (other moves : A) → (v ≡ accepted → ⊥) → leaves v other moves ≡ moves
+refused-stays accepted other moves wrong = absurd (wrong refl)
+refused-stays (refused number place) other moves wrong = refl
+
+rest-length : (moves : List (List (ℕ × ℤ))) → length (rest moves) ≡ pred (length moves)
+rest-length [] = refl
+rest-length (mv ∷ earlier) = omega arith
 
 module _ (b : BuildLent) (ok : numberOf (build b .answer) ≡ 0) where
   abbrev t : Tables
@@ -71,165 +96,270 @@ module _ (b : BuildLent) (ok : numberOf (build b .answer) ≡ 0) where
       ap (λ o. new N r o (moved mv o) (t .n)) (values-in row s h)
       ∙ fun-ext (step-fresh N (lawful t) (t .n) (known .chains) r mv (afresh N s (t .n)) s (λ v. refl))
 
-  -- ── a keep over such a row, accepted with the model's own ──
-  module _ (now : State) (c : Kept) (s : Values) (h : Holds (now .stored) s) (e : keepVerdict (modelOf now (ownModel b)) c ≡ accepted) where
-    abbrev mv : List (ℕ × ℤ)
-    mv = movePairs (c .move)
-
-    keep-holds : Holds (keep (now .session) (modelOf now (ownModel b)) c .stored) (moved mv s)
-    keep-holds = record {
-      row-is =
-          ap (λ (x : KeepLeft). x .stored) (keep-judged (now .session) (modelOf now (ownModel b)) c .is accepted e)
-          ∙ ap (λ f. over (t .n) f (now .stored)) (new-fresh (now .stored) s h input-to-output mv)
-          ∙ ap (over (t .n) (afresh N (moved mv s) (t .n))) (h .row-is)
-          ∙ over-over (afresh N (moved mv s) (t .n)) (t .n) (b .stored) (afresh N s (t .n));
-      ended = λ v l. go v l (names mv v) refl;
-    }
-      where
-        go : (v : ℕ) → t .n ≤ v → (x : Bool) → names mv v ≡ x → moved mv s v ≡ pos 0
-        go v l true q = let k = named-below t (c .move) (keep-known (modelOf now (ownModel b)) c e .move) v q in absurd (lt-irrefl v (omega arith))
-        go v l false q = unnamed mv s v q ∙ h .ended v l
-
-  -- ── any call ──
-  -- a refused keep, whatever it was lent, leaves the session's own row
-  kept-row : (now : State) (l : Lends) (c : Kept) (number place : ℕ) → keepVerdict (modelOf now l) c ≡ refused number place → step now (keeps l c) .stored ≡ now .stored
-  kept-row now l c number place e =
-      own-row (l .stored) _ (now .stored) (ap (λ (x : KeepLeft). x .stored) (keep-judged (now .session) (modelOf now l) c .is (refused number place) e))
-
-  step-holds : (now : State) (c : Call) (moves : List (List (ℕ × ℤ))) → Holds (now .stored) (applied (startValues b) moves)
-      → (verdictOf now c ≡ accepted → lendsOf c ≡ ownModel b) → Holds (step now c .stored) (applied (startValues b) (keptBy now c moves))
-  step-holds now (tries l c) moves h proper = h
-  step-holds now (keeps l c) moves h proper = go (keepVerdict (modelOf now l) c) refl
-    where
-      go : (v : Verdict) → keepVerdict (modelOf now l) c ≡ v → Holds (step now (keeps l c) .stored) (applied (startValues b) (leaves v (movePairs (c .move) ∷ moves) moves))
-      go accepted e =
-          let q = proper e in
-          subst⁻¹ (λ z. Holds (step now (keeps z c) .stored) (moved (movePairs (c .move)) (applied (startValues b) moves))) q
-          (keep-holds now c (applied (startValues b) moves) h (subst (λ z. keepVerdict (modelOf now z) c ≡ accepted) q e))
-      go (refused number place) e = subst⁻¹ (λ row. Holds row (applied (startValues b) moves)) (kept-row now l c number place e) h
-
-  holds : (cs : List Call) → Proper b cs → Holds (after b cs .stored) (applied (startValues b) (history b cs))
-  holds [] p = record {
-    row-is = ap (λ (x : BuildLeft). x .stored) (build-judged b .is accepted (build-judged b .good ok));
-    ended = λ v l. List·getD-eq-default (take (t .n) (b .starts)) (pos 0) (simp length-take (omega arith));
+  -- ── a move put into such a row by route 1, as keep and taking back do ──
+  move-holds : (row : List ℤ) (s : Values) → Holds row s → (c : Kept) → MoveKnown t (c .move) → Holds (keptStored t row c) (moved (movePairs (c .move)) s)
+  move-holds row s h c move = record {
+    row-is =
+        ap (λ f. over (t .n) f row) (new-fresh row s h input-to-output (movePairs (c .move)))
+        ∙ ap (over (t .n) (afresh N (moved (movePairs (c .move)) s) (t .n))) (h .row-is)
+        ∙ over-over (afresh N (moved (movePairs (c .move)) s) (t .n)) (t .n) (b .stored) (afresh N s (t .n));
+    ended = λ v l. go v l (names (movePairs (c .move)) v) refl;
   }
-  holds (c ∷ cs) p = step-holds (after b cs) c (history b cs) (holds cs (p .1)) (p .0)
-
-  -- ── the number of moves kept ──
-  pub moves-kept : (cs : List Call) → after b cs .session .kept ≡ min (length (history b cs)) 4294967295
-  moves-kept [] = ap (λ (x : BuildLeft). x .session .kept) (build-judged b .is accepted (build-judged b .good ok)) ∙ omega arith
-  moves-kept (tries l c ∷ cs) = go (trialVerdict w c) refl ∙ moves-kept cs
     where
-      w : Model
-      w = modelOf (after b cs) l
+      go : (v : ℕ) → t .n ≤ v → (x : Bool) → names (movePairs (c .move)) v ≡ x → moved (movePairs (c .move)) s v ≡ pos 0
+      go v l true q = let k = named-below t (c .move) move v q in absurd (lt-irrefl v (omega arith))
+      go v l false q = unnamed (movePairs (c .move)) s v q ∙ h .ended v l
 
-      go : (v : Verdict) → trialVerdict (modelOf (after b cs) l) c ≡ v → tried b cs l c .session .kept ≡ after b cs .session .kept
-      go accepted e = ap (λ (x : TrialLeft). x .session .kept) (trial-judged (after b cs .session) (modelOf (after b cs) l) c .is accepted e)
-      go (refused number place) e = ap (λ (x : TrialLeft). x .session .kept) (trial-judged (after b cs .session) (modelOf (after b cs) l) c .is (refused number place) e)
-  moves-kept (keeps l c ∷ cs) = go (keepVerdict (modelOf (after b cs) l) c) refl (moves-kept cs)
-    where
-      go : (v : Verdict) → keepVerdict (modelOf (after b cs) l) c ≡ v → after b cs .session .kept ≡ min (length (history b cs)) 4294967295
-          → kept b cs l c .session .kept ≡ min (length (leaves v (movePairs (c .move) ∷ history b cs) (history b cs))) 4294967295
-      go accepted e ih = let q = ap (λ (x : KeepLeft). x .session .kept) (keep-judged (after b cs .session) (modelOf (after b cs) l) c .is accepted e) in q ∙ omega arith
-      go (refused number place) e ih = ap (λ (x : KeepLeft). x .session .kept) (keep-judged (after b cs .session) (modelOf (after b cs) l) c .is (refused number place) e) ∙ ih
+  -- ── what holds after a run of that many calls, with these moves kept and not taken back ──
+  -- the row has the fresh values, the log is good and undoes the latest of the moves, and the number kept is theirs as long as it cannot have
+  -- reached its ceiling
+  record Stands (kept : ℕ) (stored : List ℤ) (log : Log) (moves : List (List (ℕ × ℤ))) (calls : ℕ) : Type 0 where
+    holds : Holds stored (applied (startValues b) moves)
+    good : logGood log t kept ≡ true
+    undoes : Undoes (startValues b) (back log) (logged log) moves
+    counted : calls < 4294967295 → kept ≡ length moves
+    within : kept ≤ calls
 
-  -- ── the next call ──
-  module _ (cs : List Call) (p : Proper b cs) where
-    abbrev now : State
-    now = after b cs
+  abbrev Stood : State → List (List (ℕ × ℤ)) → ℕ → Type 0
+  Stood now moves calls = Stands (now .session .kept) (now .stored) (now .log) moves calls
 
-    abbrev w : Model
-    w = modelOf (after b cs) (ownModel b)
+  -- a call that changes nothing of it
+  idle : {kept : ℕ} {stored : List ℤ} {log : Log} {moves : List (List (ℕ × ℤ))} {calls : ℕ} → Stands kept stored log moves calls → Stands kept stored log moves (suc calls)
+  idle {kept} {stored} {log} {moves} {calls} h = let within = h .within in
+      record { holds = h .holds; good = h .good; undoes = h .undoes; counted = λ l. h .counted (omega arith); within = omega arith }
 
-    old-is : valuesIn t (after b cs .stored) ≡ old b cs
-    old-is = values-in (after b cs .stored) (applied (startValues b) (history b cs)) (holds cs p)
+  -- ── the calls ──
+  module _ (room : List ℕ × List ℤ) where
+    -- the model's own, over the session's row
+    abbrev mine : State → Model
+    mine now = modelOf now (ownModel b room)
 
-    new-is : (r : Route) (mv : List (ℕ × ℤ)) (asked : List ℕ) → newValues t (valuesIn t (after b cs .stored)) r mv asked ≡ fresh b (mv ∷ history b cs)
-    new-is r mv asked = new-fresh (after b cs .stored) (applied (startValues b) (history b cs)) (holds cs p) r mv
+    module _ (now : State) (moves : List (List (ℕ × ℤ))) (calls : ℕ) (h : Stood now moves calls) where
+      -- an accepted keep with the model's own and the session's log
+      keep-stands : (c : Kept) → keepVerdict (now .session) (now .log) (mine now) c ≡ accepted
+          → Stood (step now (keeps (ownModel b room) own c)) (movePairs (c .move) ∷ moves) (suc calls)
+      keep-stands c e =
+          subst⁻¹ (λ (x : KeepLeft). Stands (x .session .kept) (x .stored) (x .log) (movePairs (c .move) ∷ moves) (suc calls)) (keep-judged (now .session) (now .log) (mine now) c .is accepted e)
+          (let log = has .log in let within = h .within in record {
+            holds = move-holds (now .stored) (applied (startValues b) moves) (h .holds) c (has .move);
+            good = noted-good t (now .log) (now .session .kept) (has .log) (storedValues (mine now)) (c .move) (has .move) (min (suc (now .session .kept)) 4294967295) (omega arith) full;
+            undoes = noted-undoes t (now .log) (now .session .kept) (has .log) (storedValues (mine now)) (c .move) (has .move) (startValues b) moves same (h .undoes);
+            counted = λ l. let k = h .counted (omega arith) in omega arith;
+            within = omega arith;
+          })
+        where
+          has : KeepKnown (now .session) (now .log) (mine now) c
+          has = keep-known (now .session) (now .log) (mine now) c e
 
-    set-is : (r : Route) (mv : List (ℕ × ℤ)) (asked : List ℕ)
-        → evaluates t (valuesIn t (after b cs .stored)) r mv asked ≡ evaluated N r (old b cs) (moved mv (old b cs)) asked (t .n)
-    set-is r mv asked = ap (λ o. evaluated N r o (moved mv o) asked (t .n)) old-is
+          full : (i : ℕ) → i < c .move .pairs → eqZ (valuesIn (b .tables) (now .stored) (nat (c .move .vars) i)) blank ≡ false
+          full i l = let v = nat (c .move .vars) i in
+              not-true (eqZ (storedValues (mine now) v) blank) (sym (ap (_|| not (eqZ (storedValues (mine now) v) blank)) (has .move .search i l)) ∙ has .model .stored v (has .move .low i l))
 
-    -- a count that is the size of a set, and flags that are 1 at it
-    told-by : (set : ℕ → Bool) {mine : ℕ → Bool} {count : ℕ} {flags : List ℕ} (before : List ℕ) → mine ≡ set → count ≡ size mine (t .n)
-        → flags ≡ over (t .n) (λ v. cond (mine v) 1 0) before → Told b cs set count flags before
-    told-by set {mine} {count} {flags} before e c f =
-        let are : flags ≡ over (t .n) (λ v. cond (set v) 1 0) before = f ∙ ap (λ (q : ℕ → Bool). over (t .n) (λ v. cond (q v) 1 0) before) e in
-        let is : count ≡ size set (t .n) = c ∙ ap (λ q. size q (t .n)) e in
-        record {
-          flags-are = are;
-          set-size = is;
-          ones = is ∙ sym (ap (λ l. tally (eqb 1) (take (t .n) l)) are ∙ ap (tally (eqb 1)) (over-front (λ v. cond (set v) 1 0) (t .n) before) ∙ ones-below set (t .n));
-        }
+          same : (i : ℕ) → i < c .move .pairs → valuesIn (b .tables) (now .stored) (nat (c .move .vars) i) ≡ applied (startValues b) moves (nat (c .move .vars) i)
+          same i l = let v = nat (c .move .vars) i in let s = applied (startValues b) moves in
+              ap (λ (f : Values). f v) (values-in (now .stored) s (h .holds)) ∙ afresh-search N (lawful t) (t .n) (known .chains) s v (has .move .search i l)
 
-    pub trial-right : (c : Tried) → numberOf (tried b cs (ownModel b) c .answer) ≡ 0 → TrialRight b cs (ownModel b) c
-    trial-right c h = record {
-      results = ap (λ (x : TrialLeft). x .results) left ∙ ap (λ (f : Values). over (c .asked) (λ i. f (nat (c .askedVars) i)) (c .results)) (new-is r mv asked);
-      row =
-          ap (λ (x : TrialLeft). x .trial) left
-          ∙ ap (λ (f : Values). over (t .n) (λ v. cond (names mv v || evaluates t stored r mv asked v) (f v) (stored v)) (c .trial)) (new-is r mv asked)
-          ∙ ap (λ (q : ℕ → Bool). over (t .n) (λ v. cond (names mv v || q v) (renewed b cs (c .move) v) (stored v)) (c .trial)) (set-is r mv asked)
-          ∙ ap (λ (f : Values). over (t .n) (λ v. cond (names mv v || triedSet b cs (ownModel b) c v) (renewed b cs (c .move) v) (f v)) (c .trial)) old-is;
-      told = told-by (triedSet b cs (ownModel b) c) (c .flags) (set-is r mv asked) (ap (λ (x : TrialLeft). evaluationsOf (x .answer)) left) (ap (λ (x : TrialLeft). x .flags) left);
-      session = ap (λ (x : TrialLeft). x .session) left ∙ sym (ap (λ (x : TrialLeft). record { kept = now .session .kept; evaluations = evaluationsOf (x .answer) }) left);
-    }
+      -- an accepted taking back with the same
+      take-stands : (flags : List ℕ) → takeVerdict (now .session) (now .log) (mine now) flags ≡ accepted
+          → Stood (step now (takes (ownModel b room) own flags)) (rest moves) (suc calls)
+      take-stands flags e =
+          subst⁻¹ (λ (x : KeepLeft). Stands (x .session .kept) (x .stored) (x .log) (rest moves) (suc calls)) (take-judged (now .session) (now .log) (mine now) flags .is accepted e)
+          (go (ltb (now .session .kept) 4294967295) refl)
+        where
+          has : TakeKnown (now .session) (now .log) (mine now) flags
+          has = take-known (now .session) (now .log) (mine now) flags e
+
+          undone : (moved (movePairs (latest (now .log) flags .move)) (applied (startValues b) moves) ≡ applied (startValues b) (rest moves))
+              × Undoes (startValues b) (back (now .log)) (pred (logged (now .log))) (rest moves)
+          undone = undoes-latest (startValues b) (back (now .log)) (logged (now .log)) moves (has .some) (h .undoes)
+
+          with-kept : (fewer : ℕ) → pred (logged (now .log)) ≤ fewer → (suc calls < 4294967295 → fewer ≡ length (rest moves)) → fewer ≤ suc calls
+              → Stands fewer (keptStored (b .tables) (now .stored) (latest (now .log) flags)) (dropped (now .log)) (rest moves) (suc calls)
+          with-kept fewer low counted within = record {
+            holds = subst (Holds (keptStored t (now .stored) (latest (now .log) flags))) (undone .0)
+                (move-holds (now .stored) (applied (startValues b) moves) (h .holds) (latest (now .log) flags) (latest-known (now .session) (now .log) (mine now) flags has));
+            good = dropped-good t (now .log) (now .session .kept) (has .log) fewer low;
+            undoes = dropped-undoes t (now .log) (now .session .kept) (has .log) (startValues b) (rest moves) (undone .1);
+            counted = counted;
+            within = within;
+          }
+
+          go : (x : Bool) → ltb (now .session .kept) 4294967295 ≡ x
+              → Stands (cond x (pred (now .session .kept)) (now .session .kept)) (keptStored (b .tables) (now .stored) (latest (now .log) flags)) (dropped (now .log)) (rest moves) (suc calls)
+          go true q =
+              let log = has .log in let within = h .within in
+              with-kept (pred (now .session .kept)) (omega arith) (λ l. let k = h .counted (omega arith) in let z = rest-length moves in omega arith) (omega arith)
+          go false q =
+              let log = has .log in let within = h .within in let most = ltb-false (now .session .kept) 4294967295 q in
+              with-kept (now .session .kept) (omega arith) (λ l. absurd (lt-irrefl 4294967295 (omega arith))) (omega arith)
+
+      -- any trial leaves the number kept
+      trial-kept : (l : Lends) (c : Tried) → trial (now .session) (modelOf now l) c .session .kept ≡ now .session .kept
+      trial-kept l c = go (trialVerdict (modelOf now l) c) refl
+        where
+          go : (v : Verdict) → trialVerdict (modelOf now l) c ≡ v → trial (now .session) (modelOf now l) c .session .kept ≡ now .session .kept
+          go accepted e = ap (λ (x : TrialLeft). x .session .kept) (trial-judged (now .session) (modelOf now l) c .is accepted e)
+          go (refused number place) e = ap (λ (x : TrialLeft). x .session .kept) (trial-judged (now .session) (modelOf now l) c .is (refused number place) e)
+
+      -- a keep or a taking back by its verdict: what it does if it was lent the session's own, and nothing if it is refused
+      passes : (verdict : Lends → Lent Log → Verdict) (left : Lends → Lent Log → KeepLeft) (flags : List ℕ) (other : List (List (ℕ × ℤ)))
+          → (verdict (ownModel b room) own ≡ accepted → Stood (passedOn now (ownModel b room) own (left (ownModel b room) own)) other (suc calls))
+          → (l : Lends) (g : Lent Log)
+          → ((number place : ℕ) → verdict l g ≡ refused number place → left l g ≡ keepAsWas (now .session) (lentOf g (now .log)) (modelOf now l) flags (Refused number place))
+          → (verdict l g ≡ accepted → (l ≡ ownModel b room) × (g ≡ own)) → Stood (passedOn now l g (left l g)) (leaves (verdict l g) other moves) (suc calls)
+      passes verdict left flags other works l g same proper = go (verdict l g) refl
+        where
+          go : (v : Verdict) → verdict l g ≡ v → Stood (passedOn now l g (left l g)) (leaves v other moves) (suc calls)
+          go accepted e =
+              let lent : _≡_ {A = Lends × Lent Log} (l, g) (ownModel b room, own) = λ i. (proper e .0 i, proper e .1 i) in
+              subst⁻¹ (λ (z : Lends × Lent Log). Stood (passedOn now (z .0) (z .1) (left (z .0) (z .1))) other (suc calls)) lent
+              (works (subst (λ (z : Lends × Lent Log). verdict (z .0) (z .1) ≡ accepted) lent e))
+          go (refused number place) e =
+              subst⁻¹ (λ z. Stood z moves (suc calls)) (passed-as-was now l g flags (Refused number place) (left l g) (same number place e)) (idle h)
+
+      step-stands : (c : Call) → (verdictOf now c ≡ accepted → (lendsOf c ≡ ownModel b room) × (logOf c ≡ own)) → Stood (step now c) (standing now c moves) (suc calls)
+      step-stands (tries l c) proper = subst⁻¹ (λ k. Stands k (now .stored) (now .log) moves (suc calls)) (trial-kept l c) (idle h)
+      step-stands (keeps l g c) proper =
+          passes (λ m k. verdictOf now (keeps m k c)) (λ m k. keep (now .session) (lentOf k (now .log)) (modelOf now m) c) (c .flags) (movePairs (c .move) ∷ moves) (keep-stands c) l g
+          (λ number place. keep-judged (now .session) (lentOf g (now .log)) (modelOf now l) c .is (refused number place)) proper
+      step-stands (takes l g flags) proper =
+          passes (λ m k. verdictOf now (takes m k flags)) (λ m k. takeBack (now .session) (lentOf k (now .log)) (modelOf now m) flags) flags (rest moves) (take-stands flags) l g
+          (λ number place. take-judged (now .session) (lentOf g (now .log)) (modelOf now l) flags .is (refused number place)) proper
+
+    -- ── after every run ──
+    -- build leaves an empty log
+    stands-first : Stood (after b room []) [] 0
+    stands-first =
+        subst⁻¹ (λ (x : BuildLeft). Stands (x .session .kept) (x .stored) (logIn (x .logSizes) (room .0) (room .1)) [] 0) (build-judged b .is accepted (build-judged b .good ok))
+        (record {
+          holds = record { row-is = refl; ended = λ v l. List·getD-eq-default (take (t .n) (b .starts)) (pos 0) (simp length-take (omega arith)) };
+          good = good-log (logIn (set (b .logSizes) 0 0) (room .0) (room .1)) t 0 (omega (arith, none)) (omega (arith, none)) (λ k l. let z = none in absurd (lt-irrefl 0 (omega arith)));
+          undoes = subst⁻¹ (λ n. Undoes (startValues b) (back (logIn (set (b .logSizes) 0 0) (room .0) (room .1))) n []) none tt;
+          counted = λ l. refl;
+          within = omega arith;
+        })
       where
-        r : Route
-        r = routeOf (c .route)
+        none : nat (set (b .logSizes) 0 0) 0 ≡ 0
+        none = let long = leb-true 65 (length (b .logSizes)) (each _ (and-right (sized t) _ (known .fits)) .1 .1 .1 .1 .1 .0) in getD-set-same (b .logSizes) 0 0 0 (omega arith)
 
-        mv : List (ℕ × ℤ)
-        mv = movePairs (c .move)
+    stands : (cs : List Call) → Proper b room cs → Stood (after b room cs) (history b room cs) (length cs)
+    stands [] p = stands-first
+    stands (c ∷ cs) p = step-stands (after b room cs) (history b room cs) (length cs) (stands cs (p .1)) c (p .0)
 
-        asked : List ℕ
-        asked = askedList c
+    -- ── the next call ──
+    module _ (cs : List Call) (p : Proper b room cs) where
+      abbrev now : State
+      now = after b room cs
 
-        stored : Values
-        stored = valuesIn t (after b cs .stored)
+      holds : Holds (after b room cs .stored) (applied (startValues b) (history b room cs))
+      holds = stands cs p .holds
 
-        left : tried b cs (ownModel b) c ≡ trialLeaves w c (after b cs .session) accepted
-        left = trial-judged (after b cs .session) w c .is accepted (trial-judged (after b cs .session) w c .good h)
+      old-is : valuesIn t (after b room cs .stored) ≡ old b room cs
+      old-is = values-in (after b room cs .stored) (applied (startValues b) (history b room cs)) holds
 
-    pub keep-right : (c : Kept) → numberOf (kept b cs (ownModel b) c .answer) ≡ 0 → KeepRight b cs (ownModel b) c
-    keep-right c h = record {
-      move = ap (λ v. leaves v (movePairs (c .move) ∷ history b cs) (history b cs)) good;
-      stored = keep-holds now c (applied (startValues b) (history b cs)) (holds cs p) good .row-is;
-      told =
-          told-by (evaluatedBy b cs input-to-output (c .move) []) (c .flags) (set-is input-to-output (movePairs (c .move)) [])
-          (ap (λ (x : KeepLeft). evaluationsOf (x .answer)) left) (ap (λ (x : KeepLeft). x .flags) left);
-      session = ap (λ (x : KeepLeft). x .session) left ∙ sym (ap (λ (x : KeepLeft). record { kept = min (suc (now .session .kept)) 4294967295; evaluations = evaluationsOf (x .answer) }) left);
+      new-is : (r : Route) (mv : List (ℕ × ℤ)) (asked : List ℕ) → newValues t (valuesIn t (after b room cs .stored)) r mv asked ≡ fresh b room (mv ∷ history b room cs)
+      new-is r mv asked = new-fresh (after b room cs .stored) (applied (startValues b) (history b room cs)) holds r mv
+
+      set-is : (r : Route) (mv : List (ℕ × ℤ)) (asked : List ℕ)
+          → evaluates t (valuesIn t (after b room cs .stored)) r mv asked ≡ evaluated N r (old b room cs) (moved mv (old b room cs)) asked (t .n)
+      set-is r mv asked = ap (λ o. evaluated N r o (moved mv o) asked (t .n)) old-is
+
+      -- a count that is the size of a set, and flags that are 1 at it
+      told-by : (set : ℕ → Bool) {those : ℕ → Bool} {count : ℕ} {flags : List ℕ} (before : List ℕ) → those ≡ set → count ≡ size those (t .n)
+          → flags ≡ over (t .n) (λ v. cond (those v) 1 0) before → Told b room cs set count flags before
+      told-by set {those} {count} {flags} before e c f =
+          let are : flags ≡ over (t .n) (λ v. cond (set v) 1 0) before = f ∙ ap (λ (q : ℕ → Bool). over (t .n) (λ v. cond (q v) 1 0) before) e in
+          let is : count ≡ size set (t .n) = c ∙ ap (λ q. size q (t .n)) e in
+          record {
+            flags-are = are;
+            set-size = is;
+            ones = is ∙ sym (ap (λ l. tally (eqb 1) (take (t .n) l)) are ∙ ap (tally (eqb 1)) (over-front (λ v. cond (set v) 1 0) (t .n) before) ∙ ones-below set (t .n));
+          }
+
+      pub trial-right : (c : Tried) → numberOf (tried b room cs (ownModel b room) c .answer) ≡ 0 → TrialRight b room cs (ownModel b room) c
+      trial-right c h = record {
+        results = ap (λ (x : TrialLeft). x .results) left ∙ ap (λ (f : Values). over (c .asked) (λ i. f (nat (c .askedVars) i)) (c .results)) (new-is r mv asked);
+        row =
+            ap (λ (x : TrialLeft). x .trial) left
+            ∙ ap (λ (f : Values). over (t .n) (λ v. cond (names mv v || evaluates t stored r mv asked v) (f v) (stored v)) (c .trial)) (new-is r mv asked)
+            ∙ ap (λ (q : ℕ → Bool). over (t .n) (λ v. cond (names mv v || q v) (renewed b room cs (c .move) v) (stored v)) (c .trial)) (set-is r mv asked)
+            ∙ ap (λ (f : Values). over (t .n) (λ v. cond (names mv v || triedSet b room cs (ownModel b room) c v) (renewed b room cs (c .move) v) (f v)) (c .trial)) old-is;
+        told = told-by (triedSet b room cs (ownModel b room) c) (c .flags) (set-is r mv asked) (ap (λ (x : TrialLeft). evaluationsOf (x .answer)) left) (ap (λ (x : TrialLeft). x .flags) left);
+        session = ap (λ (x : TrialLeft). x .session) left ∙ sym (ap (λ (x : TrialLeft). record { kept = now .session .kept; evaluations = evaluationsOf (x .answer) }) left);
+      }
+        where
+          r : Route
+          r = routeOf (c .route)
+
+          mv : List (ℕ × ℤ)
+          mv = movePairs (c .move)
+
+          asked : List ℕ
+          asked = askedList c
+
+          stored : Values
+          stored = valuesIn t (after b room cs .stored)
+
+          left : tried b room cs (ownModel b room) c ≡ trialLeaves (mine now) c (after b room cs .session) accepted
+          left = trial-judged (after b room cs .session) (mine now) c .is accepted (trial-judged (after b room cs .session) (mine now) c .good h)
+
+      pub keep-right : (c : Kept) → numberOf (kept b room cs (ownModel b room) own c .answer) ≡ 0 → KeepRight b room cs (ownModel b room) own c
+      keep-right c h = record {
+        move = ap (λ v. leaves v (movePairs (c .move) ∷ history b room cs) (history b room cs)) good;
+        stored = keep-stands now (history b room cs) (length cs) (stands cs p) c good .holds .row-is;
+        told =
+            told-by (evaluatedBy b room cs input-to-output (c .move) []) (c .flags) (set-is input-to-output (movePairs (c .move)) [])
+            (ap (λ (x : KeepLeft). evaluationsOf (x .answer)) left) (ap (λ (x : KeepLeft). x .flags) left);
+        session = ap (λ (x : KeepLeft). x .session) left ∙ sym (ap (λ (x : KeepLeft). record { kept = min (suc (now .session .kept)) 4294967295; evaluations = evaluationsOf (x .answer) }) left);
+        more =
+            ap (λ (x : KeepLeft). logged (x .log)) left ∙ noted-logged t (now .log) (now .session .kept) (has .log) (storedValues (mine now)) (c .move) (has .move) ∙ omega arith;
+      }
+        where
+          good : keepVerdict (after b room cs .session) (after b room cs .log) (mine (after b room cs)) c ≡ accepted
+          good = keep-judged (now .session) (now .log) (mine now) c .good h
+
+          has : KeepKnown (after b room cs .session) (after b room cs .log) (mine (after b room cs)) c
+          has = keep-known (now .session) (now .log) (mine now) c good
+
+          left : kept b room cs (ownModel b room) own c ≡ keepLeaves (after b room cs .session) (after b room cs .log) (mine (after b room cs)) c accepted
+          left = keep-judged (now .session) (now .log) (mine now) c .is accepted good
+
+      pub take-right : (flags : List ℕ) → numberOf (taken b room cs (ownModel b room) own flags .answer) ≡ 0 → TakeRight b room cs (ownModel b room) own flags
+      take-right flags h = record {
+        move = ap (λ v. leaves v (rest (history b room cs)) (history b room cs)) good;
+        stored = take-stands now (history b room cs) (length cs) (stands cs p) flags good .holds .row-is;
+        told =
+            told-by (evaluatedBy b room cs input-to-output (latest (now .log) flags .move) []) flags (set-is input-to-output (movePairs (latest (now .log) flags .move)) [])
+            (ap (λ (x : KeepLeft). evaluationsOf (x .answer)) left) (ap (λ (x : KeepLeft). x .flags) left);
+        session = let k = now .session .kept in
+            ap (λ (x : KeepLeft). x .session) left ∙ sym (ap (λ (x : KeepLeft). record { kept = cond (ltb k 4294967295) (pred k) k; evaluations = evaluationsOf (x .answer) }) left);
+        fewer = ap (λ (x : KeepLeft). logged (x .log)) left ∙ dropped-logged t (now .log) (now .session .kept) (take-known (now .session) (now .log) (mine now) flags good .log);
+      }
+        where
+          good : takeVerdict (after b room cs .session) (after b room cs .log) (mine (after b room cs)) flags ≡ accepted
+          good = take-judged (now .session) (now .log) (mine now) flags .good h
+
+          left : taken b room cs (ownModel b room) own flags ≡ takeLeaves (after b room cs .session) (after b room cs .log) (mine (after b room cs)) flags accepted
+          left = take-judged (now .session) (now .log) (mine now) flags .is accepted good
+
+    -- ── demand 3 ──
+    pub session : (cs : List Call) → Proper b room cs → Demand3 b room cs
+    session cs p = let now = after b room cs in let all = stands cs p in record {
+      stored = all .holds .row-is;
+      counted = all .counted;
+      log-good = all .good;
+      log-low = undoes-low (startValues b) (back (now .log)) (logged (now .log)) (history b room cs) (all .undoes);
+      trial-accepted = trial-right cs p;
+      keep-accepted = keep-right cs p;
+      take-accepted = take-right cs p;
+      trial-stored = λ l c. refl;
+      trial-refused = λ l c wrong.
+          let same = trial-judged (now .session) (modelOf now l) c .as-was wrong in
+          (same, ap (λ (x : TrialLeft). record { session = x .session; stored = now .stored; log = now .log }) same);
+      keep-refused = λ l g c wrong.
+          let judged = keep-judged (now .session) (lentOf g (now .log)) (modelOf now l) c in let same = judged .as-was wrong in
+          (same, passed-as-was now l g (c .flags) _ _ same, refused-stays _ _ _ (λ e. wrong (judged .zero e)));
+      take-refused = λ l g flags wrong.
+          let judged = take-judged (now .session) (lentOf g (now .log)) (modelOf now l) flags in let same = judged .as-was wrong in
+          (same, passed-as-was now l g flags _ _ same, refused-stays _ _ _ (λ e. wrong (judged .zero e)));
     }
-      where
-        good : keepVerdict w c ≡ accepted
-        good = keep-judged (after b cs .session) w c .good h
-
-        left : kept b cs (ownModel b) c ≡ keepLeaves w c (after b cs .session) accepted
-        left = keep-judged (after b cs .session) w c .is accepted good
-
-  -- ── demand 3 ──
-  -- a refused keep leaves the state and the history
-  keep-leaves : (cs : List Call) (l : Lends) (c : Kept) → (numberOf (kept b cs l c .answer) ≡ 0 → ⊥)
-      → (after b (keeps l c ∷ cs) ≡ after b cs) × (history b (keeps l c ∷ cs) ≡ history b cs)
-  keep-leaves cs l c wrong = go (keepVerdict (modelOf (after b cs) l) c) refl
-    where
-      go : (v : Verdict) → keepVerdict (modelOf (after b cs) l) c ≡ v
-          → (after b (keeps l c ∷ cs) ≡ after b cs) × (leaves v (movePairs (c .move) ∷ history b cs) (history b cs) ≡ history b cs)
-      go accepted e = absurd (wrong (keep-judged (after b cs .session) (modelOf (after b cs) l) c .zero e))
-      go (refused number place) e = (
-        ap₂ (λ (s : Session) (row : List ℤ). record { session = s; stored = row })
-            (ap (λ (x : KeepLeft). x .session) (keep-judged (after b cs .session) (modelOf (after b cs) l) c .is (refused number place) e)) (kept-row (after b cs) l c number place e),
-        refl,
-      )
-
-  pub session : (cs : List Call) → Proper b cs → Demand3 b cs
-  session cs p = record {
-    stored = holds cs p .row-is;
-    moves = moves-kept cs;
-    trial-accepted = trial-right cs p;
-    keep-accepted = keep-right cs p;
-    trial-stored = λ l c. refl;
-    trial-refused = λ l c wrong.
-        let same = trial-judged (after b cs .session) (modelOf (after b cs) l) c .as-was wrong in
-        (same, ap (λ (x : TrialLeft). record { session = x .session; stored = after b cs .stored }) same);
-    keep-refused = λ l c wrong. let left = keep-leaves cs l c wrong in (keep-judged (after b cs .session) (modelOf (after b cs) l) c .as-was wrong, left .0, left .1);
-  }

@@ -1,16 +1,17 @@
--- The three calls, each as one function from what it is lent to what it leaves, accepted or refused. A call's contract is one equation: what
+-- The calls, each as one function from what it is lent to what it leaves, accepted or refused. A call's contract is one equation: what
 -- the caller has at exit is what this function gives of what the caller lent at entry. What a call is lent only to read is not among what it
 -- leaves: it cannot change. Assumes nothing.
-use Prim.Native.Nat.{ℕ, suc, min}
+use Prim.Native.Nat.{ℕ, suc, pred, min}
 use mathlib.Core.Bool.{Bool, cond, _&&_, _||_}
 use mathlib.Core.List.{List, [], _∷_, _++_}
 use lib.IntN.{ℤ}
 use lib.Dec.{eqb, leb, ltb}
-use lib.ListN.{length, take, drop}
+use lib.ListN.{length, set, take, drop}
 use Rattle.paper.specs.Lists.{every, between, nat, size, over}
 use Rattle.paper.specs.Net.{Values, Route, input-to-output, output-to-input, mark-guided, number, afresh, new, evaluated, moved, names}
 use Rattle.paper.specs.Tables.{Tables, Index, net, valuesIn, ends, order, index}
 use Rattle.paper.specs.Checks.{Verdict, accepted, refused, check, require, leaves, sized, tableChecks, startGood, numbered, indexed, storedGood, Move, movePairs, moveFits, moveChecks}
+use Rattle.paper.specs.Log.{Log, logged, back, logFits, logGood, noted, dropped}
 
 -- the session record: moves kept, and evaluations of the last accepted call
 pub record Session : Type 0 where
@@ -70,6 +71,7 @@ pub record BuildLent : Type 0 where
   pub order : List ℕ
   pub stored : List ℤ
   pub index : Index
+  pub logSizes : List ℕ
 
 pub record BuildLeft : Type 0 where
   pub answer : Answer
@@ -78,13 +80,15 @@ pub record BuildLeft : Type 0 where
   pub order : List ℕ
   pub stored : List ℤ
   pub index : Index
+  pub logSizes : List ℕ
 
 module _ (l : BuildLent) where
   abbrev pub buildFits : Bool
   buildFits = let t = l .tables in
       sized t
       && every (
-      leb (t .n) (length (l .starts)) ∷ leb (t .n) (length (l .numbers)) ∷ leb (t .m) (length (l .order)) ∷ leb (t .n) (length (l .stored)) ∷ indexFits t (l .index) ∷ [])
+      leb (t .n) (length (l .starts)) ∷ leb (t .n) (length (l .numbers)) ∷ leb (t .m) (length (l .order)) ∷ leb (t .n) (length (l .stored)) ∷ indexFits t (l .index)
+      ∷ leb 65 (length (l .logSizes)) ∷ [])
 
   abbrev pub startValues : Values
   startValues = valuesIn (l .tables) (l .starts)
@@ -101,12 +105,13 @@ module _ (l : BuildLent) where
     order = leaves v (order t ++ drop (t .m) (l .order)) (l .order);
     stored = leaves v (over (t .n) (afresh (net t) startValues (t .n)) (l .stored)) (l .stored);
     index = leaves v (index t (l .index)) (l .index);
+    logSizes = leaves v (set (l .logSizes) 0 0) (l .logSizes);
   }
 
   unfoldable pub build : BuildLeft
   build = buildLeaves buildVerdict
 
--- ── trial and keep: the model as it is lent to both ──
+-- ── trial, keep and taking back: the model as it is lent to each ──
 pub record Model : Type 0 where
   pub tables : Tables
   pub numbers : List ℕ
@@ -183,29 +188,65 @@ pub record Kept : Type 0 where
   pub move : Move
   pub flags : List ℕ
 
+-- what a move leaves by that route over stored values: the evaluations, the stored values and the flags
+module _ (t : Tables) (stored : List ℤ) (c : Kept) where
+  abbrev pub keptCount : ℕ
+  keptCount = size (evaluates t (valuesIn t stored) input-to-output (movePairs (c .move)) []) (t .n)
+
+  abbrev pub keptStored : List ℤ
+  keptStored = over (t .n) (newValues t (valuesIn t stored) input-to-output (movePairs (c .move)) []) stored
+
+  abbrev pub keptFlags : List ℕ
+  keptFlags = flagRow t (valuesIn t stored) input-to-output (movePairs (c .move)) [] (c .flags)
+
+-- what keep and taking back leave
 pub record KeepLeft : Type 0 where
   pub answer : Answer
   pub session : Session
   pub stored : List ℤ
   pub flags : List ℕ
+  pub log : Log
 
-module _ (w : Model) (c : Kept) where
-  abbrev pub keepFits : Bool
-  keepFits = every (modelFits w ∷ moveFits (c .move) ∷ leb (w .tables .n) (length (c .flags)) ∷ [])
+-- after an accepted call by a move, with that number kept and that log; as it was after a refused one
+abbrev pub moveLeaves : Session → Log → Model → Kept → ℕ → Log → Verdict → KeepLeft
+moveLeaves s l w c number log v = let t = w .tables in let count = keptCount t (w .stored) c in record {
+  answer = answered v count;
+  session = leaves v (record { kept = number; evaluations = count }) s;
+  stored = leaves v (keptStored t (w .stored) c) (w .stored);
+  flags = leaves v (keptFlags t (w .stored) c) (c .flags);
+  log = leaves v log l;
+}
 
+abbrev pub keepFits : Log → Model → Kept → Bool
+keepFits l w c = every (modelFits w ∷ moveFits (c .move) ∷ leb (w .tables .n) (length (c .flags)) ∷ logFits l ∷ [])
+
+module _ (s : Session) (l : Log) (w : Model) (c : Kept) where
   unfoldable pub keepVerdict : Verdict
-  keepVerdict = require 1 0 keepFits (modelChecks w (moveChecks (c .move) (w .tables) accepted))
+  keepVerdict = let t = w .tables in
+      require 1 0 (keepFits l w c) (modelChecks w (moveChecks (c .move) t (require 16 0 (logGood l t (s .kept)) accepted)))
 
-  abbrev pub keepLeaves : Session → Verdict → KeepLeft
-  keepLeaves s v =
-      let t = w .tables in let old = storedValues w in let mv = movePairs (c .move) in
-      let count = size (evaluates t old input-to-output mv []) (t .n) in
-      record {
-        answer = answered v count;
-        session = leaves v (record { kept = min (suc (s .kept)) 4294967295; evaluations = count }) s;
-        stored = leaves v (over (t .n) (newValues t old input-to-output mv []) (w .stored)) (w .stored);
-        flags = leaves v (flagRow t old input-to-output mv [] (c .flags)) (c .flags);
-      }
+  -- one more move kept, and it is noted
+  abbrev pub keepLeaves : Verdict → KeepLeft
+  keepLeaves = moveLeaves s l w c (min (suc (s .kept)) 4294967295) (noted l (storedValues w) (c .move))
 
-unfoldable pub keep : Session → Model → Kept → KeepLeft
-keep s w c = keepLeaves w c s (keepVerdict w c)
+  unfoldable pub keep : KeepLeft
+  keep = keepLeaves keepVerdict
+
+-- ── taking back the latest kept move: its variables get the values before it, by route 1 ──
+abbrev pub latest : Log → List ℕ → Kept
+latest l flags = record { move = back l (pred (logged l)); flags = flags }
+
+abbrev pub takeFits : Log → Model → List ℕ → Bool
+takeFits l w flags = every (modelFits w ∷ leb (w .tables .n) (length flags) ∷ logFits l ∷ [])
+
+module _ (s : Session) (l : Log) (w : Model) (flags : List ℕ) where
+  unfoldable pub takeVerdict : Verdict
+  takeVerdict = let t = w .tables in
+      require 1 0 (takeFits l w flags) (modelChecks w (require 16 0 (logGood l t (s .kept)) (require 15 0 (ltb 0 (logged l)) accepted)))
+
+  -- one move kept fewer unless the number stands at its ceiling, and the log is without it
+  abbrev pub takeLeaves : Verdict → KeepLeft
+  takeLeaves = moveLeaves s l w (latest l flags) (cond (ltb (s .kept) 4294967295) (pred (s .kept)) (s .kept)) (dropped l)
+
+  unfoldable pub takeBack : KeepLeft
+  takeBack = takeLeaves takeVerdict

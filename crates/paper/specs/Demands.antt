@@ -1,39 +1,46 @@
 -- Runs of calls, and the three demands as statements over the definitions. `proofs/Demands.antt` proves them. Assumes nothing.
-use Prim.Native.Nat.{ℕ, suc, min, _≤_, _<_}
+use Prim.Native.Nat.{ℕ, suc, pred, min, _≤_, _<_}
 use mathlib.Core.Bool.{Bool, true, cond, not, _&&_, _||_}
 use mathlib.Core.List.{List, [], _∷_, _++_}
 use mathlib.Core.Path.{_≡_}
 use lib.IntN.{ℤ, pos}
-use lib.Dec.{eqb, leb}
-use lib.ListN.{length, getD, take, drop}
+use lib.Dec.{eqb, leb, ltb}
+use lib.ListN.{length, getD, set, take, drop}
 use mir.Syntax.{w16, w32}
 use mir.Val.{SFits}
 use Rattle.paper.specs.Lists.{nat, size, tally, over}
 use Rattle.paper.specs.Net.{Net, Values, Route, Depends, numbering, number, valuation, afresh, moved, names, evaluated, input-to-output}
 use Rattle.paper.specs.Tables.{Tables, Index, lent, net, inputsOf, order, index}
 use Rattle.paper.specs.Checks.{Verdict, accepted, refused, require, leaves, tableChecks, Move, movePairs}
-use Rattle.paper.specs.Calls.{Session, Answer, Accepted, numberOf, placeOf, evaluationsOf, BuildLent, BuildLeft, startValues, buildFits, build, Model, Tried, TrialLeft, askedList, routeOf, trial, trialVerdict, Kept, KeepLeft, keep, keepVerdict}
+use Rattle.paper.specs.Log.{Log, logIn, logged, logGood}
+use Rattle.paper.specs.Calls.{Session, Answer, Accepted, numberOf, placeOf, evaluationsOf, BuildLent, BuildLeft, startValues, buildFits, build, Model, Tried, TrialLeft, askedList, routeOf, trial, trialVerdict, Kept, KeepLeft, keep, keepVerdict, latest, takeBack, takeVerdict}
 use Rattle.paper.specs.File.{endsAt, held, write, counted, read}
 
 -- ── demand 1: a call works, or refuses with a number of its own and changes nothing ──
 -- everything but the answer as it was
 abbrev pub buildAsWas : BuildLent → Answer → BuildLeft
-buildAsWas l answer = record { answer = answer; session = l .session; numbers = l .numbers; order = l .order; stored = l .stored; index = l .index }
+buildAsWas l answer = record { answer = answer; session = l .session; numbers = l .numbers; order = l .order; stored = l .stored; index = l .index; logSizes = l .logSizes }
 
 abbrev pub trialAsWas : Session → Tried → Answer → TrialLeft
 trialAsWas s c answer = record { answer = answer; session = s; results = c .results; trial = c .trial; flags = c .flags }
 
-abbrev pub keepAsWas : Session → Model → Kept → Answer → KeepLeft
-keepAsWas s w c answer = record { answer = answer; session = s; stored = w .stored; flags = c .flags }
+-- of keep and of taking back; the flags are those lent
+abbrev pub keepAsWas : Session → Log → Model → List ℕ → Answer → KeepLeft
+keepAsWas s l w flags answer = record { answer = answer; session = s; stored = w .stored; flags = flags; log = l }
 
--- build gives 1 to 7; trial all of 1 to 13 but 6; keep the same except 9 and 13
+-- build gives 1 to 7; trial all of 1 to 13 but 6; keep the same except 9 and 13, and 16; taking back 1 to 8 but 6, 15 and 16
 pub record Demand1 : Type 0 where
   pub build-number : (l : BuildLent) → leb (numberOf (build l .answer)) 7 ≡ true
   pub build-refused : (l : BuildLent) → (numberOf (build l .answer) ≡ 0 → ⊥) → build l ≡ buildAsWas l (build l .answer)
   pub trial-number : (s : Session) (w : Model) (c : Tried) → let k = numberOf (trial s w c .answer) in (leb k 13 && not (eqb k 6)) ≡ true
   pub trial-refused : (s : Session) (w : Model) (c : Tried) → (numberOf (trial s w c .answer) ≡ 0 → ⊥) → trial s w c ≡ trialAsWas s c (trial s w c .answer)
-  pub keep-number : (s : Session) (w : Model) (c : Kept) → let k = numberOf (keep s w c .answer) in (leb k 13 && not (eqb k 6) && not (eqb k 9) && not (eqb k 13)) ≡ true
-  pub keep-refused : (s : Session) (w : Model) (c : Kept) → (numberOf (keep s w c .answer) ≡ 0 → ⊥) → keep s w c ≡ keepAsWas s w c (keep s w c .answer)
+  pub keep-number : (s : Session) (l : Log) (w : Model) (c : Kept) → let k = numberOf (keep s l w c .answer) in
+      ((leb k 12 && not (eqb k 6) && not (eqb k 9)) || eqb k 16) ≡ true
+  pub keep-refused : (s : Session) (l : Log) (w : Model) (c : Kept) → (numberOf (keep s l w c .answer) ≡ 0 → ⊥) → keep s l w c ≡ keepAsWas s l w (c .flags) (keep s l w c .answer)
+  pub take-number : (s : Session) (l : Log) (w : Model) (flags : List ℕ) → let k = numberOf (takeBack s l w flags .answer) in
+      ((leb k 8 && not (eqb k 6)) || eqb k 15 || eqb k 16) ≡ true
+  pub take-refused : (s : Session) (l : Log) (w : Model) (flags : List ℕ) → (numberOf (takeBack s l w flags .answer) ≡ 0 → ⊥)
+      → takeBack s l w flags ≡ keepAsWas s l w flags (takeBack s l w flags .answer)
   pub write-refused : (t : Tables) (starts : List ℤ) (bytes : List ℕ) → (write t starts bytes .0 ≡ accepted → ⊥) → write t starts bytes ≡ (refused 1 0, bytes)
   pub read-refused : (bytes : List ℕ) (t : Tables) (starts : List ℤ) → (read bytes t starts .0 ≡ accepted → ⊥) → read bytes t starts .1 ≡ (counted 0 0 0 t, starts)
 
@@ -83,6 +90,8 @@ module _ (b : BuildLent) where
     pub stored : build b .stored ≡ over (t .n) (afresh (net t) (startValues b) (t .n)) (b .stored)
     pub stored-meet : (v : ℕ) → afresh (net t) (startValues b) (t .n) v ≡ valuation (net t) (startValues b) (afresh (net t) (startValues b) (t .n)) v
     pub session : build b .session ≡ record { kept = 0; evaluations = t .m }
+    -- the log is empty
+    pub empty : build b .logSizes ≡ set (b .logSizes) 0 0
     pub answer : build b .answer ≡ Accepted (t .m)
 
 -- each number is one of its field, as it is in lent rows of those widths
@@ -117,69 +126,91 @@ pub record Demand2 : Type 0 where
   pub read-back : ReadBack
   pub written-back : WrittenBack
 
--- ── demand 3: over any run of trials and keeps after an accepted build ──
+-- ── demand 3: over any run of trials, keeps and takings back after an accepted build ──
 -- All that a call is lent is free but the session record. A run lists its calls with the latest first, so what holds after every run holds after
--- each call of it. The moves kept are listed the same way.
+-- each call of it. The moves kept and not taken back are listed the same way.
 
--- the row of stored values that a call is lent: the session's own, or another
-pub data Row : Type 0 where
-  own : Row
-  another : List ℤ → Row
+-- what a call is lent: the session's own, or another
+pub data Lent (A : Type 0) : Type 0 where
+  own : Lent A
+  another : A → Lent A
 
 -- the model that it is lent
 pub record Lends : Type 0 where
   pub tables : Tables
   pub numbers : List ℕ
   pub order : List ℕ
-  pub stored : Row
+  pub stored : Lent (List ℤ)
   pub index : Index
 
 pub data Call : Type 0 where
   tries : Lends → Tried → Call
-  keeps : Lends → Kept → Call
+  keeps : Lends → Lent Log → Kept → Call
+  -- with a row of flags
+  takes : Lends → Lent Log → List ℕ → Call
 
 abbrev pub lendsOf : Call → Lends
 lendsOf (tries l c) = l
-lendsOf (keeps l c) = l
+lendsOf (keeps l g c) = l
+lendsOf (takes l g flags) = l
 
--- what the calls hand on: the record and the session's own row
+-- a trial is lent no log
+abbrev pub logOf : Call → Lent Log
+logOf (tries l c) = own
+logOf (keeps l g c) = g
+logOf (takes l g flags) = g
+
+-- what the calls hand on: the record, the session's own row and its log
 pub record State : Type 0 where
   pub session : Session
   pub stored : List ℤ
+  pub log : Log
 
--- the row that is lent, and the session's own row afterwards
-abbrev pub rowLent : Row → List ℤ → List ℤ
-rowLent own mine = mine
-rowLent (another row) mine = row
+-- what is lent, and the session's own afterwards
+abbrev pub lentOf : {A : Type 0} → Lent A → A → A
+lentOf own mine = mine
+lentOf (another other) mine = other
 
-abbrev pub rowAfter : Row → List ℤ → List ℤ → List ℤ
-rowAfter own left mine = left
-rowAfter (another row) left mine = mine
+abbrev pub ownAfter : {A : Type 0} → Lent A → A → A → A
+ownAfter own left mine = left
+ownAfter (another other) left mine = mine
+
+-- a list without its head
+abbrev pub rest : {A : Type 0} → List A → List A
+rest [] = []
+rest (x ∷ xs) = xs
 
 module _ (now : State) where
   abbrev pub modelOf : Lends → Model
-  modelOf l = record { tables = l .tables; numbers = l .numbers; order = l .order; stored = rowLent (l .stored) (now .stored); index = l .index }
+  modelOf l = record { tables = l .tables; numbers = l .numbers; order = l .order; stored = lentOf (l .stored) (now .stored); index = l .index }
 
   abbrev pub verdictOf : Call → Verdict
   verdictOf (tries l c) = trialVerdict (modelOf l) c
-  verdictOf (keeps l c) = keepVerdict (modelOf l) c
+  verdictOf (keeps l g c) = keepVerdict (now .session) (lentOf g (now .log)) (modelOf l) c
+  verdictOf (takes l g flags) = takeVerdict (now .session) (lentOf g (now .log)) (modelOf l) flags
+
+  -- after what a keep or a taking back left
+  abbrev pub passedOn : Lends → Lent Log → KeepLeft → State
+  passedOn l g left = record { session = left .session; stored = ownAfter (l .stored) (left .stored) (now .stored); log = ownAfter g (left .log) (now .log) }
 
   abbrev pub step : Call → State
-  step (tries l c) = record { session = trial (now .session) (modelOf l) c .session; stored = now .stored }
-  step (keeps l c) = let left = keep (now .session) (modelOf l) c in
-      record { session = left .session; stored = rowAfter (l .stored) (left .stored) (now .stored) }
+  step (tries l c) = record { session = trial (now .session) (modelOf l) c .session; stored = now .stored; log = now .log }
+  step (keeps l g c) = passedOn l g (keep (now .session) (lentOf g (now .log)) (modelOf l) c)
+  step (takes l g flags) = passedOn l g (takeBack (now .session) (lentOf g (now .log)) (modelOf l) flags)
 
-  -- the moves kept
-  abbrev pub keptBy : Call → List (List (ℕ × ℤ)) → List (List (ℕ × ℤ))
-  keptBy (tries l c) earlier = earlier
-  keptBy (keeps l c) earlier = leaves (keepVerdict (modelOf l) c) (movePairs (c .move) ∷ earlier) earlier
+  -- the moves kept and not taken back
+  abbrev pub standing : Call → List (List (ℕ × ℤ)) → List (List (ℕ × ℤ))
+  standing (tries l c) earlier = earlier
+  standing (keeps l g c) earlier = leaves (verdictOf (keeps l g c)) (movePairs (c .move) ∷ earlier) earlier
+  standing (takes l g flags) earlier = leaves (verdictOf (takes l g flags)) (rest earlier) earlier
 
 -- start values with the moves applied, from the last of the list to its head
 abbrev pub applied : Values → List (List (ℕ × ℤ)) → Values
 applied s [] = s
 applied s (mv ∷ earlier) = moved mv (applied s earlier)
 
-module _ (b : BuildLent) where
+-- `room` are the rows for the pairs of the log, which build is not lent
+module _ (b : BuildLent) (room : List ℕ × List ℤ) where
   -- what build was lent and left
   abbrev pub ownModel : Lends
   ownModel = record { tables = b .tables; numbers = build b .numbers; order = build b .order; stored = own; index = build b .index }
@@ -190,26 +221,35 @@ module _ (b : BuildLent) where
 
   -- the state after a run
   abbrev pub after : List Call → State
-  after [] = record { session = build b .session; stored = build b .stored }
+  after [] = record { session = build b .session; stored = build b .stored; log = logIn (build b .logSizes) (room .0) (room .1) }
   after (c ∷ earlier) = step (after earlier) c
 
-  -- the moves kept in it, latest first
+  -- the moves kept in it and not taken back, latest first
   abbrev pub history : List Call → List (List (ℕ × ℤ))
   history [] = []
-  history (c ∷ earlier) = keptBy (after earlier) c (history earlier)
+  history (c ∷ earlier) = standing (after earlier) c (history earlier)
 
-  -- each accepted call was lent the model's own; refused ones were lent anything
+  -- each accepted call was lent the model's own, and the session's own log; refused ones were lent anything
   abbrev pub Proper : List Call → Type 0
   Proper [] = Unit {0}
-  Proper (c ∷ earlier) = (verdictOf (after earlier) c ≡ accepted → lendsOf c ≡ ownModel) × Proper earlier
+  Proper (c ∷ earlier) = (verdictOf (after earlier) c ≡ accepted → (lendsOf c ≡ ownModel) × (logOf c ≡ own)) × Proper earlier
 
-module _ (b : BuildLent) (cs : List Call) where
-  -- the fresh values of the moves kept in the run, and those of one more move
+module _ (b : BuildLent) (room : List ℕ × List ℤ) (cs : List Call) where
+  abbrev pub now : State
+  now = after b room cs
+
+  abbrev pub moves : List (List (ℕ × ℤ))
+  moves = history b room cs
+
+  -- the fresh values of the moves kept in the run and not taken back, those of one more move, and those without the latest
   abbrev pub old : Values
-  old = fresh b (history b cs)
+  old = fresh b room moves
 
   abbrev pub renewed : Move → Values
-  renewed mv = fresh b (movePairs mv ∷ history b cs)
+  renewed mv = fresh b room (movePairs mv ∷ moves)
+
+  abbrev pub restored : Values
+  restored = fresh b room (rest moves)
 
   -- the variables that a route evaluates over them
   abbrev pub evaluatedBy : Route → Move → List ℕ → ℕ → Bool
@@ -224,7 +264,7 @@ module _ (b : BuildLent) (cs : List Call) where
   -- an accepted trial after the run
   module _ (l : Lends) (c : Tried) where
     abbrev pub tried : TrialLeft
-    tried = trial (after b cs .session) (modelOf (after b cs) l) c
+    tried = trial (now .session) (modelOf now l) c
 
     abbrev pub triedSet : ℕ → Bool
     triedSet = evaluatedBy (routeOf (c .route)) (c .move) (askedList c)
@@ -235,32 +275,54 @@ module _ (b : BuildLent) (cs : List Call) where
       -- the trial buffer: new where moved or evaluated, old elsewhere
       pub row : tried .trial ≡ over (b .tables .n) (λ v. cond (names (movePairs (c .move)) v || triedSet v) (renewed (c .move) v) (old v)) (c .trial)
       pub told : Told triedSet (evaluationsOf (tried .answer)) (tried .flags) (c .flags)
-      pub session : tried .session ≡ record { kept = after b cs .session .kept; evaluations = evaluationsOf (tried .answer) }
+      pub session : tried .session ≡ record { kept = now .session .kept; evaluations = evaluationsOf (tried .answer) }
 
   -- an accepted keep after the run
-  module _ (l : Lends) (c : Kept) where
+  module _ (l : Lends) (g : Lent Log) (c : Kept) where
     abbrev pub kept : KeepLeft
-    kept = keep (after b cs .session) (modelOf (after b cs) l) c
+    kept = keep (now .session) (lentOf g (now .log)) (modelOf now l) c
 
     pub record KeepRight : Type 0 where
       -- its move heads the history, and the stored values are the fresh ones of that
-      pub move : history b (keeps l c ∷ cs) ≡ movePairs (c .move) ∷ history b cs
+      pub move : history b room (keeps l g c ∷ cs) ≡ movePairs (c .move) ∷ moves
       pub stored : kept .stored ≡ over (b .tables .n) (renewed (c .move)) (b .stored)
       pub told : Told (evaluatedBy input-to-output (c .move) []) (evaluationsOf (kept .answer)) (kept .flags) (c .flags)
-      pub session : kept .session ≡ record { kept = min (suc (after b cs .session .kept)) 4294967295; evaluations = evaluationsOf (kept .answer) }
+      pub session : kept .session ≡ record { kept = min (suc (now .session .kept)) 4294967295; evaluations = evaluationsOf (kept .answer) }
+      -- one more can be taken back, and 64 at most
+      pub more : logged (kept .log) ≡ min (suc (logged (now .log))) 64
+
+  -- an accepted taking back after the run
+  module _ (l : Lends) (g : Lent Log) (flags : List ℕ) where
+    abbrev pub taken : KeepLeft
+    taken = takeBack (now .session) (lentOf g (now .log)) (modelOf now l) flags
+
+    pub record TakeRight : Type 0 where
+      -- the head of the history goes, and the stored values are the fresh ones without it
+      pub move : history b room (takes l g flags ∷ cs) ≡ rest moves
+      pub stored : taken .stored ≡ over (b .tables .n) restored (b .stored)
+      pub told : Told (evaluatedBy input-to-output (latest (now .log) flags .move) []) (evaluationsOf (taken .answer)) (taken .flags) flags
+      pub session : let k = now .session .kept in taken .session ≡ record { kept = cond (ltb k 4294967295) (pred k) k; evaluations = evaluationsOf (taken .answer) }
+      pub fewer : logged (taken .log) ≡ pred (logged (now .log))
 
   pub record Demand3 : Type 0 where
-    -- after every run the stored values are the fresh ones of the moves kept, and what lies beyond is as it was before the build
-    pub stored : after b cs .stored ≡ over (b .tables .n) old (b .stored)
-    -- the record has the number of moves kept, up to its ceiling
-    pub moves : after b cs .session .kept ≡ min (length (history b cs)) 4294967295
+    -- after every run the stored values are the fresh ones of the moves kept and not taken back, and what lies beyond is as it was before the build
+    pub stored : now .stored ≡ over (b .tables .n) old (b .stored)
+    -- the record has the number of these moves, as long as there were too few calls to reach its ceiling
+    pub counted : length cs < 4294967295 → now .session .kept ≡ length moves
+    -- the log is fit, and has no more moves than these
+    pub log-good : logGood (now .log) (b .tables) (now .session .kept) ≡ true
+    pub log-low : logged (now .log) ≤ length moves
     -- the next call, if it is accepted and was lent the model's own
-    pub trial-accepted : (c : Tried) → numberOf (tried (ownModel b) c .answer) ≡ 0 → TrialRight (ownModel b) c
-    pub keep-accepted : (c : Kept) → numberOf (kept (ownModel b) c .answer) ≡ 0 → KeepRight (ownModel b) c
+    pub trial-accepted : (c : Tried) → numberOf (tried (ownModel b room) c .answer) ≡ 0 → TrialRight (ownModel b room) c
+    pub keep-accepted : (c : Kept) → numberOf (kept (ownModel b room) own c .answer) ≡ 0 → KeepRight (ownModel b room) own c
+    pub take-accepted : (flags : List ℕ) → numberOf (taken (ownModel b room) own flags .answer) ≡ 0 → TakeRight (ownModel b room) own flags
     -- no trial alters a stored value, and a refused call changes nothing, whatever it was lent
-    pub trial-stored : (l : Lends) (c : Tried) → after b (tries l c ∷ cs) .stored ≡ after b cs .stored
+    pub trial-stored : (l : Lends) (c : Tried) → after b room (tries l c ∷ cs) .stored ≡ now .stored
     pub trial-refused : (l : Lends) (c : Tried) → (numberOf (tried l c .answer) ≡ 0 → ⊥)
-        → (tried l c ≡ trialAsWas (after b cs .session) c (tried l c .answer)) × (after b (tries l c ∷ cs) ≡ after b cs)
-    pub keep-refused : (l : Lends) (c : Kept) → (numberOf (kept l c .answer) ≡ 0 → ⊥)
-        → (kept l c ≡ keepAsWas (after b cs .session) (modelOf (after b cs) l) c (kept l c .answer)) × (after b (keeps l c ∷ cs) ≡ after b cs)
-        × (history b (keeps l c ∷ cs) ≡ history b cs)
+        → (tried l c ≡ trialAsWas (now .session) c (tried l c .answer)) × (after b room (tries l c ∷ cs) ≡ now)
+    pub keep-refused : (l : Lends) (g : Lent Log) (c : Kept) → (numberOf (kept l g c .answer) ≡ 0 → ⊥)
+        → (kept l g c ≡ keepAsWas (now .session) (lentOf g (now .log)) (modelOf now l) (c .flags) (kept l g c .answer)) × (after b room (keeps l g c ∷ cs) ≡ now)
+        × (history b room (keeps l g c ∷ cs) ≡ moves)
+    pub take-refused : (l : Lends) (g : Lent Log) (flags : List ℕ) → (numberOf (taken l g flags .answer) ≡ 0 → ⊥)
+        → (taken l g flags ≡ keepAsWas (now .session) (lentOf g (now .log)) (modelOf now l) flags (taken l g flags .answer)) × (after b room (takes l g flags ∷ cs) ≡ now)
+        × (history b room (takes l g flags ∷ cs) ≡ moves)

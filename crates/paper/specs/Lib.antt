@@ -3,6 +3,7 @@ pub mod Formula
 pub mod Net
 pub mod Tables
 pub mod Checks
+pub mod Log
 pub mod Calls
 pub mod File
 pub mod Moves

@@ -46,6 +46,7 @@ building t s = record {
   order = zeros (t .m);
   stored = zerosZ (t .n);
   index = record { starts = zeros (suc (t .n)); places = zeros (t .e) };
+  logSizes = zeros 65;
 }
 
 -- the same answer

@@ -20,6 +20,7 @@ pub fn build_planned(
     stored: &mut [i32],
     reader_starts: &mut [u16],
     reader_places: &mut [u16],
+    log_sizes: &mut [u16],
 ) -> Done {
     engine::build_core(
         session,
@@ -39,6 +40,7 @@ pub fn build_planned(
         stored,
         reader_starts,
         reader_places,
+        log_sizes,
     )
 }
 
@@ -107,6 +109,9 @@ pub fn keep_planned(
     move_vars: &[u16],
     move_values: &[i32],
     flags: &mut [u8],
+    log_sizes: &mut [u16],
+    log_vars: &mut [u16],
+    log_values: &mut [i32],
 ) -> Done {
     engine::keep_core(
         session,
@@ -129,5 +134,48 @@ pub fn keep_planned(
         move_vars,
         move_values,
         flags,
+        log_sizes,
+        log_vars,
+        log_values,
+    )
+}
+
+// Takes the latest kept move back.
+pub fn take_planned(
+    session: Session,
+    n: usize,
+    m: usize,
+    e: usize,
+    plan: &[u16],
+    pool: &[u16],
+    params: &[i32],
+    coefs: &[i16],
+    stored: &mut [i32],
+    flags: &mut [u8],
+    log_sizes: &mut [u16],
+    log_vars: &[u16],
+    log_values: &[i32],
+) -> Done {
+    engine::take_back_core(
+        session,
+        n,
+        m,
+        e,
+        row16(pool, plan, 0),
+        row16(pool, plan, 2),
+        params,
+        row16(pool, plan, 4),
+        row16(pool, plan, 6),
+        row16(pool, plan, 8),
+        coefs,
+        row16(pool, plan, 10),
+        row16(pool, plan, 12),
+        stored,
+        row16(pool, plan, 14),
+        row16(pool, plan, 16),
+        flags,
+        log_sizes,
+        log_vars,
+        log_values,
     )
 }

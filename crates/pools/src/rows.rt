@@ -6,14 +6,19 @@ use crate::fields::least;
 use crate::fields::signed;
 use integers::signed16;
 
+// The number at a place of a row, 0 past its end.
+pub fn number_at(row: &[u16], at: usize) -> u16 {
+    if row.len() <= at {
+        return 0;
+    }
+    row[at]
+}
+
 // The number at a place of a plan, 0 past its end.
 fn planned(plan: &[u16], at: usize) -> usize
     ensures { λ r. ⌜ r < 65536 ⌝ }
 {
-    if plan.len() <= at {
-        return 0;
-    }
-    integers::wide(plan[at])
+    integers::wide(number_at(plan, at))
 }
 
 // The row whose two numbers stand at a place of the plan, as far as the pool goes.

@@ -1,11 +1,12 @@
-// A recorded call on a model that was built: a trial, a keep, or a change of one field of what is lent. It has 48 bytes: which of the three (1, 2,
-// 3), route, pairs, asked (4 bytes each), 4 pair variables (2 each), 4 new values (4 each), 4 asked variables (2 each). A change has the number of
-// the row that it changes, the place there and the new field instead of route, pairs and asked.
+// A recorded call on a model that was built: a trial, a keep, a change of one field of what is lent, or a taking back. It has 48 bytes: which of
+// the four (1, 2, 3, 4), route, pairs, asked (4 bytes each), 4 pair variables (2 each), 4 new values (4 each), 4 asked variables (2 each). A change
+// has the number of the row that it changes, the place there and the new field instead of route, pairs and asked. A taking back has nothing more.
 use crate::change::change;
 use crate::model::plan;
 use crate::print;
 use engine::Session;
 use pools::calls::keep_planned;
+use pools::calls::take_planned;
 use pools::calls::try_planned;
 use pools::fields::part;
 use pools::fields::word;
@@ -77,6 +78,9 @@ fn keep_move(
     params: &[i32],
     coefs: &[i16],
     stored: &mut [i32],
+    log_sizes: &mut [u16],
+    log_vars: &mut [u16],
+    log_values: &mut [i32],
 ) -> Session {
     let mut flags = [0u8; 16];
     let done = keep_planned(
@@ -93,8 +97,47 @@ fn keep_move(
         &four(call, 16),
         &move_values(call),
         &mut flags,
+        log_sizes,
+        log_vars,
+        log_values,
     );
-    print::kept(done, n, stored, &flags);
+    print::changed(b"keep", done, n, stored, &flags);
+    print::log(done, log_sizes, log_vars, log_values);
+    done.session
+}
+
+// Takes the latest kept move back, prints what comes back, and answers the record.
+fn take_move(
+    session: Session,
+    n: usize,
+    m: usize,
+    e: usize,
+    pool: &[u16],
+    params: &[i32],
+    coefs: &[i16],
+    stored: &mut [i32],
+    log_sizes: &mut [u16],
+    log_vars: &[u16],
+    log_values: &[i32],
+) -> Session {
+    let mut flags = [0u8; 16];
+    let done = take_planned(
+        session,
+        n,
+        m,
+        e,
+        &plan(),
+        pool,
+        params,
+        coefs,
+        stored,
+        &mut flags,
+        log_sizes,
+        log_vars,
+        log_values,
+    );
+    print::changed(b"back", done, n, stored, &flags);
+    print::log(done, log_sizes, log_vars, log_values);
     done.session
 }
 
@@ -109,13 +152,54 @@ pub fn make(
     params: &mut [i32],
     coefs: &mut [i16],
     stored: &mut [i32],
+    log_sizes: &mut [u16],
+    log_vars: &mut [u16],
+    log_values: &mut [i32],
 ) -> Session {
     let which = word(call, 0);
     if which == 1 {
         return try_move(session, call, n, m, e, pool, params, coefs, stored);
     }
     if which == 2 {
-        return keep_move(session, call, n, m, e, pool, params, coefs, stored);
+        return keep_move(
+            session,
+            call,
+            n,
+            m,
+            e,
+            pool,
+            params,
+            coefs,
+            stored,
+            log_sizes,
+            log_vars,
+            log_values,
+        );
     }
-    change(session, call, pool, params, coefs, stored)
+    if which == 4 {
+        return take_move(
+            session,
+            n,
+            m,
+            e,
+            pool,
+            params,
+            coefs,
+            stored,
+            log_sizes,
+            log_vars,
+            log_values,
+        );
+    }
+    change(
+        session,
+        call,
+        pool,
+        params,
+        coefs,
+        stored,
+        log_sizes,
+        log_vars,
+        log_values,
+    )
 }

@@ -1,5 +1,6 @@
-// A change of one field of what is lent, or of the record. Rows 1 to 12 are kinds, made variables, parameters, firsts, counts, entry variables,
-// coefficients, numbers, order, stored values, and of the index of readers the starts and the places; row 0 is the record's moves kept.
+// A change of one field of what is lent, or of the record. Rows 1 to 15 are kinds, made variables, parameters, firsts, counts, entry variables,
+// coefficients, numbers, order, stored values, of the index of readers the starts and the places, and of the log the sizes, the variables and the
+// values; row 0 is the record's moves kept.
 use crate::model::start;
 use crate::print;
 use engine::Session;
@@ -32,6 +33,36 @@ fn put_kept(session: Session, is: bool, kept: u32) -> Session {
     }
 }
 
+// Changes a field of the model.
+fn change_model(
+    row: u32,
+    place: usize,
+    field: u32,
+    pool: &mut [u16],
+    params: &mut [i32],
+    coefs: &mut [i16],
+    stored: &mut [i32],
+) {
+    put16(pool, after(start(row), place), low(field));
+    put_signed32(params, here(row == 3, place), signed32(field));
+    put_signed16(coefs, here(row == 7, place), signed16(low(field)));
+    put_signed32(stored, here(row == 10, place), signed32(field));
+}
+
+// Changes a field of the log.
+fn change_log(
+    row: u32,
+    place: usize,
+    field: u32,
+    log_sizes: &mut [u16],
+    log_vars: &mut [u16],
+    log_values: &mut [i32],
+) {
+    put16(log_sizes, here(row == 13, place), low(field));
+    put16(log_vars, here(row == 14, place), low(field));
+    put_signed32(log_values, here(row == 15, place), signed32(field));
+}
+
 // Changes a field, prints which, and answers the record.
 pub fn change(
     session: Session,
@@ -40,14 +71,15 @@ pub fn change(
     params: &mut [i32],
     coefs: &mut [i16],
     stored: &mut [i32],
+    log_sizes: &mut [u16],
+    log_vars: &mut [u16],
+    log_values: &mut [i32],
 ) -> Session {
     let row = word(call, 4);
     let place = word(call, 8) as usize;
     let field = word(call, 12);
     print::change(row, word(call, 8), field);
-    put16(pool, after(start(row), place), low(field));
-    put_signed32(params, here(row == 3, place), signed32(field));
-    put_signed16(coefs, here(row == 7, place), signed16(low(field)));
-    put_signed32(stored, here(row == 10, place), signed32(field));
+    change_model(row, place, field, pool, params, coefs, stored);
+    change_log(row, place, field, log_sizes, log_vars, log_values);
     put_kept(session, row == 0, field)
 }

@@ -1,6 +1,7 @@
 // Replays recorded sessions: for each file that the arguments name, what the engine answers and leaves, call by call. A session is the length of a
 // model file and the number of calls (4 bytes each), the model file, and the calls. The model is read into rows for 16 variables and rows and 64
-// entries, and built; then the calls are made one after another on what the call before left.
+// entries, and built; then the calls are made one after another on what the call before left,
+// with one log.
 mod calls;
 mod change;
 mod model;
@@ -31,6 +32,9 @@ fn make_calls(
     params: &mut [i32],
     coefs: &mut [i16],
     stored: &mut [i32],
+    log_sizes: &mut [u16],
+    log_vars: &mut [u16],
+    log_values: &mut [i32],
 ) {
     let mut session = begun;
     let mut at = 0;
@@ -45,9 +49,72 @@ fn make_calls(
             params,
             coefs,
             stored,
+            log_sizes,
+            log_vars,
+            log_values,
         );
         at = after(at, 48);
     }
+}
+
+// Makes the calls of a session with values for its log.
+fn with_log_values(
+    begun: Session,
+    calls: &[u8],
+    n: usize,
+    m: usize,
+    e: usize,
+    pool: &mut [u16],
+    params: &mut [i32],
+    coefs: &mut [i16],
+    stored: &mut [i32],
+    log_sizes: &mut [u16],
+    log_vars: &mut [u16],
+) {
+    let mut log_values = [0i32; 4096];
+    make_calls(
+        begun,
+        calls,
+        n,
+        m,
+        e,
+        pool,
+        params,
+        coefs,
+        stored,
+        log_sizes,
+        log_vars,
+        &mut log_values,
+    );
+}
+
+// Makes the calls of a session with variables for its log, whose sizes build emptied.
+fn with_log(
+    begun: Session,
+    calls: &[u8],
+    n: usize,
+    m: usize,
+    e: usize,
+    pool: &mut [u16],
+    params: &mut [i32],
+    coefs: &mut [i16],
+    stored: &mut [i32],
+    log_sizes: &mut [u16],
+) {
+    let mut log_vars = [0u16; 4096];
+    with_log_values(
+        begun,
+        calls,
+        n,
+        m,
+        e,
+        pool,
+        params,
+        coefs,
+        stored,
+        log_sizes,
+        &mut log_vars,
+    );
 }
 
 // The calls to make after a build: all of them if it is accepted, and else none.
@@ -58,8 +125,8 @@ fn calls_after(told: Answer, calls: &[u8]) -> &[u8] {
     calls
 }
 
-// Builds a model that was read and prints what comes back; numbers, order and readers go into the pool. The record before it is not all 0, so that
-// what build makes of it shows.
+// Builds a model that was read and prints what comes back; numbers, order and readers go into the pool. The record and the log's sizes before it
+// are not all 0, so that what build makes of them shows.
 fn build(
     n: usize,
     m: usize,
@@ -69,6 +136,7 @@ fn build(
     coefs: &[i16],
     starts: &[i32],
     stored: &mut [i32],
+    log_sizes: &mut [u16],
 ) -> Done {
     let mut numbers = [0u16; 16];
     let mut order = [0u16; 16];
@@ -92,6 +160,7 @@ fn build(
         stored,
         &mut reader_starts,
         &mut reader_places,
+        log_sizes,
     );
     print::built(done, n, m, &numbers, &order, stored);
     print::readers(done, n, e, &reader_starts, &reader_places);
@@ -135,13 +204,24 @@ fn read_and_go_on(file: &[u8], calls: &[u8]) {
     let mut coefs = [0i16; 64];
     let mut starts = [0i32; 16];
     let mut stored = [0i32; 16];
+    let mut log_sizes = [7u16; 65];
     let told = read(file, &mut pool, &mut params, &mut coefs, &mut starts);
     let Reading::Accepted { n, m, e } = told else {
         return;
     };
-    let done = build(n, m, e, &mut pool, &params, &coefs, &starts, &mut stored);
+    let done = build(
+        n,
+        m,
+        e,
+        &mut pool,
+        &params,
+        &coefs,
+        &starts,
+        &mut stored,
+        &mut log_sizes,
+    );
     let answer = done.answer;
-    make_calls(
+    with_log(
         done.session,
         calls_after(answer, calls),
         n,
@@ -151,6 +231,7 @@ fn read_and_go_on(file: &[u8], calls: &[u8]) {
         &mut params,
         &mut coefs,
         &mut stored,
+        &mut log_sizes,
     );
 }
 
@@ -181,7 +262,7 @@ fn sessions(bytes: &[u8]) {
 
 // Replays the sessions of the file that argument i names.
 fn replay(i: usize) {
-    let mut file = [0u8; 8192];
+    let mut file = [0u8; 12288];
     let got = read_argument(i, &mut file);
     sessions(&file[..got]);
 }

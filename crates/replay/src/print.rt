@@ -1,4 +1,4 @@
-// The lines of a session: what a read, a build, a trial, a keep and a change print. Behind the answer and the record stand the rows that an accepted
+// The lines of a session: what a read, a build, a trial, a keep, a change and a taking back print. Behind the answer and the record stand the rows that an accepted
 // call leaves, a bar before each.
 use engine::Done;
 use files::Reading;
@@ -11,6 +11,9 @@ use pools::print::record;
 use pools::print::text;
 use pools::print::three;
 use pools::print::values;
+use pools::rows::number_at;
+use pools::rows::row_signed32;
+use pools::rows::row16;
 use tables::Answer;
 
 // Prints the line of a read: number, place, n, m and e.
@@ -97,12 +100,33 @@ pub fn tried(done: Done, asked: usize, results: &[i32], n: usize, trial: &[i32],
     text(b"\n");
 }
 
-// Prints the line of a keep.
-pub fn kept(done: Done, n: usize, stored: &[i32], evaluated: &[u8]) {
+// Prints the line of a keep or of a taking back as far as the flags.
+pub fn changed(call: &[u8], done: Done, n: usize, stored: &[i32], evaluated: &[u8]) {
     let told = done.answer;
-    come_to(b"keep", done);
+    come_to(call, done);
     left_values(told, n, stored);
     left_flags(told, n, evaluated);
+}
+
+// Where the pairs of the latest move of a log of so many moves start.
+fn latest(moves: u16) -> u16 {
+    if moves == 0 {
+        return 0;
+    }
+    if 64 < moves {
+        return 0;
+    }
+    64 * (moves - 1)
+}
+
+// Prints the rest of such a line: how many moves the log holds and how many pairs each has, and the pairs of the latest.
+pub fn log(done: Done, sizes: &[u16], vars: &[u16], row: &[i32]) {
+    let told = done.answer;
+    let moves = number_at(sizes, 0);
+    let part = [latest(moves), number_at(sizes, moves as usize)];
+    left_numbers(told, after(moves as usize, 1), sizes);
+    left_numbers(told, 64, row16(vars, &part, 0));
+    left_values(told, 64, row_signed32(row, &part, 0));
     text(b"\n");
 }
 

@@ -28,8 +28,8 @@ abbrev Told : ℕ → BuildLeft → List ℕ → List ℕ → ℕ → Type 0
 Told n left before after count = Shows (said (left .answer) n (left .numbers) (left .stored)) before after count
 
 -- by the case of the call's answer
-module _ {before after : List ℕ} {count : ℕ} (done : Done) (numbers order : List ℕ) (stored : List ℤ) (starts places : List ℕ) (n : ℕ) (left : BuildLeft)
-    (e : leftByBuild done numbers order stored starts places ≡ left) where
+module _ {before after : List ℕ} {count : ℕ} (done : Done) (numbers order : List ℕ) (stored : List ℤ) (starts places sizes : List ℕ) (n : ℕ) (left : BuildLeft)
+    (e : leftByBuild done numbers order stored starts places sizes ≡ left) where
   told : (a : Answer) → done .answer ≡ a → Shows (said (answerIn a) n numbers stored) before after count → Told n left before after count
   told a q s = subst (λ x. Told n x before after count) e (subst (λ x. Shows (said (answerIn x) n numbers stored) before after count) (sym q) s)
 

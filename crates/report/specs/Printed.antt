@@ -28,6 +28,7 @@ fresh t starts = record {
   order = replicate 4096 0;
   stored = replicate 4096 (pos 0);
   index = indexIn (replicate 4097 0) (replicate 16384 0);
+  logSizes = replicate 65 0;
 }
 
 -- the text for tables and start values: what is said of what build leaves of them

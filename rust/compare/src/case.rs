@@ -8,13 +8,15 @@ use crate::{Buffer, Guarded};
 /// Which call.
 #[derive(Clone, Copy, Debug, Default, PartialEq, Eq)]
 pub enum Call {
-    /// Numbers, order, values and readers from tables and start values.
+    /// Numbers, order, values and readers from tables and start values, and an empty log.
     #[default]
     Build,
     /// A move tried by a route.
     Trial,
     /// A move kept.
     Keep,
+    /// The latest kept move taken back.
+    TakeBack,
     /// Tables from a file.
     Read,
     /// A file from tables.
@@ -52,6 +54,9 @@ pub struct Case {
     pub results: Guarded<i32>,
     pub trial: Guarded<i32>,
     pub flags: Guarded<u8>,
+    pub log_sizes: Guarded<u16>,
+    pub log_vars: Guarded<u16>,
+    pub log_values: Guarded<i32>,
     pub bytes: Guarded<u8>,
 }
 
@@ -78,6 +83,9 @@ macro_rules! buffers_of {
             ("results", $($borrowed)+ $case.results),
             ("trial", $($borrowed)+ $case.trial),
             ("flags", $($borrowed)+ $case.flags),
+            ("log_sizes", $($borrowed)+ $case.log_sizes),
+            ("log_vars", $($borrowed)+ $case.log_vars),
+            ("log_values", $($borrowed)+ $case.log_values),
             ("bytes", $($borrowed)+ $case.bytes),
         ]
     };
@@ -103,13 +111,13 @@ impl Case {
 
     /// Every buffer by name, in the order of the fields.
     #[must_use]
-    pub fn buffers(&self) -> [(&'static str, &dyn Buffer); 20] {
+    pub fn buffers(&self) -> [(&'static str, &dyn Buffer); 23] {
         buffers_of!(self, &)
     }
 
     /// Every buffer by name, to be changed.
     #[must_use]
-    pub fn buffers_mut(&mut self) -> [(&'static str, &mut dyn Buffer); 20] {
+    pub fn buffers_mut(&mut self) -> [(&'static str, &mut dyn Buffer); 23] {
         buffers_of!(self, &mut)
     }
 
@@ -144,7 +152,7 @@ pub struct Answer {
 }
 
 impl Answer {
-    /// The answer of build, trial or keep.
+    /// The answer of build, trial, keep or taking back.
     #[must_use]
     pub fn of_call(evaluations: Result<u32, Refused>) -> Answer {
         evaluations.map_or_else(Answer::refused, |evaluations| Answer { evaluations, ..Answer::default() })

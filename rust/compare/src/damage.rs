@@ -1,15 +1,18 @@
 //! Cases made wrong in one place, longer than needed, or one too short.
 
-use second::{BLANK, MOST_ASKED, MOST_ENTRIES, MOST_PAIRS, MOST_VARIABLES};
+use lent::{LOG_PLACES, LOG_SIZES};
+use second::{BLANK, MOST_ASKED, MOST_ENTRIES, MOST_LOGGED, MOST_PAIRS, MOST_VARIABLES};
 
+use crate::logs::is_search;
 use crate::{Call, Case, Element, Guarded, Random, value};
 
 /// Makes one thing that the call is lent wrong, or only other than it was.
 pub fn damage(random: &mut Random, case: &mut Case) {
     match case.call {
         Call::Build if random.once_in(4) => damage_starts(random, case),
-        Call::Trial | Call::Keep if random.once_in(6) => damage_index(random, case),
-        Call::Trial | Call::Keep if random.once_in(2) => damage_change(random, case),
+        Call::Keep | Call::TakeBack if random.once_in(2) => damage_log(random, case),
+        Call::Trial | Call::Keep | Call::TakeBack if random.once_in(6) => damage_index(random, case),
+        Call::Trial | Call::Keep | Call::TakeBack if random.once_in(2) => damage_change(random, case),
         Call::Read => damage_bytes(random, case),
         _ => damage_tables(random, case),
     }
@@ -111,6 +114,42 @@ fn list_again(case: &mut Case, place: usize) {
     case.reader_places[place] = row;
     for start in case.reader_starts.iter_mut().filter(|start| usize::from(**start) > place) {
         *start = start.wrapping_add(1);
+    }
+}
+
+/// The log's number of moves, the record's number kept, the pairs of a move, or one pair; at times where no move stands.
+fn damage_log(random: &mut Random, case: &mut Case) {
+    let moves = case.logged();
+    let which = random.below(moves);
+    let size = case.log_sizes.get(which + 1).copied().unwrap_or(0);
+    let held = case.logged_places();
+    let place = if held.is_empty() { random.below(LOG_PLACES) } else { held[random.below(held.len())] };
+    let first = place - place % MOST_PAIRS;
+    let any = any_variable(random, case);
+    match random.below(11) {
+        0 => case.log_sizes.put(0, random.pick(&[MOST_LOGGED as u16 + 1, 65535, moves as u16 + 1, 0])),
+        1 => case.log_sizes.put(0, 0),
+        2 => case.session.kept = random.pick(&[moves as u32, moves.saturating_sub(1) as u32, 0, u32::MAX]),
+        3 => case.log_sizes.put(
+            which + 1,
+            random.pick(&[MOST_PAIRS as u16, MOST_PAIRS as u16 + 1, size.wrapping_add(1), size.wrapping_sub(1), 65535]),
+        ),
+        4 => {
+            let made = (0..case.n as u16).find(|&variable| !is_search(case, variable));
+            case.log_vars.put(place, made.unwrap_or(any));
+        }
+        5 => case.log_vars.put(place, random.pick(&[case.n as u16, 65535, any])),
+        6 => {
+            let earlier = case.log_vars.get(first).copied().unwrap_or(0);
+            case.log_vars.put(place, earlier);
+        }
+        7 | 8 => case.log_values.put(place, BLANK),
+        9 => case.log_values.put(place, value(random)),
+        _ => {
+            let beyond = MOST_PAIRS * which + usize::from(size);
+            case.log_vars.put(beyond, random.pick(&[65535, any]));
+            case.log_values.put(beyond, BLANK);
+        }
     }
 }
 
@@ -216,15 +255,25 @@ fn buffers(case: &mut Case) -> Vec<(&mut dyn Length, usize)> {
         Call::Trial | Call::Keep => {
             lent.push((&mut case.move_vars, pairs));
             lent.push((&mut case.move_values, pairs));
-            lent.push((&mut case.flags, n));
         }
+        Call::TakeBack => {}
     }
     if case.call == Call::Trial {
         lent.push((&mut case.trial, n));
         lent.push((&mut case.asked_vars, asked));
         lent.push((&mut case.results, asked));
     }
-    if matches!(case.call, Call::Build | Call::Trial | Call::Keep) {
+    if matches!(case.call, Call::Trial | Call::Keep | Call::TakeBack) {
+        lent.push((&mut case.flags, n));
+    }
+    if matches!(case.call, Call::Build | Call::Keep | Call::TakeBack) {
+        lent.push((&mut case.log_sizes, LOG_SIZES));
+    }
+    if matches!(case.call, Call::Keep | Call::TakeBack) {
+        lent.push((&mut case.log_vars, LOG_PLACES));
+        lent.push((&mut case.log_values, LOG_PLACES));
+    }
+    if matches!(case.call, Call::Build | Call::Trial | Call::Keep | Call::TakeBack) {
         lent.push((&mut case.numbers, n));
         lent.push((&mut case.order, m));
         lent.push((&mut case.stored, n));

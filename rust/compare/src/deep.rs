@@ -2,7 +2,7 @@
 
 use std::thread;
 
-use crate::runs::{built, keep, trial};
+use crate::runs::{built, keep, take_back, trial};
 use crate::{Answer, Call, Case, Engine, Side, chain, edges};
 
 /// The stack on which every call is to come back, in bytes.
@@ -34,7 +34,7 @@ fn every_row(name: &str, answer: Answer) {
     match name {
         "read" => assert_eq!((answer.n, answer.m, answer.e), (4096, 4095, 16380)),
         "write" => {}
-        "route 1" | "keep" => assert!(answer.evaluations > 0, "{name}"),
+        "route 1" | "keep" | "taking back" => assert!(answer.evaluations > 0, "{name}"),
         _ => assert_eq!(answer.evaluations, 4095, "{name}"),
     }
 }
@@ -51,12 +51,14 @@ pub fn models() -> Vec<Case> {
     models
 }
 
-/// Every call on a deepest model by name; a move at the near end of the chain is tried and kept, and the far end asked.
-pub fn calls(engine: &dyn Engine, model: &Case) -> [(&'static str, Case); 7] {
+/// Every call on a deepest model by name; a move at the near end of the chain is tried, kept and taken back, and the far
+/// end asked.
+pub fn calls(engine: &dyn Engine, model: &Case) -> [(&'static str, Case); 8] {
     let built = built(engine, model);
     let numbered = |wanted| built.numbers.iter().position(|&number| number == wanted).unwrap_or(0) as u16;
     let moved = [(numbered(0), 2)];
     let route = |route| trial(&built, &moved, &[numbered(4095)], route);
+    let kept = keep(&built, &moved);
     let write = edges::file(model);
     let read = Case { call: Call::Read, ..Side::of(engine, &write).left };
     [
@@ -64,7 +66,8 @@ pub fn calls(engine: &dyn Engine, model: &Case) -> [(&'static str, Case); 7] {
         ("route 1", route(1)),
         ("route 2", route(2)),
         ("route 3", route(3)),
-        ("keep", keep(&built, &moved)),
+        ("taking back", take_back(&Side::of(engine, &kept).left)),
+        ("keep", kept),
         ("write", write),
         ("read", read),
     ]

@@ -1,8 +1,8 @@
 //! Both sides of the edge of every refusal, with its place, as tests of any engine.
 
-use second::BLANK;
+use second::{BLANK, MOST_LOGGED};
 
-use crate::runs::{built, keep, model_a, read_twice, trial};
+use crate::runs::{built, keep, model_a, read_twice, take_back, trial};
 use crate::{Call, Case, Engine, Row, Side, Test, chain, of_rows, one_short};
 
 /// A change to a case, and what it is.
@@ -25,11 +25,13 @@ fn with(case: &Case, change: impl FnOnce(&mut Case)) -> Case {
     case
 }
 
-/// Model A's build, trial, keep and write.
-fn all_calls(engine: &dyn Engine) -> [Case; 4] {
+/// Model A's build, trial, keep, taking back and write. Two moves have been kept, the first of two pairs.
+fn all_calls(engine: &dyn Engine) -> [Case; 5] {
     let model = built(engine, &model_a());
     let tried = trial(&model, &[(0, 1), (1, 2), (2, 3)], &[4, 5], 2);
-    [model_a(), tried, keep(&model, &[(0, 1), (1, 2), (2, 3)]), file(&model_a())]
+    let mut logged = model.with_moves(&[vec![(0, 1), (2, 700)], vec![(1, 5)]]);
+    logged.session.kept = 2;
+    [model_a(), tried, keep(&logged, &[(0, 1), (1, 2), (2, 3)]), take_back(&logged), file(&model_a())]
 }
 
 /// The write of a model.
@@ -99,6 +101,7 @@ fn refusal_1_buffers(engine: &dyn Engine) {
                 case.route = 9;
                 case.move_vars.fill(99);
                 case.asked_vars.fill(99);
+                case.log_sizes.fill(65535);
             });
             gives(engine, "one short, and all else wrong", &also_wrong, 1, 0);
         }
@@ -106,7 +109,7 @@ fn refusal_1_buffers(engine: &dyn Engine) {
 }
 
 fn refusal_2(engine: &dyn Engine) {
-    for call in &all_calls(engine)[..3] {
+    for call in &all_calls(engine)[..4] {
         for kind in [0, 10, 65535] {
             gives(engine, "kind", &with(call, |case| case.kinds[2] = kind), 2, 2);
             gives(engine, "two kinds", &with(call, |case| case.kinds[1..].fill(kind)), 2, 1);
@@ -132,7 +135,7 @@ fn refusal_3_inputs(engine: &dyn Engine) {
 }
 
 fn refusal_3_places(engine: &dyn Engine) {
-    for call in &all_calls(engine)[..3] {
+    for call in &all_calls(engine)[..4] {
         let changes: [(Change, u32); 9] = [
             (("made variable n", |case| case.makes[1] = 6), 1),
             (("made variable far out", |case| case.makes[0] = 65535), 0),
@@ -229,7 +232,7 @@ fn refusal_7(engine: &dyn Engine) {
         gives(engine, "start value", &with(&build, |case| case.starts[variable] = start), number, place);
     }
     gives(engine, "the least variable", &with(&build, |case| case.starts.fill(BLANK)), 7, 0);
-    for call in &all_calls(engine)[1..3] {
+    for call in &all_calls(engine)[1..4] {
         gives(engine, "stored search value", &with(call, |case| case.stored[2] = BLANK), 7, 2);
         gives(engine, "stored made value", &with(call, |case| case.stored[3..].fill(BLANK)), 0, 0);
     }
@@ -248,7 +251,7 @@ fn each_gives_8(engine: &dyn Engine, call: &Case, changes: &[Change]) {
 }
 
 fn refusal_8(engine: &dyn Engine) {
-    for call in &all_calls(engine)[1..3] {
+    for call in &all_calls(engine)[1..4] {
         let changes: [Change; 9] = [
             ("a search variable's number", |case| case.numbers[0] = 1),
             ("a made variable's number", |case| case.numbers[3] = 2),
@@ -271,7 +274,8 @@ fn refusal_8(engine: &dyn Engine) {
 
 fn refusal_8_unread(engine: &dyn Engine) {
     let model = built(engine, &of_rows(vec![1, 2, 0], &[Row::plain(1, 2, &[0])]));
-    for call in [trial(&model, &[], &[], 1), keep(&model, &[])] {
+    let kept = Side::of(engine, &keep(&model, &[])).left;
+    for call in [trial(&model, &[], &[], 1), keep(&model, &[]), take_back(&kept)] {
         gives(engine, "as built", &call, 0, 0);
         gives(engine, "the number of a variable that no row reads", &with(&call, |case| case.numbers[1] = 1), 8, 0);
     }
@@ -280,7 +284,8 @@ fn refusal_8_unread(engine: &dyn Engine) {
 fn refusal_8_index(engine: &dyn Engine) {
     let model = built(engine, &read_twice());
     assert_eq!((&*model.reader_starts, &model.reader_places[..4]), (&[0, 2, 3, 4, 4][..], &[0, 1, 0, 1][..]));
-    for call in [trial(&model, &[(1, 6)], &[3], 1), keep(&model, &[(1, 6)])] {
+    let kept = Side::of(engine, &keep(&model, &[(1, 6)])).left;
+    for call in [trial(&model, &[(1, 6)], &[3], 1), keep(&model, &[(1, 6)]), take_back(&kept)] {
         gives(engine, "as built", &call, 0, 0);
         let changes: [Change; 12] = [
             ("the first start", |case| case.reader_starts[0] = 1),
@@ -344,6 +349,103 @@ fn refusal_13(engine: &dyn Engine) {
     }
     let fewer = with(&tried, |case| (case.asked, case.asked_vars[1]) = (1, 99));
     gives(engine, "beyond the asked", &fewer, 0, 0);
+}
+
+fn refusal_15(engine: &dyn Engine) {
+    let [_, _, kept, taken, _] = all_calls(engine);
+    for (moves, number) in [(0, 15), (1, 0), (2, 0)] {
+        gives(engine, "moves in the log", &with(&taken, |case| case.log_sizes[0] = moves), number, 0);
+        gives(engine, "a keep takes any", &with(&kept, |case| case.log_sizes[0] = moves), 0, 0);
+    }
+    let junk = with(&taken, |case| {
+        case.log_sizes.fill(65535);
+        case.log_sizes[0] = 0;
+        case.log_vars.fill(65535);
+        case.log_values.fill(BLANK);
+        case.session.kept = 0;
+    });
+    gives(engine, "an empty log with anything behind it", &junk, 15, 0);
+    gives(
+        engine,
+        "a keep after it",
+        &with(&kept, |case| (case.log_sizes, case.log_vars) = (junk.log_sizes, junk.log_vars)),
+        0,
+        0,
+    );
+}
+
+fn refusal_16(engine: &dyn Engine) {
+    for call in &all_calls(engine)[2..4] {
+        // Variable 0 with 0 stands behind every pair: one more pair of the second move is fit, two name it twice.
+        let good: [Change; 10] = [
+            ("as kept", |_| {}),
+            ("more kept than logged", |case| case.session.kept = 3),
+            ("the most kept", |case| case.session.kept = u32::MAX),
+            ("the least value", |case| case.log_values[1] = -i32::MAX),
+            ("the same variable in two moves", |case| case.log_vars[64] = 0),
+            ("beyond the moves", |case| {
+                case.log_sizes[3] = 65;
+                case.log_vars[128] = 65535;
+                case.log_values[128] = BLANK;
+            }),
+            ("beyond the pairs", |case| {
+                case.log_vars[2] = 0;
+                case.log_values[65] = BLANK;
+            }),
+            ("an empty move", |case| case.log_sizes[1] = 0),
+            ("the last search variable", |case| case.log_vars[64] = 2),
+            ("a pair that was not written", |case| case.log_sizes[2] = 2),
+        ];
+        for (what, change) in good {
+            gives(engine, what, &with(call, change), 0, 0);
+        }
+        let unfit: [Change; 15] = [
+            ("fewer kept than logged", |case| case.session.kept = 1),
+            ("none kept", |case| case.session.kept = 0),
+            ("far too many moves", |case| case.log_sizes[0] = 65535),
+            ("65 pairs of the oldest", |case| case.log_sizes[1] = 65),
+            ("65 pairs of the latest", |case| case.log_sizes[2] = 65),
+            ("far too many pairs", |case| case.log_sizes[2] = 65535),
+            ("a made variable", |case| case.log_vars[0] = 3),
+            ("a made variable, n - 1", |case| case.log_vars[64] = 5),
+            ("variable n", |case| case.log_vars[1] = 6),
+            ("a variable far out", |case| case.log_vars[64] = 65535),
+            ("a variable twice in a move", |case| case.log_vars[1] = 0),
+            ("twice with the same value", |case| {
+                case.log_vars[1] = 0;
+                case.log_values[1] = case.log_values[0];
+            }),
+            ("a blank", |case| case.log_values[0] = BLANK),
+            ("a blank in the latest", |case| case.log_values[64] = BLANK),
+            ("two pairs that were not written", |case| case.log_sizes[2] = 3),
+        ];
+        for (what, change) in unfit {
+            gives(engine, what, &with(call, change), 16, 0);
+        }
+    }
+}
+
+fn refusal_16_bounds(engine: &dyn Engine) {
+    let model = built(engine, &no_rows(70));
+    let move_of = |pairs: u16| (0..pairs).map(|variable| (variable, 5)).collect::<Vec<(u16, i32)>>();
+    let mut full = model.with_moves(&vec![move_of(64); MOST_LOGGED]);
+    for (kept, number) in [(63, 16), (64, 0), (65, 0)] {
+        full.session.kept = kept;
+        gives(engine, "64 moves of 64 pairs, kept", &keep(&full, &[(0, 1)]), number, 0);
+        gives(engine, "64 moves of 64 pairs, taken back", &take_back(&full), number, 0);
+    }
+    for call in [keep(&full, &[(0, 1)]), take_back(&full)] {
+        gives(engine, "65 moves", &with(&call, |case| case.log_sizes[0] = 65), 16, 0);
+        for place in [0, 63, 64, 4031, 4032, 4095] {
+            gives(engine, "a variable of any pair", &with(&call, |case| case.log_vars[place] = 70), 16, 0);
+            gives(engine, "a value of any pair", &with(&call, |case| case.log_values[place] = BLANK), 16, 0);
+            let other = if place % 64 == 0 { place + 1 } else { place - 1 };
+            gives(engine, "twice anywhere", &with(&call, |case| case.log_vars[place] = case.log_vars[other]), 16, 0);
+        }
+        for place in 1..=64 {
+            gives(engine, "65 pairs of any move", &with(&call, |case| case.log_sizes[place] = 65), 16, 0);
+        }
+    }
 }
 
 /// A read of model A's file into tables of the right length.
@@ -435,11 +537,13 @@ fn the_order_of_checks(engine: &dyn Engine) {
         (12, 0, |case| case.move_values[0] = BLANK),
     ];
     let asked: Fault = (13, 1, |case| case.asked_vars[1] = 6);
-    let [building, tried, kept, _] = all_calls(engine);
+    let log: [Fault; 2] = [(16, 0, |case| case.log_sizes[0] = 65), (15, 0, |case| case.log_sizes[0] = 0)];
+    let [building, tried, kept, taken, _] = all_calls(engine);
     for (case, faults) in [
         (building, [&tables[..], &build].concat()),
         (tried, [&tables[..], &state, &[route], &pairs, &[asked]].concat()),
-        (kept, [&tables[..], &state, &pairs].concat()),
+        (kept, [&tables[..], &state, &pairs, &log[..1]].concat()),
+        (taken, [&tables[..], &state, &log].concat()),
     ] {
         for (at, &(number, place, fault)) in faults.iter().enumerate() {
             for &(later, _, also) in &faults[at..] {
@@ -471,6 +575,9 @@ pub const EDGES: &[Test] = &[
     ("9", refusal_9),
     ("10 to 12", refusals_10_to_12),
     ("13", refusal_13),
+    ("15", refusal_15),
+    ("16", refusal_16),
+    ("16: bounds", refusal_16_bounds),
     ("14", refusal_14),
     ("14: bounds", refusal_14_bounds),
     ("1 after 14", refusal_1_after_14),

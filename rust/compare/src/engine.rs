@@ -1,10 +1,10 @@
 //! Who answers a case.
 
-use lent::{Asked, Built, Keep, Move, Session, State, Tables, TablesMut, Trial, Tried};
+use lent::{Asked, Built, Keep, Move, Session, State, Tables, TablesMut, TakeBack, Trial, Tried};
 
 use crate::{Answer, Call, Case};
 
-/// An implementation of the five calls.
+/// An implementation of the six calls.
 pub trait Engine {
     /// Answers the case, and leaves in it what the call leaves.
     fn answer(&self, case: &mut Case) -> Answer;
@@ -13,9 +13,9 @@ pub trait Engine {
 /// A test of any engine, with its name.
 pub type Test = (&'static str, fn(&dyn Engine));
 
-/// The five calls over what is lent to them.
+/// The six calls over what is lent to them.
 pub trait Calls {
-    /// Numbers, order, values and readers from tables and start values.
+    /// Numbers, order, values and readers from tables and start values, and an empty log.
     fn build(session: &mut Session, tables: Tables<'_>, starts: &[i32], built: Built<'_>) -> Answer;
 
     /// A move tried by a route.
@@ -23,6 +23,9 @@ pub trait Calls {
 
     /// A move kept.
     fn keep(session: &mut Session, tables: Tables<'_>, lent: Keep<'_>) -> Answer;
+
+    /// The latest kept move taken back.
+    fn take_back(session: &mut Session, tables: Tables<'_>, lent: TakeBack<'_>) -> Answer;
 
     /// Tables from a file.
     fn read(bytes: &[u8], tables: TablesMut<'_>) -> Answer;
@@ -38,9 +41,11 @@ impl<C: Calls> Engine for C {
         let moved = Move { pairs: case.pairs, vars: &case.move_vars, values: &case.move_values };
         let (numbers, order, stored, flags) = (&mut case.numbers, &mut case.order, &mut case.stored, &mut case.flags);
         let (reader_starts, reader_places) = (&mut case.reader_starts, &mut case.reader_places);
+        let (log_sizes, log_vars, log_values) = (&mut case.log_sizes, &mut case.log_vars, &mut case.log_values);
         match call {
             Call::Build => {
-                C::build(session, tables, starts, Built { numbers, order, stored, reader_starts, reader_places })
+                let built = Built { numbers, order, stored, reader_starts, reader_places, log_sizes };
+                C::build(session, tables, starts, built)
             }
             Call::Trial => {
                 let state = State { numbers, order, stored, reader_starts, reader_places };
@@ -48,9 +53,37 @@ impl<C: Calls> Engine for C {
                 let tried = Tried { results: &mut case.results, trial: &mut case.trial, flags };
                 C::trial(session, tables, Trial { state, moved, asked, route: case.route, tried })
             }
-            Call::Keep => {
-                C::keep(session, tables, Keep { numbers, order, stored, reader_starts, reader_places, moved, flags })
-            }
+            Call::Keep => C::keep(
+                session,
+                tables,
+                Keep {
+                    numbers,
+                    order,
+                    stored,
+                    reader_starts,
+                    reader_places,
+                    moved,
+                    flags,
+                    log_sizes,
+                    log_vars,
+                    log_values,
+                },
+            ),
+            Call::TakeBack => C::take_back(
+                session,
+                tables,
+                TakeBack {
+                    numbers,
+                    order,
+                    stored,
+                    reader_starts,
+                    reader_places,
+                    flags,
+                    log_sizes,
+                    log_vars,
+                    log_values,
+                },
+            ),
             Call::Read => C::read(&case.bytes, TablesMut { starts, kinds, makes, params, firsts, counts, vars, coefs }),
             Call::Write => C::write(tables, starts, &mut case.bytes),
         }
@@ -72,6 +105,10 @@ impl Calls for Second {
 
     fn keep(session: &mut Session, tables: Tables<'_>, lent: Keep<'_>) -> Answer {
         Answer::of_call(second::keep(session, tables, lent))
+    }
+
+    fn take_back(session: &mut Session, tables: Tables<'_>, lent: TakeBack<'_>) -> Answer {
+        Answer::of_call(second::take_back(session, tables, lent))
     }
 
     fn read(bytes: &[u8], tables: TablesMut<'_>) -> Answer {

@@ -4,7 +4,7 @@
 use crate::runs::model_a;
 use crate::{
     Call, Case, Difference, Engine, Random, Second, Sizes, calls_on, compare, keep_of, model, scramble, seed, shrink,
-    trial_of,
+    take_back_of, trial_of,
 };
 
 /// Cases kept from earlier runs: `file` and the bytes of a file in hexadecimal digits, or `calls` and a seed.
@@ -33,7 +33,7 @@ pub fn kept_cases(engine: &dyn Engine) {
     assert!(kept > 0);
 }
 
-/// Files with bytes wrong, read and, if they still can be, built, tried and kept.
+/// Files with bytes wrong, read and, if they still can be, built, tried, kept and taken back.
 ///
 /// # Panics
 /// If the engine differs from the second implementation.
@@ -76,14 +76,16 @@ fn scrambled_calls(engine: &dyn Engine, seed: u64) {
     }
 }
 
-/// Reads a file, builds what was read, and tries and keeps a move on what was built, if it gets so far.
+/// Reads a file, builds what was read, and tries, keeps and takes back a move on what was built, if it gets so far.
 fn read_and_build(engine: &dyn Engine, bytes: &[u8], random: &mut Random) -> Option<Case> {
     let name = || format!("file {}", bytes.iter().map(|byte| format!("{byte:02x}")).collect::<String>());
     let read = agree(engine, &reading(bytes), name)?;
     let building = Case { call: Call::Build, ..read };
     let built = agree(engine, &building.with_room(), name)?;
     agree(engine, &trial_of(random, &built), name);
-    agree(engine, &keep_of(random, &built), name)
+    agree(engine, &take_back_of(random, &built), name);
+    let kept = agree(engine, &keep_of(random, &built), name)?;
+    agree(engine, &Case { call: Call::TakeBack, ..kept }, name)
 }
 
 /// What an accepted call leaves, if the two engines agree on it.

@@ -3,7 +3,7 @@
 //! A [`Case`] is one call with everything that is lent to it, each buffer between guard elements. An [`Engine`] answers
 //! it in place. [`compare`] lets two engines answer the same case and compares the answers, the session record, every
 //! element of every buffer, and the guards. [`run`] does so for as many random cases as it is told, from a seed, and
-//! [`shrink`] makes a case on which two engines differ smaller. [`tests_of!`] is everything that an engine must pass.
+//! [`shrink`] makes a case on which two engines differ smaller. [`sessions`] keeps and takes back over long sessions. [`tests_of!`] is everything that an engine must pass.
 #![forbid(unsafe_code)]
 #![warn(missing_docs)]
 
@@ -16,11 +16,14 @@ mod engine;
 pub mod files;
 pub mod fuzz;
 mod guarded;
+mod logs;
 mod models;
 mod plan;
 mod random;
 pub mod runs;
+pub mod sessions;
 mod shrink;
+pub mod takings;
 mod tests;
 
 pub use case::{Answer, Call, Case};
@@ -28,8 +31,9 @@ pub use damage::{damage, lengthen, one_short, scramble, shorten};
 pub use difference::{Difference, Side, compare};
 pub use engine::{Calls, Engine, Second, Test};
 pub use guarded::{Buffer, Element, Guarded};
+pub use logs::draw_log;
 pub use models::{Row, Sizes, chain, model, model_of, of_rows, value};
-pub use plan::{Tally, calls_on, keep_of, run, seed, trial_of};
+pub use plan::{Tally, calls_on, draw_move, keep_of, run, seed, take_back_of, trial_of};
 pub use random::Random;
 pub use shrink::shrink;
 pub use tests::{hold, random_calls};

@@ -1,5 +1,7 @@
 //! Random models: tables and start values that build accepts.
 
+use lent::LOG_SIZES;
+
 use crate::{Call, Case, Guarded, Random};
 
 const LINEAR: u16 = 1;
@@ -163,6 +165,7 @@ impl Case {
             stored: vec![0; n].into(),
             reader_starts: vec![0; n + 1].into(),
             reader_places: vec![0; e].into(),
+            log_sizes: vec![0; LOG_SIZES].into(),
             ..self
         }
     }
@@ -175,6 +178,7 @@ fn junk(random: &mut Random, case: &mut Case) {
     case.stored = Guarded::junk(random, case.n);
     case.reader_starts = Guarded::junk(random, case.n + 1);
     case.reader_places = Guarded::junk(random, case.e);
+    case.log_sizes = Guarded::junk(random, LOG_SIZES);
     case.session.kept = random.pick(&[0, 1, u32::MAX - 1, u32::MAX]);
     case.session.evaluations = random.bits() as u32;
 }

@@ -1,9 +1,12 @@
 //! Random calls one after another: models of every size, the calls on each, whole and damaged.
 
+use second::MOST_LOGGED;
+
+use crate::logs::is_search;
 use crate::shrink::rebuilt;
 use crate::{
-    Call, Case, Difference, Engine, Guarded, Random, Second, Sizes, chain, compare, damage, lengthen, model, model_of,
-    shorten, shrink, value,
+    Call, Case, Difference, Engine, Guarded, Random, Second, Sizes, chain, compare, damage, draw_log, lengthen, model,
+    model_of, shorten, shrink, value,
 };
 
 /// The seed of a run without another.
@@ -19,11 +22,15 @@ pub fn seed() -> u64 {
 #[derive(Clone, Copy, Debug, Default, PartialEq, Eq)]
 pub struct Tally {
     /// The calls by number.
-    pub by_number: [usize; 15],
-    /// The accepted calls by call: build, trial, keep, read, write.
-    pub accepted: [usize; 5],
+    pub by_number: [usize; 17],
+    /// The accepted calls by call: build, trial, keep, taking back, read, write.
+    pub accepted: [usize; 6],
     /// The calls refused with 8 by the index of readers alone.
     pub by_index: usize,
+    /// The keeps refused with 16, and the takings back.
+    pub unfit: [usize; 2],
+    /// The accepted keeps that pushed a move out of the log.
+    pub pushed: usize,
 }
 
 impl Tally {
@@ -39,11 +46,15 @@ impl Tally {
         }
         if number == 0 {
             self.accepted[case.call as usize] += 1;
+            self.pushed += usize::from(case.call == Call::Keep && case.logged() == MOST_LOGGED);
+        }
+        if number == 16 {
+            self.unfit[usize::from(case.call == Call::TakeBack)] += 1;
         }
         self.by_index += usize::from(number == 8 && passes_with_its_index(case));
     }
 
-    /// Asserts that every number, every accepted call and a wrong index came often.
+    /// Asserts that every number, every accepted call, a wrong index, and a log unfit or full came often.
     ///
     /// # Panics
     /// If one hardly ever came.
@@ -52,6 +63,8 @@ impl Tally {
         assert!(self.by_number.iter().all(|&calls| calls > 100), "every number comes back often: {self:?}");
         assert!(self.accepted.iter().all(|&calls| calls > 1_000), "every call is accepted often: {self:?}");
         assert!(self.by_index > 1_000, "the index alone is often wrong: {self:?}");
+        assert!(self.unfit.iter().all(|&calls| calls > 1_000), "a log is often unfit: {self:?}");
+        assert!(self.pushed > 1_000, "a log is often full: {self:?}");
     }
 }
 
@@ -108,7 +121,11 @@ pub fn calls_on(random: &mut Random, build: &Case) -> Vec<Case> {
         calls.push(damaged(random, &kept));
         calls.push(kept.clone());
         Second.answer(&mut kept);
-        calls.push(trial_of(random, &kept));
+        calls.push(Case { call: Call::TakeBack, flags: Guarded::junk(random, kept.n), ..kept.clone() });
+        calls.push(trial_of(random, &without_log(kept)));
+        let taken = take_back_of(random, from);
+        calls.push(damaged(random, &taken));
+        calls.push(taken);
     }
     calls.extend(files_of(random, build));
     for case in &mut calls {
@@ -156,18 +173,37 @@ pub fn trial_of(random: &mut Random, built: &Case) -> Case {
     case
 }
 
-/// A keep of a random move on a model that was built.
+/// A keep of a random move on a model that was built, with a random log.
 pub fn keep_of(random: &mut Random, built: &Case) -> Case {
     let mut case = Case { call: Call::Keep, ..built.clone() };
     draw_move(random, &mut case);
-    case.session.kept = random.pick(&[built.session.kept, 1, u32::MAX - 1, u32::MAX]);
+    draw_record(random, &mut case);
     case.flags = Guarded::junk(random, case.n);
     case
 }
 
+/// A taking back on a model that was built, from a random log.
+pub fn take_back_of(random: &mut Random, built: &Case) -> Case {
+    let mut case = Case { call: Call::TakeBack, ..built.clone() };
+    draw_record(random, &mut case);
+    case.flags = Guarded::junk(random, case.n);
+    case
+}
+
+/// Gives a case a number of moves kept, and a log that it allows.
+fn draw_record(random: &mut Random, case: &mut Case) {
+    case.session.kept = random.pick(&[case.session.kept, 1, 64, 64, 1000, 1000, u32::MAX - 1, u32::MAX]);
+    draw_log(random, case);
+}
+
+/// The case without the rows of its log, for the calls that are not lent them.
+fn without_log(case: Case) -> Case {
+    Case { log_sizes: Guarded::default(), log_vars: Guarded::default(), log_values: Guarded::default(), ..case }
+}
+
 /// Gives a case a move: search variables, each once, some with the value that they have.
-fn draw_move(random: &mut Random, case: &mut Case) {
-    let is_search = |&variable: &u16| case.numbers.get(usize::from(variable)) == Some(&0);
+pub fn draw_move(random: &mut Random, case: &mut Case) {
+    let is_search = |&variable: &u16| is_search(case, variable);
     let wanted = if random.once_in(8) { random.below(65) } else { random.below(4) };
     let mut variables: Vec<u16> = Vec::new();
     for _ in 0..2 * wanted {

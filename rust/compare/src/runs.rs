@@ -38,14 +38,25 @@ pub fn trial(built: &Case, pairs: &[(u16, i32)], asked: &[u16], route: u32) -> C
         route,
         results: vec![0; asked.len()].into(),
         trial: vec![0; built.n].into(),
-        ..keep(built, pairs)
+        ..moving(built, pairs)
     }
     .with(Call::Trial)
 }
 
-/// A keep on a model that was built.
+/// A keep on a model that was built, with its log, or an empty one.
 #[must_use]
 pub fn keep(built: &Case, pairs: &[(u16, i32)]) -> Case {
+    moving(built, pairs).with_log().with(Call::Keep)
+}
+
+/// A taking back on a model that was built, with its log, or an empty one.
+#[must_use]
+pub fn take_back(built: &Case) -> Case {
+    Case { flags: vec![7; built.n].into(), ..built.clone() }.with_log().with(Call::TakeBack)
+}
+
+/// A model that was built, with a move and room for flags.
+fn moving(built: &Case, pairs: &[(u16, i32)]) -> Case {
     let (vars, values): (Vec<u16>, Vec<i32>) = pairs.iter().copied().unzip();
     Case {
         pairs: pairs.len(),
@@ -54,7 +65,6 @@ pub fn keep(built: &Case, pairs: &[(u16, i32)]) -> Case {
         flags: vec![7; built.n].into(),
         ..built.clone()
     }
-    .with(Call::Keep)
 }
 
 impl Case {

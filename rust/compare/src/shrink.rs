@@ -2,8 +2,8 @@
 
 use std::time::{Duration, Instant};
 
-use lent::Session;
-use second::BLANK;
+use lent::{LOG_PLACES, LOG_SIZES, Session};
+use second::{BLANK, MOST_PAIRS};
 
 use crate::{Call, Case, Difference, Element, Engine, Guarded, Second, compare};
 
@@ -29,8 +29,10 @@ impl Search<'_> {
     /// One round over all ways to make the case smaller: whether one of them did.
     fn round(&mut self) -> bool {
         let case = &self.best.case;
-        let (n, m, e, pairs, asked) = (case.n, case.m, case.e, case.pairs, case.asked);
+        let (n, m, e, pairs, asked, logged) = (case.n, case.m, case.e, case.pairs, case.asked, case.logged());
         let mut smaller = self.try_case(cut);
+        smaller |= self.try_case(plain_beyond_log);
+        smaller |= self.without(logged, remove_logged);
         smaller |= self.without(m, remove_row);
         smaller |= self.without(pairs, remove_pair);
         smaller |= self.without(asked, remove_asked);
@@ -86,6 +88,8 @@ fn cut(case: &mut Case) -> bool {
     any |= shorter(&mut case.starts, n) | shorter(&mut case.stored, n) | shorter(&mut case.trial, n);
     any |= shorter(&mut case.reader_starts, n.saturating_add(1)) | shorter(&mut case.reader_places, e);
     any |= shorter(&mut case.move_vars, pairs) | shorter(&mut case.move_values, pairs);
+    any |= shorter(&mut case.log_sizes, LOG_SIZES);
+    any |= shorter(&mut case.log_vars, LOG_PLACES) | shorter(&mut case.log_values, LOG_PLACES);
     any | shorter(&mut case.asked_vars, asked) | shorter(&mut case.results, asked)
 }
 
@@ -185,15 +189,47 @@ fn remove_asked(case: &mut Case, place: usize) -> bool {
     true
 }
 
-/// Takes away a variable that nothing names.
-fn remove_variable(case: &mut Case, variable: usize) -> bool {
-    let named = [&mut case.makes, &mut case.vars, &mut case.move_vars, &mut case.asked_vars];
-    if variable >= case.n || named.iter().any(|row| row.iter().any(|&named| usize::from(named) == variable)) {
+/// Takes a move out of the log; what stands behind it moves up.
+fn remove_logged(case: &mut Case, place: usize) -> bool {
+    let first = MOST_PAIRS * place;
+    let whole = first + MOST_PAIRS <= case.log_vars.len().min(case.log_values.len());
+    if place >= case.logged() || place + 1 >= case.log_sizes.len() || !whole {
         return false;
     }
-    for row in named {
-        row.iter_mut().filter(|named| usize::from(**named) > variable).for_each(|named| *named -= 1);
+    case.log_sizes[0] -= 1;
+    case.log_sizes[place + 1..].rotate_left(1);
+    case.log_vars[first..].rotate_left(MOST_PAIRS);
+    case.log_values[first..].rotate_left(MOST_PAIRS);
+    true
+}
+
+/// Puts 0 at every place of the log where no pair stands.
+fn plain_beyond_log(case: &mut Case) -> bool {
+    let held = case.logged_places();
+    let moves = case.logged();
+    let beyond = |place: &usize| held.binary_search(place).is_err();
+    let places: Vec<usize> = (0..case.log_vars.len().max(case.log_values.len())).filter(beyond).collect();
+    let mut any = places.iter().fold(false, |any, &place| plain(&mut case.log_vars, place, 0) | any);
+    any |= places.iter().fold(false, |any, &place| plain(&mut case.log_values, place, 0) | any);
+    (moves + 1..case.log_sizes.len()).fold(any, |any, place| plain(&mut case.log_sizes, place, 0) | any)
+}
+
+/// Takes away a variable that nothing names.
+fn remove_variable(case: &mut Case, variable: usize) -> bool {
+    let held = case.logged_places();
+    let logged: Vec<&mut u16> = case
+        .log_vars
+        .iter_mut()
+        .enumerate()
+        .filter(|(place, _)| held.binary_search(place).is_ok())
+        .map(|(_, variable)| variable)
+        .collect();
+    let rows = [&mut case.makes, &mut case.vars, &mut case.move_vars, &mut case.asked_vars];
+    let mut named: Vec<&mut u16> = rows.into_iter().flat_map(|row| row.iter_mut()).chain(logged).collect();
+    if variable >= case.n || named.iter().any(|named| usize::from(**named) == variable) {
+        return false;
     }
+    named.iter_mut().filter(|named| usize::from(***named) > variable).for_each(|named| **named -= 1);
     remove(&mut case.starts, variable);
     remove(&mut case.numbers, variable);
     remove(&mut case.stored, variable);
@@ -212,9 +248,10 @@ fn plain_values(case: &mut Case, variable: usize) -> bool {
         | plain(&mut case.flags, variable, 0)
 }
 
-/// Puts 0 for the counters of the record.
+/// Puts 0 for the counters of the record, or as few moves kept as the log holds.
 fn plain_record(case: &mut Case) -> bool {
-    std::mem::take(&mut case.session) != Session::default()
+    let plain = Session { kept: case.logged() as u32, evaluations: 0 };
+    std::mem::replace(&mut case.session, plain) != plain
 }
 
 /// Puts a plain element at a place where another stands.
@@ -235,7 +272,7 @@ fn number(case: &mut Case) {
 
 /// The model of a case built anew over start values of 0, if it can be.
 pub(crate) fn rebuilt(case: &Case) -> Option<Case> {
-    let starts = vec![0; case.stored.len()].into();
-    let mut model = Case { call: Call::Build, starts, ..case.clone() };
+    let (starts, log_sizes) = (vec![0; case.stored.len()].into(), vec![0; LOG_SIZES].into());
+    let mut model = Case { call: Call::Build, starts, log_sizes, ..case.clone() };
     (Second.answer(&mut model).number == 0).then_some(model)
 }

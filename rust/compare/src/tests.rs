@@ -24,7 +24,8 @@ pub fn random_calls(engine: &dyn Engine) {
 }
 
 /// The tests of an engine: the runs that the specification names, both sides of the edge of every refusal, files there
-/// and back, the deepest models on a small stack, random calls beside the second implementation, and the fuzz runs.
+/// and back, the deepest models on a small stack, random calls beside the second implementation, long sessions of keeps
+/// and takings back, and the fuzz runs.
 /// The second expression is the engine whose calls have a stack of 2 MiB if their thread has.
 #[macro_export]
 macro_rules! tests_of {
@@ -32,6 +33,11 @@ macro_rules! tests_of {
         #[test]
         fn runs() {
             $crate::hold(&$engine, $crate::runs::RUNS);
+        }
+
+        #[test]
+        fn keeps_and_takings_back() {
+            $crate::hold(&$engine, $crate::takings::TAKINGS);
         }
 
         #[test]
@@ -52,6 +58,11 @@ macro_rules! tests_of {
         #[test]
         fn two_hundred_thousand_random_calls() {
             $crate::random_calls(&$engine);
+        }
+
+        #[test]
+        fn long_sessions_of_keeps_and_takings_back() {
+            $crate::sessions::long_sessions(&$engine);
         }
 
         #[test]

@@ -99,7 +99,8 @@ fn has_every_number_of_every_call() {
     assert_eq!(numbers("read "), [0, 1, 14].into());
     assert_eq!(numbers("build "), [0, 2, 3, 4, 5, 6, 7].into());
     assert_eq!(numbers("trial "), [0, 1, 2, 3, 4, 5, 7, 8, 9, 10, 11, 12, 13].into());
-    assert_eq!(numbers("keep "), [0, 1, 2, 3, 4, 5, 7, 8, 10, 11, 12].into());
+    assert_eq!(numbers("keep "), [0, 1, 2, 3, 4, 5, 7, 8, 10, 11, 12, 16].into());
+    assert_eq!(numbers("back "), [0, 2, 3, 4, 5, 7, 8, 15, 16].into());
 }
 
 #[test]
@@ -110,7 +111,7 @@ fn has_every_kind_route_and_row() {
     let rows: BTreeSet<u16> = sessions.iter().flat_map(|session| session.second_numbers("change ")).collect();
     assert_eq!(kinds, (1..=9).collect());
     assert_eq!(routes, (1..=3).collect());
-    assert_eq!(rows, (0..=12).collect());
+    assert_eq!(rows, (0..=15).collect());
 }
 
 /// How often a line that starts in one of these ways is followed by one that starts in one of those.
@@ -126,6 +127,35 @@ fn has_trials_after_keeps() {
 }
 
 #[test]
+fn has_takings_back_after_keeps_and_after_one_another() {
+    assert!(followed(&["keep 0 "], &["back 0 "]) > 20);
+    assert!(followed(&["back 0 "], &["back 0 "]) > 20);
+    assert!(followed(&["back 0 "], &["keep 0 "]) > 5);
+}
+
+/// The numbers behind the second bar from the last of a line, which are how many moves the log holds and the pairs of each.
+fn log_sizes(line: &str) -> Vec<u32> {
+    let sizes = line.rsplit(" |").nth(2).unwrap_or("");
+    sizes.split_whitespace().filter_map(|size| size.parse().ok()).collect()
+}
+
+#[test]
+fn has_full_logs_that_are_taken_back_to_the_last_move() {
+    for session in sessions().iter().rev().take(3) {
+        let full = session.lines.iter().filter(|line| line.starts_with("keep 0 ") && log_sizes(line)[0] == 64);
+        assert!(full.count() > 5, "moves are pushed out");
+        assert!(session.lines.iter().any(|line| line.starts_with("back 0 ") && log_sizes(line) == [0]));
+    }
+    let spent = sessions().iter().flat_map(|session| &session.lines).any(|line| line.starts_with("back 15 "));
+    assert!(spent, "nothing is left to take back");
+}
+
+#[test]
+fn has_calls_refused_for_the_log() {
+    assert!(followed(&["change 13 ", "change 14 ", "change 15 "], &["keep 16 ", "back 16 "]) > 20);
+}
+
+#[test]
 fn has_calls_refused_for_the_index() {
-    assert!(followed(&["change 11 ", "change 12 "], &["trial 8 ", "keep 8 "]) > 20);
+    assert!(followed(&["change 11 ", "change 12 "], &["trial 8 ", "keep 8 ", "back 8 "]) > 20);
 }

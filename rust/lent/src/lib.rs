@@ -4,11 +4,17 @@
 #![forbid(unsafe_code)]
 #![warn(missing_docs)]
 
-/// The session record: the counters that build, trial and keep set.
+/// The places of a log's sizes: how many moves it holds, and how many pairs each of them has, at most 64 moves.
+pub const LOG_SIZES: usize = 65;
+
+/// The places of a log's variables and of its values: the pairs of move k stand from place 64 k on.
+pub const LOG_PLACES: usize = 4096;
+
+/// The session record: the counters that build, trial, keep and taking back set.
 #[repr(C)]
 #[derive(Clone, Copy, Debug, Default, PartialEq, Eq)]
 pub struct Session {
-    /// Moves kept since the last accepted build; stops at 4,294,967,295.
+    /// Moves kept since the last accepted build and not taken back; stops at 4,294,967,295, and does not fall from there.
     pub kept: u32,
     /// Evaluations of the last accepted call.
     pub evaluations: u32,
@@ -60,7 +66,8 @@ pub struct TablesMut<'a> {
     pub coefs: &'a mut [i16],
 }
 
-/// Buffers for `build` to fill: n numbers, m places of the order, n values, n + 1 starts and room for e readers.
+/// Buffers for `build` to fill: n numbers, m places of the order, n values, n + 1 starts and room for e readers; and the
+/// sizes of a log for it to empty.
 #[derive(Debug)]
 pub struct Built<'a> {
     /// Each variable's topological number.
@@ -73,6 +80,8 @@ pub struct Built<'a> {
     pub reader_starts: &'a mut [u16],
     /// The rows that read each variable, ascending, each once; what lies beyond the last is not written.
     pub reader_places: &'a mut [u16],
+    /// The sizes of the log: the first place becomes 0, no move.
+    pub log_sizes: &'a mut [u16],
 }
 
 /// What build left, lent to a trial.
@@ -153,4 +162,33 @@ pub struct Keep<'a> {
     pub moved: Move<'a>,
     /// 1 for each variable that was evaluated, 0 elsewhere.
     pub flags: &'a mut [u8],
+    /// How many moves the log holds, and how many pairs each has, the oldest first.
+    pub log_sizes: &'a mut [u16],
+    /// The variables of the pairs, those of move k from place 64 k on.
+    pub log_vars: &'a mut [u16],
+    /// The values that they had before the move, at the same places.
+    pub log_values: &'a mut [i32],
+}
+
+/// What taking back is lent besides the record and the tables.
+#[derive(Debug)]
+pub struct TakeBack<'a> {
+    /// Each variable's topological number.
+    pub numbers: &'a [u16],
+    /// The rows by the number of the variable made, ties by row.
+    pub order: &'a [u16],
+    /// Each variable's value, which becomes what it was before the latest move of the log.
+    pub stored: &'a mut [i32],
+    /// Where the readers of each variable start, and where the last one's end.
+    pub reader_starts: &'a [u16],
+    /// The rows that read each variable, ascending, each once.
+    pub reader_places: &'a [u16],
+    /// 1 for each variable that was evaluated, 0 elsewhere.
+    pub flags: &'a mut [u8],
+    /// How many moves the log holds, one less afterwards, and how many pairs each has, the oldest first.
+    pub log_sizes: &'a mut [u16],
+    /// The variables of the pairs, those of move k from place 64 k on.
+    pub log_vars: &'a [u16],
+    /// The values that they had before the move, at the same places.
+    pub log_values: &'a [i32],
 }

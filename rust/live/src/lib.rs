@@ -3,7 +3,7 @@
 #![warn(missing_docs)]
 
 use compare::{Answer, Calls};
-use lent::{Built, Keep, Session, Tables, TablesMut, Trial};
+use lent::{Built, Keep, Session, Tables, TablesMut, TakeBack, Trial};
 use lukhandro::sys::{Outcome, ReadOutcome};
 
 /// The engine that the archive holds.
@@ -21,6 +21,10 @@ impl Calls for Proved {
 
     fn keep(session: &mut Session, tables: Tables<'_>, lent: Keep<'_>) -> Answer {
         answer(lukhandro::lent::keep(session, tables, lent))
+    }
+
+    fn take_back(session: &mut Session, tables: Tables<'_>, lent: TakeBack<'_>) -> Answer {
+        answer(lukhandro::lent::take_back(session, tables, lent))
     }
 
     fn read(bytes: &[u8], tables: TablesMut<'_>) -> Answer {

@@ -5,14 +5,16 @@
 //! changed. A refused call changes nothing.
 
 use crate::sys::{self, Outcome, ReadOutcome};
-pub use ::lent::{Asked, Built, Keep, Move, Session, State, Tables, TablesMut, Trial, Tried};
+pub use ::lent::{
+    Asked, Built, Keep, LOG_PLACES, LOG_SIZES, Move, Session, State, Tables, TablesMut, TakeBack, Trial, Tried,
+};
 
-/// Fills numbers, order, stored values and the index of readers from tables and start values; gives the evaluations, m.
-/// Refusals 1 to 7.
+/// Fills numbers, order, stored values and the index of readers from tables and start values, and empties the log; gives
+/// the evaluations, m. Refusals 1 to 7.
 #[rustfmt::skip]
 pub fn build(session: &mut Session, tables: Tables<'_>, starts: &[i32], built: Built<'_>) -> Outcome {
     let Tables { n, m, e, kinds, makes, params, firsts, counts, vars, coefs } = tables;
-    let Built { numbers, order, stored, reader_starts, reader_places } = built;
+    let Built { numbers, order, stored, reader_starts, reader_places, log_sizes } = built;
     // SAFETY: each pointer goes with the length of its own slice, and no slice that is written overlaps another.
     unsafe {
         sys::lukhandro_build(
@@ -22,7 +24,7 @@ pub fn build(session: &mut Session, tables: Tables<'_>, starts: &[i32], built: B
             coefs.as_ptr(), coefs.len(), starts.as_ptr(), starts.len(),
             numbers.as_mut_ptr(), numbers.len(), order.as_mut_ptr(), order.len(),
             stored.as_mut_ptr(), stored.len(), reader_starts.as_mut_ptr(), reader_starts.len(),
-            reader_places.as_mut_ptr(), reader_places.len(),
+            reader_places.as_mut_ptr(), reader_places.len(), log_sizes.as_mut_ptr(), log_sizes.len(),
         )
     }
 }
@@ -50,12 +52,12 @@ pub fn trial(session: &mut Session, tables: Tables<'_>, lent: Trial<'_>) -> Outc
     }
 }
 
-/// Keeps a move by route 1: changes the stored values, and fills the flags; gives the evaluations. Refusals 1 to 12
-/// without 6 and 9.
+/// Keeps a move by route 1: changes the stored values, fills the flags, and notes the move in the log; gives the
+/// evaluations. Refusals 1 to 12 without 6 and 9, and 16.
 #[rustfmt::skip]
 pub fn keep(session: &mut Session, tables: Tables<'_>, lent: Keep<'_>) -> Outcome {
     let Tables { n, m, e, kinds, makes, params, firsts, counts, vars, coefs } = tables;
-    let Keep { numbers, order, stored, reader_starts, reader_places, moved, flags } = lent;
+    let Keep { numbers, order, stored, reader_starts, reader_places, moved, flags, log_sizes, log_vars, log_values } = lent;
     // SAFETY: each pointer goes with the length of its own slice, and no slice that is written overlaps another.
     unsafe {
         sys::lukhandro_keep(
@@ -66,6 +68,29 @@ pub fn keep(session: &mut Session, tables: Tables<'_>, lent: Keep<'_>) -> Outcom
             stored.as_mut_ptr(), stored.len(), reader_starts.as_ptr(), reader_starts.len(),
             reader_places.as_ptr(), reader_places.len(), moved.pairs, moved.vars.as_ptr(), moved.vars.len(),
             moved.values.as_ptr(), moved.values.len(), flags.as_mut_ptr(), flags.len(),
+            log_sizes.as_mut_ptr(), log_sizes.len(), log_vars.as_mut_ptr(), log_vars.len(),
+            log_values.as_mut_ptr(), log_values.len(),
+        )
+    }
+}
+
+/// Takes the latest kept move back by route 1: changes the stored values, fills the flags, and takes the move off the log;
+/// gives the evaluations. Refusals 1 to 5, 7, 8, 16, and 15 if the log holds no move.
+#[rustfmt::skip]
+pub fn take_back(session: &mut Session, tables: Tables<'_>, lent: TakeBack<'_>) -> Outcome {
+    let Tables { n, m, e, kinds, makes, params, firsts, counts, vars, coefs } = tables;
+    let TakeBack { numbers, order, stored, reader_starts, reader_places, flags, log_sizes, log_vars, log_values } = lent;
+    // SAFETY: each pointer goes with the length of its own slice, and no slice that is written overlaps another.
+    unsafe {
+        sys::lukhandro_take_back(
+            session, n, m, e,
+            kinds.as_ptr(), kinds.len(), makes.as_ptr(), makes.len(), params.as_ptr(), params.len(),
+            firsts.as_ptr(), firsts.len(), counts.as_ptr(), counts.len(), vars.as_ptr(), vars.len(),
+            coefs.as_ptr(), coefs.len(), numbers.as_ptr(), numbers.len(), order.as_ptr(), order.len(),
+            stored.as_mut_ptr(), stored.len(), reader_starts.as_ptr(), reader_starts.len(),
+            reader_places.as_ptr(), reader_places.len(), flags.as_mut_ptr(), flags.len(),
+            log_sizes.as_mut_ptr(), log_sizes.len(), log_vars.as_ptr(), log_vars.len(),
+            log_values.as_ptr(), log_values.len(),
         )
     }
 }

@@ -1,8 +1,8 @@
 //! The safe binding of Lukhandro, a timetable engine whose every call is proved.
 //!
 //! Departures, last trips, crew need and clashes are variables, each made by one formula from others. A planner builds a
-//! [`Model`], tries a move, reads a few numbers, and keeps the move or drops it. A call either does what it is for or is
-//! [`Refused`] with a number and a place, and then changes nothing.
+//! [`Model`], tries a move, reads a few numbers, and keeps the move or drops it; the latest 64 kept moves can be taken
+//! back. A call either does what it is for or is [`Refused`] with a number and a place, and then changes nothing.
 //!
 //! ```
 //! use lukhandro::{Model, Route, Row};
@@ -48,6 +48,9 @@ pub const MOST_ENTRIES: usize = 16384;
 
 /// The most pairs of a move.
 pub const MOST_PAIRS: usize = 64;
+
+/// The most kept moves that can be taken back.
+pub const MOST_LOGGED: usize = 64;
 
 /// The most variables that a trial may ask.
 pub const MOST_ASKED: usize = 32;

@@ -1,9 +1,11 @@
 //! A model that owns its buffers.
 
-use crate::lent::{self, Asked, Built, Keep, Move, Session, State, Tables, TablesMut, Tried};
+use crate::lent::{
+    self, Asked, Built, Keep, LOG_PLACES, LOG_SIZES, Move, Session, State, Tables, TablesMut, TakeBack, Tried,
+};
 use crate::{BLANK, MOST_ASKED, MOST_ENTRIES, MOST_PAIRS, MOST_VARIABLES, Refused, Route, Row};
 
-/// A model with its values, built and ready to try and keep moves.
+/// A model with its values and a log of its kept moves, built and ready to try moves, keep them and take them back.
 ///
 /// ```
 /// use lukhandro::{Model, Route, Row};
@@ -20,6 +22,10 @@ use crate::{BLANK, MOST_ASKED, MOST_ENTRIES, MOST_PAIRS, MOST_VARIABLES, Refused
 ///
 /// sheet.keep(&[(1, 28801)])?;
 /// assert_eq!(sheet.value(3), Some(7));
+///
+/// // On second thoughts, no.
+/// sheet.take_back()?;
+/// assert_eq!(sheet.value(3), Some(6));
 /// # Ok::<(), lukhandro::Refused>(())
 /// ```
 #[derive(Clone, Debug)]
@@ -40,6 +46,9 @@ pub struct Model {
     results: [i32; MOST_ASKED],
     trial: Vec<i32>,
     flags: Vec<u8>,
+    log_sizes: [u16; LOG_SIZES],
+    log_vars: Vec<u16>,
+    log_values: Vec<i32>,
 }
 
 /// What a trial found. Stored values are as they were.
@@ -170,7 +179,8 @@ impl Model {
         Ok(Trial { evaluations, results, values: &self.trial, flags: &self.flags })
     }
 
-    /// Keeps a move: changes the stored values, and gives the number of formulas evaluated.
+    /// Keeps a move: changes the stored values, and gives the number of formulas evaluated. The latest 64 kept moves can be
+    /// taken back.
     ///
     /// ```
     /// use lukhandro::{Model, Row};
@@ -197,8 +207,48 @@ impl Model {
             reader_places: &self.reader_places,
             moved: moved.lent(),
             flags: &mut self.flags,
+            log_sizes: &mut self.log_sizes,
+            log_vars: &mut self.log_vars,
+            log_values: &mut self.log_values,
         };
         lent::keep(&mut self.session, tables_of!(self), keep).judged()
+    }
+
+    /// Takes the latest kept move back: the stored values are those before it again. Gives the number of formulas evaluated.
+    ///
+    /// ```
+    /// use lukhandro::{Model, Row};
+    ///
+    /// let mut sheet = Model::build(&[5, 8, 0], &[Row::over(2, 1, 0)])?;
+    /// sheet.keep(&[(1, 20)])?;
+    /// sheet.keep(&[(0, 0), (1, 30)])?;
+    /// assert_eq!((sheet.value(2), sheet.kept(), sheet.logged()), (Some(30), 2, 2));
+    ///
+    /// sheet.take_back()?;
+    /// assert_eq!((sheet.value(2), sheet.kept(), sheet.logged()), (Some(15), 1, 1));
+    /// sheet.take_back()?;
+    /// assert_eq!(sheet.stored(), [5, 8, 3]);
+    ///
+    /// let refused = sheet.take_back().unwrap_err();
+    /// assert_eq!((refused.number, refused.place), (15, 0));
+    /// # Ok::<(), lukhandro::Refused>(())
+    /// ```
+    ///
+    /// # Errors
+    /// Refusal 15 if no move is left to take back.
+    pub fn take_back(&mut self) -> Result<u32, Refused> {
+        let back = TakeBack {
+            numbers: &self.numbers,
+            order: &self.order,
+            stored: &mut self.stored,
+            reader_starts: &self.reader_starts,
+            reader_places: &self.reader_places,
+            flags: &mut self.flags,
+            log_sizes: &mut self.log_sizes,
+            log_vars: &self.log_vars,
+            log_values: &self.log_values,
+        };
+        lent::take_back(&mut self.session, tables_of!(self), back).judged()
     }
 
     /// The model's file, which starts from the values that search variables have now.
@@ -255,10 +305,16 @@ impl Model {
         }
     }
 
-    /// Moves kept.
+    /// Moves kept and not taken back.
     #[must_use]
     pub fn kept(&self) -> u32 {
         self.session.kept
+    }
+
+    /// How many kept moves can be taken back.
+    #[must_use]
+    pub fn logged(&self) -> usize {
+        self.log_sizes[0].into()
     }
 
     /// Evaluations of the last accepted call.
@@ -286,10 +342,13 @@ impl Model {
             results: [0; MOST_ASKED],
             trial: vec![0; n],
             flags: vec![0; n],
+            log_sizes: [0; LOG_SIZES],
+            log_vars: vec![0; LOG_PLACES],
+            log_values: vec![0; LOG_PLACES],
         }
     }
 
-    /// The model with its numbers, order, values and readers.
+    /// The model with its numbers, order, values and readers, and an empty log.
     fn built(mut self, starts: &[i32]) -> Result<Model, Refused> {
         self.reader_places.resize(self.vars.len(), 0);
         let tables = Tables { n: starts.len(), ..tables_of!(self) };
@@ -299,6 +358,7 @@ impl Model {
             stored: &mut self.stored,
             reader_starts: &mut self.reader_starts,
             reader_places: &mut self.reader_places,
+            log_sizes: &mut self.log_sizes,
         };
         lent::build(&mut self.session, tables, starts, built).judged()?;
         Ok(self)

@@ -1,9 +1,9 @@
-//! The five calls as the archive exports them. A slice is a pointer and a length.
+//! The six calls as the archive exports them. A slice is a pointer and a length.
 
 use crate::Refused;
 use crate::lent::Session;
 
-/// What build, trial, keep and write give.
+/// What build, trial, keep, taking back and write give.
 #[repr(C)]
 #[derive(Clone, Copy, Debug, PartialEq, Eq)]
 pub struct Outcome {
@@ -59,7 +59,7 @@ impl ReadOutcome {
 
 #[rustfmt::skip]
 unsafe extern "C" {
-    /// Numbers, order, values and readers from tables and start values.
+    /// Numbers, order, values and readers from tables and start values, and an empty log.
     pub fn lukhandro_build(
         session: *mut Session, n: usize, m: usize, e: usize,
         kinds: *const u16, kinds_length: usize, makes: *const u16, makes_length: usize,
@@ -68,7 +68,7 @@ unsafe extern "C" {
         coefs: *const i16, coefs_length: usize, starts: *const i32, starts_length: usize,
         numbers: *mut u16, numbers_length: usize, order: *mut u16, order_length: usize,
         stored: *mut i32, stored_length: usize, reader_starts: *mut u16, reader_starts_length: usize,
-        reader_places: *mut u16, reader_places_length: usize,
+        reader_places: *mut u16, reader_places_length: usize, log_sizes: *mut u16, log_sizes_length: usize,
     ) -> Outcome;
 
     /// A move tried by a route.
@@ -98,7 +98,21 @@ unsafe extern "C" {
         reader_starts: *const u16, reader_starts_length: usize, reader_places: *const u16, reader_places_length: usize,
         pairs: usize, move_vars: *const u16, move_vars_length: usize,
         move_values: *const i32, move_values_length: usize,
-        flags: *mut u8, flags_length: usize,
+        flags: *mut u8, flags_length: usize, log_sizes: *mut u16, log_sizes_length: usize,
+        log_vars: *mut u16, log_vars_length: usize, log_values: *mut i32, log_values_length: usize,
+    ) -> Outcome;
+
+    /// The latest kept move taken back.
+    pub fn lukhandro_take_back(
+        session: *mut Session, n: usize, m: usize, e: usize,
+        kinds: *const u16, kinds_length: usize, makes: *const u16, makes_length: usize,
+        params: *const i32, params_length: usize, firsts: *const u16, firsts_length: usize,
+        counts: *const u16, counts_length: usize, vars: *const u16, vars_length: usize,
+        coefs: *const i16, coefs_length: usize, numbers: *const u16, numbers_length: usize,
+        order: *const u16, order_length: usize, stored: *mut i32, stored_length: usize,
+        reader_starts: *const u16, reader_starts_length: usize, reader_places: *const u16, reader_places_length: usize,
+        flags: *mut u8, flags_length: usize, log_sizes: *mut u16, log_sizes_length: usize,
+        log_vars: *const u16, log_vars_length: usize, log_values: *const i32, log_values_length: usize,
     ) -> Outcome;
 
     /// Tables from a file.

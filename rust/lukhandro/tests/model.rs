@@ -1,6 +1,6 @@
 //! The model that owns its buffers.
 
-use lukhandro::{BLANK, Kind, Model, Refused, Route, Row};
+use lukhandro::{BLANK, Kind, MOST_LOGGED, Model, Refused, Route, Row};
 
 fn refused(number: u32, place: u32) -> Refused {
     Refused { number, place }
@@ -66,6 +66,34 @@ fn a_blank_is_no_value() {
 }
 
 #[test]
+fn the_latest_64_moves_are_taken_back() {
+    let mut sheet = model_a();
+    let before: Vec<Vec<i32>> = (0..70)
+        .map(|k| {
+            let stored = sheet.stored().to_vec();
+            sheet.keep(&[(1, 28800 + 300 * k), (2, 600 + k)]).expect("a keep");
+            stored
+        })
+        .collect();
+    assert_eq!((sheet.kept(), sheet.logged()), (70, MOST_LOGGED));
+    for (kept, stored) in before.iter().enumerate().skip(6).rev() {
+        sheet.take_back().expect("a taking back");
+        assert_eq!((sheet.stored(), sheet.kept()), (&stored[..], kept as u32));
+    }
+    assert_eq!(sheet.take_back().unwrap_err(), refused(15, 0));
+    assert_eq!((sheet.kept(), sheet.logged()), (6, 0));
+    sheet.keep(&[]).expect("an empty move");
+    assert_eq!((sheet.take_back(), sheet.kept()), (Ok(0), 6));
+}
+
+#[test]
+fn a_refused_keep_is_not_logged() {
+    let mut sheet = model_a();
+    sheet.keep(&[(0, 1), (3, 1)]).expect_err("a made variable");
+    assert_eq!((sheet.logged(), sheet.take_back()), (0, Err(refused(15, 0))));
+}
+
+#[test]
 fn a_kept_model_goes_to_a_file_and_back() {
     let mut sheet = model_a();
     sheet.keep(&[(1, 28801), (2, 300)]).expect("a keep");
@@ -105,10 +133,10 @@ fn models_that_are_too_large() {
 
 #[test]
 fn every_refusal_has_a_sentence() {
-    let sentences: Vec<String> = (1..=14).map(|number| refused(number, 7).to_string()).collect();
+    let sentences: Vec<String> = (1..=16).map(|number| refused(number, 7).to_string()).collect();
     for (number, sentence) in (1..).zip(&sentences) {
         assert!(sentence.starts_with(&format!("refused {number} 7: ")), "{sentence}");
         assert!(!sentence.contains("no check"), "{sentence}");
     }
-    assert!(refused(15, 0).to_string().contains("no check"));
+    assert!(refused(17, 0).to_string().contains("no check"));
 }

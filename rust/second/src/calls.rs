@@ -1,20 +1,21 @@
 //! The calls over the session record: the checks in the specification's order, and then the work.
 
 use crate::checks::{self, Makers, asked_fits, fits, move_fits, state_fits, tables_fit};
-use crate::parts::{counted_move, counted_state, counted_tables, state_of};
+use crate::log::{Log, LogMut, sizes_fit};
+use crate::parts::{counted_move, counted_state, counted_tables};
 use crate::readers::{self, Index, Readers};
 use crate::{Refused, order, routes};
-use lent::{Built, Keep, Session, State, Tables, Trial};
+use lent::{Built, Keep, Move, Session, State, Tables, TakeBack, Trial};
 
-/// Fills numbers, order, stored values and the index of readers; gives the number of evaluations, m.
+/// Fills numbers, order, stored values and the index of readers, and empties the log; gives the number of evaluations, m.
 ///
 /// # Errors
 /// Refusals 1 to 7.
 pub fn build(session: &mut Session, tables: Tables<'_>, starts: &[i32], built: Built<'_>) -> Result<u32, Refused> {
     let Tables { n, m, .. } = tables;
-    let Built { numbers: lent_numbers, order, stored, reader_starts, reader_places } = built;
+    let Built { numbers: lent_numbers, order, stored, reader_starts, reader_places, log_sizes } = built;
     let state = State { numbers: lent_numbers, order, stored, reader_starts, reader_places };
-    fits(&[tables_fit(&tables), starts.len() >= n, state_fits(&state, &tables)])?;
+    fits(&[tables_fit(&tables), starts.len() >= n, state_fits(&state, &tables), sizes_fit(log_sizes)])?;
     let tables = counted_tables(&tables);
     let makers = checks::tables(&tables)?;
     let index = Index::of(&tables);
@@ -27,6 +28,7 @@ pub fn build(session: &mut Session, tables: Tables<'_>, starts: &[i32], built: B
     order::fill_order(&tables, &numbers, order);
     stored.copy_from_slice(&starts[..n]);
     routes::fill_values(&tables, order, stored);
+    log_sizes[0] = 0;
     *session = Session { kept: 0, evaluations: m as u32 };
     Ok(session.evaluations)
 }
@@ -68,28 +70,71 @@ pub fn trial(session: &mut Session, tables: Tables<'_>, lent: Trial<'_>) -> Resu
     Ok(session.evaluations)
 }
 
-/// Keeps a move by route 1: changes the stored values, and fills the flags; gives the evaluations.
+/// Keeps a move by route 1: changes the stored values, fills the flags, and notes the move in the log; gives the
+/// evaluations.
 ///
 /// # Errors
-/// Refusals 1 to 12 without 6 and 9.
+/// Refusals 1 to 12 without 6 and 9, and 16.
 pub fn keep(session: &mut Session, tables: Tables<'_>, lent: Keep<'_>) -> Result<u32, Refused> {
-    let Tables { n, m, .. } = tables;
+    let Keep { numbers, order, stored, reader_starts, reader_places, .. } = lent;
+    let Keep { moved, flags, log_sizes: sizes, log_vars: vars, log_values: values, .. } = lent;
+    let state = State { numbers, order, stored, reader_starts, reader_places };
+    let log = Log { sizes, vars, values };
     fits(&[
-        tables_fit(&tables) && state_fits(&state_of(&lent), &tables),
-        move_fits(&lent.moved),
-        lent.flags.len() >= n,
+        tables_fit(&tables) && state_fits(&state, &tables),
+        move_fits(&moved) && flags.len() >= tables.n,
+        log.fits(),
     ])?;
-    let (tables, moved) = (counted_tables(&tables), counted_move(&lent.moved));
-    let makers = model(&tables, &counted_state(&state_of(&lent), &tables))?;
+    let (tables, state, moved) = (counted_tables(&tables), counted_state(&state, &tables), counted_move(&moved));
+    let makers = model(&tables, &state)?;
     checks::pairs(&makers, &moved)?;
+    log.holds(&makers, session.kept)?;
 
-    let Keep { order, stored, reader_starts: starts, reader_places: rows, flags, .. } = lent;
-    let (stored, flags) = (&mut stored[..n], &mut flags[..n]);
-    flags.fill(0);
-    let changed = routes::make_move(&moved, stored);
-    session.evaluations = routes::sweep(&tables, &order[..m], Readers { starts, rows }, &changed, stored, flags);
+    LogMut { sizes, vars, values }.note(state.stored, &moved);
+    let readers = Readers { starts: reader_starts, rows: reader_places };
+    session.evaluations = change(&tables, order, readers, &moved, stored, flags);
     session.kept = session.kept.saturating_add(1);
     Ok(session.evaluations)
+}
+
+/// Takes the latest kept move back by route 1: its variables get the values that they had before it; fills the flags, and
+/// takes the move off the log. Gives the evaluations.
+///
+/// # Errors
+/// Refusals 1 to 5, 8, 7, 16 and 15.
+pub fn take_back(session: &mut Session, tables: Tables<'_>, lent: TakeBack<'_>) -> Result<u32, Refused> {
+    let TakeBack { numbers, order, stored, reader_starts, reader_places, .. } = lent;
+    let TakeBack { flags, log_sizes: sizes, log_vars: vars, log_values: values, .. } = lent;
+    let state = State { numbers, order, stored, reader_starts, reader_places };
+    let log = Log { sizes, vars, values };
+    fits(&[tables_fit(&tables) && state_fits(&state, &tables), flags.len() >= tables.n, log.fits()])?;
+    let (tables, state) = (counted_tables(&tables), counted_state(&state, &tables));
+    let makers = model(&tables, &state)?;
+    log.holds(&makers, session.kept)?;
+    let back = log.latest()?;
+
+    let readers = Readers { starts: reader_starts, rows: reader_places };
+    session.evaluations = change(&tables, order, readers, &back, stored, flags);
+    if session.kept < u32::MAX {
+        session.kept -= 1;
+    }
+    sizes[0] -= 1;
+    Ok(session.evaluations)
+}
+
+/// Makes a move in the stored values by route 1, and fills the flags; gives the evaluations.
+fn change(
+    tables: &Tables<'_>,
+    order: &[u16],
+    readers: Readers<'_>,
+    moved: &Move<'_>,
+    stored: &mut [i32],
+    flags: &mut [u8],
+) -> u32 {
+    let (stored, flags) = (&mut stored[..tables.n], &mut flags[..tables.n]);
+    flags.fill(0);
+    let changed = routes::make_move(moved, stored);
+    routes::sweep(tables, &order[..tables.m], readers, &changed, stored, flags)
 }
 
 /// The input variables of a row: its part of the lent entries, empty if there is no such row or its part ends after e.
@@ -103,7 +148,7 @@ pub fn inputs_of_row<'a>(m: usize, e: usize, firsts: &[u16], counts: &[u16], var
     part().unwrap_or(&[])
 }
 
-/// Checks 2 to 5, 8 and 7, which trial and keep share, and with them the makers.
+/// Checks 2 to 5, 8 and 7, which trial, keep and taking back share, and with them the makers.
 fn model(tables: &Tables<'_>, state: &State<'_>) -> Result<Makers, Refused> {
     let makers = checks::tables(tables)?;
     order::holds(tables, &makers, state.numbers, state.order)?;

@@ -121,7 +121,7 @@ pub(crate) fn starts(makers: &[u16], starts: &[i32]) -> Result<(), Refused> {
     first(7, makers.iter().zip(starts).position(offends))
 }
 
-/// Check 7 of trial and keep: search variables have a value.
+/// Check 7 of trial, keep and taking back: search variables have a value.
 pub(crate) fn stored(makers: &[u16], stored: &[i32]) -> Result<(), Refused> {
     first(7, makers.iter().zip(stored).position(|(&maker, &value)| maker == 0 && value == BLANK))
 }

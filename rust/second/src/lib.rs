@@ -12,13 +12,14 @@ mod calls;
 mod checks;
 mod file;
 mod formulas;
+mod log;
 mod order;
 mod parts;
 mod readers;
 mod refused;
 mod routes;
 
-pub use calls::{build, inputs_of_row, keep, trial};
+pub use calls::{build, inputs_of_row, keep, take_back, trial};
 pub use file::{read, write};
 pub use refused::Refused;
 
@@ -36,6 +37,9 @@ pub const MOST_INPUTS: usize = 256;
 
 /// The most pairs of a move.
 pub const MOST_PAIRS: usize = 64;
+
+/// The most moves that a log holds.
+pub const MOST_LOGGED: usize = 64;
 
 /// The most variables that a trial may ask.
 pub const MOST_ASKED: usize = 32;

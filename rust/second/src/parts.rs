@@ -1,6 +1,6 @@
 //! What is lent, without what lies beyond the counts; and rows with their parts of the entries.
 
-use lent::{Keep, Move, State, Tables};
+use lent::{Move, State, Tables};
 
 /// One row, with its part of the entries.
 #[derive(Clone, Copy)]
@@ -25,12 +25,6 @@ pub(crate) fn counted_tables<'a>(tables: &Tables<'a>) -> Tables<'a> {
         coefs: &tables.coefs[..e],
         ..*tables
     }
-}
-
-/// What build left of what a keep is lent, with the stored values as they are before the move.
-pub(crate) fn state_of<'a>(lent: &'a Keep<'_>) -> State<'a> {
-    let &Keep { numbers, order, ref stored, reader_starts, reader_places, .. } = lent;
-    State { numbers, order, stored, reader_starts, reader_places }
 }
 
 /// The state of a model of these counts, without what lies beyond them. Check 1 has passed.

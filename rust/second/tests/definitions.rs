@@ -104,6 +104,58 @@ fn finds_a_record_that_keeps_its_count() {
 }
 
 #[test]
+fn finds_a_log_whose_oldest_move_stays() {
+    let fault = |lent: &Case, case: &mut Case| {
+        if case.call == Call::Keep && lent.logged() == 64 {
+            case.log_vars[..4032].copy_from_slice(&lent.log_vars[..4032]);
+            case.log_values[..4032].copy_from_slice(&lent.log_values[..4032]);
+        }
+    };
+    assert_eq!(found(fault), 0);
+}
+
+#[test]
+fn finds_a_log_of_new_values() {
+    let fault = |lent: &Case, case: &mut Case| {
+        if case.call == Call::Keep {
+            let first = 64 * (case.logged() - 1);
+            case.log_values[first..first + lent.pairs].copy_from_slice(&lent.move_values[..lent.pairs]);
+        }
+    };
+    assert_eq!(found(fault), 0);
+}
+
+#[test]
+fn finds_a_move_taken_back_that_stays_logged() {
+    let fault = |lent: &Case, case: &mut Case| {
+        if case.call == Call::TakeBack {
+            case.log_sizes[0] = lent.log_sizes[0];
+        }
+    };
+    assert_eq!(found(fault), 0);
+}
+
+#[test]
+fn finds_a_number_kept_that_falls_from_its_ceiling() {
+    let fault = |lent: &Case, case: &mut Case| {
+        if case.call == Call::TakeBack {
+            case.session.kept = lent.session.kept - 1;
+        }
+    };
+    assert_eq!(found(fault), 0);
+}
+
+#[test]
+fn finds_a_build_that_leaves_the_log() {
+    let fault = |lent: &Case, case: &mut Case| {
+        if case.call == Call::Build {
+            case.log_sizes[0] = lent.log_sizes[0];
+        }
+    };
+    assert_eq!(found(fault), 0);
+}
+
+#[test]
 fn finds_a_max_that_one_blank_input_blanks() {
     let fault = |_: &Case, case: &mut Case| {
         for row in (0..case.m).filter(|&row| case.call == Call::Build && case.kinds[row] == 3) {

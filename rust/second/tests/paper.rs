@@ -6,6 +6,8 @@ use compare::deep::deepest_models;
 use compare::edges::EDGES;
 use compare::files::FILES;
 use compare::runs::{RUNS, model_a};
+use compare::sessions::long_sessions;
+use compare::takings::TAKINGS;
 use compare::{Case, Engine, Second, Test};
 use naive::Naive;
 
@@ -22,6 +24,16 @@ fn runs() {
 }
 
 #[test]
+fn keeps_and_takings_back() {
+    hold(TAKINGS, &Second);
+}
+
+#[test]
+fn long_sessions_of_keeps_and_takings_back() {
+    long_sessions(&Second);
+}
+
+#[test]
 fn refusals_on_both_sides() {
     hold(EDGES, &Second);
 }
@@ -29,6 +41,11 @@ fn refusals_on_both_sides() {
 #[test]
 fn runs_by_the_definitions() {
     hold(RUNS, &Naive);
+}
+
+#[test]
+fn keeps_and_takings_back_by_the_definitions() {
+    hold(TAKINGS, &Naive);
 }
 
 #[test]

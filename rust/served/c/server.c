@@ -12,15 +12,16 @@
 #include <unistd.h>
 #include "lukhandro.h"
 
-enum call { BUILD, TRIAL, KEEP, READ, WRITE };
+enum call { BUILD, TRIAL, KEEP, TAKE_BACK, READ, WRITE };
 
 enum buffer {
     SESSION, KINDS, MAKES, PARAMS, FIRSTS, COUNTS, VARS, COEFS, STARTS, NUMBERS, ORDER, STORED, READER_STARTS,
-    READER_PLACES, MOVE_VARS, MOVE_VALUES, ASKED_VARS, RESULTS, TRIED, FLAGS, BYTES, BUFFERS
+    READER_PLACES, MOVE_VARS, MOVE_VALUES, ASKED_VARS, RESULTS, TRIED, FLAGS, LOG_SIZES, LOG_VARS, LOG_VALUES, BYTES,
+    BUFFERS
 };
 
 /* Bytes of one element of each buffer; the record is one element. */
-static const uint64_t width[BUFFERS] = {8, 2, 2, 4, 2, 2, 2, 2, 4, 2, 2, 4, 2, 2, 2, 4, 2, 4, 4, 1, 1};
+static const uint64_t width[BUFFERS] = {8, 2, 2, 4, 2, 2, 2, 2, 4, 2, 2, 4, 2, 2, 2, 4, 2, 4, 4, 1, 2, 2, 4, 1};
 
 struct request {
     uint64_t call, n, m, e, pairs, asked, route;
@@ -82,6 +83,7 @@ static void take_block(void) {
 #define ROWS_AND_ENTRIES LENT(KINDS), LENT(MAKES), LENT(PARAMS), LENT(FIRSTS), LENT(COUNTS), LENT(VARS), LENT(COEFS)
 #define BUILT LENT(NUMBERS), LENT(ORDER), LENT(STORED), LENT(READER_STARTS), LENT(READER_PLACES)
 #define MOVE request.pairs, LENT(MOVE_VARS), LENT(MOVE_VALUES)
+#define LOG LENT(LOG_SIZES), LENT(LOG_VARS), LENT(LOG_VALUES)
 
 static struct answer of_call(lukhandro_outcome outcome) {
     return (struct answer){outcome.number, outcome.place, outcome.evaluations, 0, 0, 0};
@@ -95,12 +97,14 @@ static struct answer made(void) {
     lukhandro_session *session = (void *)(block + request.lent[SESSION].place);
     switch (request.call) {
     case BUILD:
-        return of_call(lukhandro_build(session, COUNTED, ROWS_AND_ENTRIES, LENT(STARTS), BUILT));
+        return of_call(lukhandro_build(session, COUNTED, ROWS_AND_ENTRIES, LENT(STARTS), BUILT, LENT(LOG_SIZES)));
     case TRIAL:
         return of_call(lukhandro_trial(session, COUNTED, ROWS_AND_ENTRIES, BUILT, MOVE, request.asked,
             LENT(ASKED_VARS), (uint32_t)request.route, LENT(RESULTS), LENT(TRIED), LENT(FLAGS)));
     case KEEP:
-        return of_call(lukhandro_keep(session, COUNTED, ROWS_AND_ENTRIES, BUILT, MOVE, LENT(FLAGS)));
+        return of_call(lukhandro_keep(session, COUNTED, ROWS_AND_ENTRIES, BUILT, MOVE, LENT(FLAGS), LOG));
+    case TAKE_BACK:
+        return of_call(lukhandro_take_back(session, COUNTED, ROWS_AND_ENTRIES, BUILT, LENT(FLAGS), LOG));
     case READ:
         return of_read(lukhandro_read(LENT(BYTES), LENT(STARTS), ROWS_AND_ENTRIES));
     case WRITE:

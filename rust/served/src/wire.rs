@@ -8,8 +8,8 @@ const GAP: u8 = 0x5A;
 /// Every buffer of a block begins at a multiple of this, guards and all.
 const ALIGNED: usize = 8;
 
-/// The bytes of a request before its block: 8 numbers, and the place and length of the record and the 20 buffers.
-const REQUEST: usize = 8 * (8 + 2 * 21);
+/// The bytes of a request before its block: 8 numbers, and the place and length of the record and the 23 buffers.
+const REQUEST: usize = 8 * (8 + 2 * 24);
 
 /// The bytes of an answer before its block.
 const ANSWER: usize = 4 * 6;
@@ -70,9 +70,10 @@ mod tests {
 
     use super::*;
 
-    /// A case, and the answer of a server that makes no call.
+    /// A case, with little of its log, and the answer of a server that makes no call.
     fn untouched() -> (Case, Vec<u8>) {
-        let case = keep(&built(&Second, &model_a()), &[(1, 28801)]);
+        let (log_vars, log_values) = (vec![1, 2, 3].into(), vec![4, 5].into());
+        let case = Case { log_vars, log_values, ..keep(&built(&Second, &model_a()), &[(1, 28801)]) };
         let mut answer = vec![0; ANSWER];
         answer.extend(&request(&case)[REQUEST..]);
         assert_eq!(answer.len(), answer_length(&request(&case)));

@@ -16,7 +16,13 @@ fn printed(name: &str) -> String {
 
 #[test]
 fn the_c_example() {
-    assert_eq!(printed("headway"), "number 0, place 0: 6 departures\n");
+    let expected = "\
+number 0, place 0: 6 departures
+every twelve minutes: 5 departures, number 0
+taken back: 6 departures, number 0
+once more: number 15
+";
+    assert_eq!(printed("headway"), expected);
 }
 
 #[test]
@@ -27,9 +33,14 @@ readers of 2 from place 4 to 6: 0 1
 trial 0 0 3, session 0 3, stored 6 28200 26
 results 30 28800, trial 28801, flags 1 1 1
 keep 0 0 3, session 1 3, stored 7 28800 30
+log of 1 move: 1 pair, variable 1 from 28800
 keep 10 0 0, session 1 3, stored 7 28800 30
 keep 8 0 0, session 1 3, stored 7 28800 30
-write 0 0 0, session 1 3, stored 7 28800 30
+taking back 8 0 0, session 1 3, stored 7 28800 30
+taking back 16 0 0, session 1 3, stored 7 28800 30
+taking back 0 0 3, session 0 3, stored 6 28200 26
+taking back 15 0 0, session 0 3, stored 6 28200 26
+write 0 0 0, session 0 3, stored 6 28200 26
 read 0 0 6 3 7, parameter 2
 read 14 20 0 0 0
 ";
@@ -48,7 +59,7 @@ fn ends(input: &[u8]) -> Option<i32> {
 fn the_server_ends_with_its_input() {
     assert_eq!(ends(&[]), Some(0));
     assert_eq!(ends(&[0; 10]), Some(2), "a request that breaks off");
-    assert_eq!(ends(&[0; 400]), Some(2), "a request without a record");
+    assert_eq!(ends(&[0; 448]), Some(2), "a request without a record");
 }
 
 #[test]

@@ -42,7 +42,7 @@ returns c =
     let c1 = c2 .before .before .before .before .before .before .before in
     let n = c1 .before .before .before .before .before .before .before .before .before .before .before .before .args .n in
     let s = c .before .before .show-refused .ensures in
-    (s .0, told-refusal _ _ _ _ _ _ n _ (c1 .build-new .ensures) _ _ (c2 .enum-told2 .given .1) (s .1))
+    (s .0, told-refusal _ _ _ _ _ _ _ n _ (c1 .build-new .ensures) _ _ (c2 .enum-told2 .given .1) (s .1))
 
 slice-aggregate-list : tie.Need-slice-aggregate-list
 slice-aggregate-list c = search needs
@@ -63,7 +63,7 @@ returns-2 c =
     let c1 = c2 .before .before .before .before .before .before .before in
     let n = c1 .before .before .before .before .before .before .before .before .before .before .before .before .args .n in
     let s = c .before .before .list .ensures in
-    (s .0, told-list _ _ _ _ _ _ n _ (c1 .build-new .ensures) _ (c2 .enum-told .given .1) (s .1))
+    (s .0, told-list _ _ _ _ _ _ _ n _ (c1 .build-new .ensures) _ (c2 .enum-told .given .1) (s .1))
 
 pub list-built-spec : {M : Type 1} → statement M
 list-built-spec =

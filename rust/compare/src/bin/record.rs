@@ -13,34 +13,37 @@
 //! A trial or a keep is: 1 or 2, route, pairs, asked (4 bytes each), 4 pair variables (2 each), 4 new values (4 each),
 //! 4 asked variables (2 each). What lies beyond pairs or asked means nothing; of a keep route and asked are 0. A change
 //! of one field of what is lent is: 3, row, place, new field (4 bytes each) and zeros. Row 0 is the record's moves kept;
-//! rows 1 to 12 are kinds, made variables, parameters, firsts, counts, entry variables, coefficients, numbers, order,
-//! stored values, and of the index of readers the starts and the places.
+//! rows 1 to 15 are kinds, made variables, parameters, firsts, counts, entry variables, coefficients, numbers, order,
+//! stored values, of the index of readers the starts and the places, and of the log the sizes, the variables and the
+//! values. A taking back is 4 and zeros. All keeps and takings back of a session have one log, which the last files try
+//! over sessions of many calls.
 //!
 //! The text has a line `read NUMBER PLACE N M E`; if that is accepted a line `build`; and if that is accepted a line for
-//! each call: `trial`, `keep` or `change ROW PLACE FIELD`. `build`, `trial` and `keep` go on with `NUMBER PLACE
-//! EVALUATIONS` and the record's moves kept and evaluations. If they are accepted, the rows that they leave follow, a bar
-//! before each: numbers, order, stored values, and n + 1 starts and e places of the index; results, trial row and flags;
-//! stored values and flags. A blank is `-`.
+//! each call: `trial`, `keep`, `back` or `change ROW PLACE FIELD`. `build`, `trial`, `keep` and `back` go on with `NUMBER
+//! PLACE EVALUATIONS` and the record's moves kept and evaluations. If they are accepted, the rows that they leave follow,
+//! a bar before each: numbers, order, stored values, and n + 1 starts and e places of the index; results, trial row and
+//! flags; stored values, flags, how many moves the log holds and how many pairs each has, and the variables and the values
+//! of the latest. A blank is `-`.
 
 use std::fmt::{Display, Write};
 use std::path::Path;
 use std::{env, fs, io};
 
-use compare::{
-    Answer, Call, Case, Engine, Guarded, Random, Second, Sizes, damage, keep_of, model, model_of, trial_of, value,
-};
-use lent::Session;
+use compare::{Answer, Call, Case, Engine, Guarded, Random, Second, Sizes, damage, model, model_of, trial_of, value};
+use lent::{LOG_SIZES, Session};
 use second::BLANK;
 
 /// Where the random numbers start.
 const SEED: u64 = 20_261_115;
 
-/// The files, and the sessions of each.
-const FILES: usize = 12;
+/// The files, and the sessions of each; then files of one long session each, and its turns.
+const FILES: usize = 16;
 const SESSIONS: u32 = 15;
+const LONG_FILES: usize = 3;
+const TURNS: usize = 230;
 
 /// The longest file that is replayed.
-const LONGEST: usize = 8_192;
+const LONGEST: usize = 12_288;
 
 /// The rows and variables, the entries, and the pairs or asked variables that the program's buffers have room for.
 const ROWS: usize = 16;
@@ -59,10 +62,12 @@ fn main() -> io::Result<()> {
     fs::create_dir_all(folder.join("data"))?;
     let mut random = Random::new(SEED);
     let (mut names, mut lines) = (String::new(), String::new());
-    for file in 1..=FILES {
-        let mut data = SESSIONS.to_le_bytes().to_vec();
-        for _ in 0..SESSIONS {
-            let recorded = Recording::of_session(&mut random);
+    for file in 1..=FILES + LONG_FILES {
+        let sessions = if file > FILES { 1 } else { SESSIONS };
+        let mut data = sessions.to_le_bytes().to_vec();
+        for _ in 0..sessions {
+            let recorded =
+                if file > FILES { Recording::of_long_session(&mut random) } else { Recording::of_session(&mut random) };
             data.extend(recorded.data());
             lines += &recorded.lines;
         }
@@ -97,6 +102,27 @@ impl Recording {
         session
     }
 
+    /// A session of so many keeps that the log is full, then takings back among them, until none is left.
+    fn of_long_session(random: &mut Random) -> Recording {
+        let sizes = Sizes { variables: 12, entries: 48, inputs: 5 };
+        let mut session = Recording::default();
+        let mut model = None;
+        while model.is_none() {
+            let drawn = model_of(random, 12, sizes);
+            let length = length_of(&drawn);
+            let file = into_program(written(drawn, length));
+            session = Recording { file: file.bytes.to_vec(), ..Recording::default() };
+            model = session.read_and_build(file);
+        }
+        let mut model = model.unwrap_or_default();
+        for turn in 0..TURNS {
+            let back = if turn < 110 { random.once_in(8) } else { !random.once_in(8) };
+            let name = if back { Call::TakeBack } else { Call::Keep };
+            session.call(random, &mut model, name, false);
+        }
+        session
+    }
+
     /// The bytes of the session.
     fn data(&self) -> Vec<u8> {
         let counts = [self.file.len(), self.calls.len() / CALL].map(|count| (count as u32).to_le_bytes());
@@ -113,7 +139,8 @@ impl Recording {
         }
         let (n, m, e) = (n as usize, m as usize, e as usize);
         let full = Case { n: ROWS, m: ROWS, e: ENTRIES, ..model }.with_room();
-        model = Case { call: Call::Build, session: BEFORE, n, m, e, ..full };
+        let log_sizes = vec![7; LOG_SIZES].into();
+        model = Case { call: Call::Build, session: BEFORE, n, m, e, log_sizes, ..full }.with_log();
         let answer = Second.answer(&mut model);
         let index = [row(&model.reader_starts[..=n]), row(&model.reader_places[..e])];
         let left = [row(&model.numbers[..n]), row(&model.order[..m]), values(&model.stored[..n])];
@@ -124,39 +151,46 @@ impl Recording {
 
     /// A call on the model, at times between a change of one field and the change back.
     fn turn(&mut self, random: &mut Random, model: &mut Case) {
-        let changed = random.once_in(3).then(|| Change::random(random, model));
+        let changed = random.once_in(2).then(|| Change::random(random, model));
         if let Some(change) = changed {
             let before = change.put(model);
             self.change(change);
-            self.call(random, model);
+            self.any_call(random, model, change.row >= SIZES);
             if change.row != STORED || random.once_in(2) {
                 let back = Change { field: before, ..change };
                 back.put(model);
                 self.change(back);
             }
         }
-        self.call(random, model);
+        self.any_call(random, model, false);
     }
 
-    /// A random trial or keep on the model, which is then as the call leaves it.
-    fn call(&mut self, random: &mut Random, model: &mut Case) {
-        let keeps = random.below(5) < 2;
-        let drawn = if keeps { keep_of(random, model) } else { trial_of(random, model) };
-        let mut case = cut(Case { session: model.session, ..drawn });
-        if random.once_in(3) {
+    /// A random trial, keep or taking back on the model, at times spoilt; no trial if it is to have a log.
+    fn any_call(&mut self, random: &mut Random, model: &mut Case, logged: bool) {
+        let names = [Call::Keep, Call::Keep, Call::TakeBack, Call::TakeBack, Call::Trial, Call::Trial, Call::Trial];
+        let name = random.pick(if logged { &names[..4] } else { &names });
+        let spoilt = random.once_in(3);
+        self.call(random, model, name, spoilt);
+    }
+
+    /// A trial, a keep or a taking back on the model, which is then as the call leaves it.
+    fn call(&mut self, random: &mut Random, model: &mut Case, name: Call, spoilt: bool) {
+        let mut case = cut(Case { call: name, ..trial_of(random, model) });
+        if spoilt {
             spoil(random, &mut case);
         }
         self.calls.extend(bytes_of(&case));
         let answer = Second.answer(&mut case);
         let (n, flags) = (case.n, row(&case.flags[..case.n]));
-        if keeps {
-            self.told("keep", answer, case.session, &rows([values(&case.stored[..n]), flags]));
-        } else {
+        if name == Call::Trial {
             let results = values(&case.results[..case.asked.min(MOST)]);
             self.told("trial", answer, case.session, &rows([results, values(&case.trial[..n]), flags]));
+        } else {
+            let left = rows([values(&case.stored[..n]), flags]) + &rows(log(&case));
+            self.told(if name == Call::Keep { "keep" } else { "back" }, answer, case.session, &left);
         }
-        model.session = case.session;
-        model.stored = case.stored;
+        let Case { session, stored, log_sizes, log_vars, log_values, .. } = case;
+        *model = Case { session, stored, log_sizes, log_vars, log_values, ..std::mem::take(model) };
     }
 
     /// A change.
@@ -182,19 +216,34 @@ impl Recording {
 fn reading(random: &mut Random) -> Case {
     let sizes = Sizes { variables: 12, entries: 48, inputs: 5 };
     let mut case = if random.once_in(16) { model_of(random, ROWS + 1, sizes) } else { model(random, sizes) };
-    let length = 24 + 4 * case.n + 12 * case.m + 4 * case.e;
+    let length = length_of(&case);
     match random.below(12) {
         0 => case.makes.put(random.below(case.m), case.makes.first().copied().unwrap_or(0)),
         1 => case.kinds.put(random.below(case.m), random.pick(&[0, 10])),
         2..=5 => damage(random, &mut case),
         _ => {}
     }
-    case = Case { call: Call::Write, bytes: vec![0; length].into(), ..case };
-    Second.answer(&mut case);
-    case.call = Call::Read;
+    case = written(case, length);
     if random.once_in(8) {
         damage(random, &mut case);
     }
+    into_program(case)
+}
+
+/// The length of a model's file.
+fn length_of(model: &Case) -> usize {
+    24 + 4 * model.n + 12 * model.m + 4 * model.e
+}
+
+/// The read of a model's file of this length.
+fn written(model: Case, length: usize) -> Case {
+    let mut case = Case { call: Call::Write, bytes: vec![0; length].into(), ..model };
+    Second.answer(&mut case);
+    Case { call: Call::Read, ..case }
+}
+
+/// A read into tables as long as the program's.
+fn into_program(mut case: Case) -> Case {
     for table in [&mut case.kinds, &mut case.makes, &mut case.firsts, &mut case.counts] {
         *table = vec![0; ROWS].into();
     }
@@ -228,8 +277,11 @@ fn spoil(random: &mut Random, case: &mut Case) {
     }
 }
 
-/// A trial or a keep as it is recorded.
+/// A trial, a keep or a taking back as it is recorded.
 fn bytes_of(case: &Case) -> Vec<u8> {
+    if case.call == Call::TakeBack {
+        return [&4u32.to_le_bytes()[..], &[0; CALL - 4]].concat();
+    }
     let tries = case.call == Call::Trial;
     let (name, route, asked) = if tries { (1, case.route, case.asked) } else { (2, 0, 0) };
     let mut bytes = Vec::with_capacity(CALL);
@@ -242,8 +294,11 @@ fn bytes_of(case: &Case) -> Vec<u8> {
     bytes
 }
 
-/// The number of the stored values among the rows that a change names.
+/// The numbers of the stored values and of the log's rows among the rows that a change names.
 const STORED: u32 = 10;
+const SIZES: u32 = 13;
+const VARS: u32 = 14;
+const VALUES: u32 = 15;
 
 /// A change of one field.
 #[derive(Clone, Copy)]
@@ -256,20 +311,27 @@ struct Change {
 impl Change {
     /// A change that may be refused, or may be one model for another.
     fn random(random: &mut Random, model: &Case) -> Change {
+        let log = [SIZES, SIZES, VARS, VALUES];
         let row = random.pick(&[0, 1, 1, 2, 2, 3, 4, 5, 6, 7, 8, 9, STORED, STORED, STORED, 11, 11, 12, 12]);
+        let row = if random.once_in(4) { random.pick(&log) } else { row };
         let place = match row {
             6 | 7 | 12 => random.below(model.e),
             8 | STORED => random.below(model.n),
             11 => random.below(model.n + 1),
+            SIZES => random.below(model.logged() + 1),
+            VARS | VALUES => 64 * random.below(model.logged()) + random.below(2),
             _ => random.below(model.m),
         };
         let variable = random.below(model.n + 1) as u32;
         let field = match row {
             0 => random.pick(&[0, u32::MAX - 1, u32::MAX]),
             1 => random.pick(&[0, 1, 2, 3, 4, 5, 10, 65535]),
+            2 if random.once_in(2) => model.makes[random.below(model.m)].into(),
             3 => random.pick(&[0, 1, 1_000_000_000, 1_000_000_001, (-1_000_000_001_i32) as u32]),
             7 => random.pick(&[1, 2, 1000, 1001, 0xFFFF, 0xFC17]),
-            STORED if random.once_in(2) => BLANK as u32,
+            STORED | VALUES if random.once_in(2) => BLANK as u32,
+            VALUES => value(random) as u32,
+            SIZES => random.pick(&[0, 1, 2, 3, 64, 65, 65535]),
             STORED => value(random) as u32,
             _ => variable,
         };
@@ -292,9 +354,21 @@ impl Change {
             9 => put16(&mut model.order, place, field),
             STORED => put32(&mut model.stored, place, field),
             11 => put16(&mut model.reader_starts, place, field),
+            SIZES => put16(&mut model.log_sizes, place, field),
+            VARS => put16(&mut model.log_vars, place, field),
+            VALUES => put32(&mut model.log_values, place, field),
             _ => put16(&mut model.reader_places, place, field),
         }
     }
+}
+
+/// The log that an accepted call leaves: how many moves it holds and the pairs of each, and the pairs of the latest.
+fn log(case: &Case) -> [String; 3] {
+    let moves = case.logged();
+    let pairs = usize::from(case.log_sizes[moves]);
+    let first = 64 * moves.saturating_sub(1);
+    let latest = if moves == 0 { 0..0 } else { first..(first + pairs).min(case.log_vars.len()) };
+    [row(&case.log_sizes[..=moves]), row(&case.log_vars[latest.clone()]), values(&case.log_values[latest])]
 }
 
 /// Puts a field of 16 bits, and gives the one that was there.

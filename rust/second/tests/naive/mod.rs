@@ -71,12 +71,17 @@ fn verdict(case: &Case) -> Option<Refused> {
             Call::Build => checks.extend([model.check_6(), model.check_7(case)]),
             Call::Trial => {
                 checks.extend([model.check_8(case), model.check_7(case), fixed(9, [1, 2, 3].contains(&case.route))]);
-                checks.extend(model.checks_10_to_12(case));
+                checks.extend(model.checks_10_to_12(&Moved::of(case)));
                 checks.push(places(13, case.asked, |place| usize::from(case.asked_vars[place]) >= case.n));
+            }
+            Call::TakeBack => {
+                checks.extend([model.check_8(case), model.check_7(case), model.check_16(case)]);
+                checks.push(fixed(15, case.log_sizes[0] > 0));
             }
             _ => {
                 checks.extend([model.check_8(case), model.check_7(case)]);
-                checks.extend(model.checks_10_to_12(case));
+                checks.extend(model.checks_10_to_12(&Moved::of(case)));
+                checks.push(model.check_16(case));
             }
         }
         first(checks)
@@ -98,12 +103,15 @@ fn check_1(case: &Case) -> bool {
     let index = case.reader_starts.len() > n && case.reader_places.len() >= e;
     let state = case.numbers.len() >= n && case.order.len() >= m && case.stored.len() >= n && index;
     let moved = pairs <= 64 && case.move_vars.len() >= pairs && case.move_values.len() >= pairs;
-    let keep = tables && state && moved && case.flags.len() >= n;
+    let changes = tables && state && case.flags.len() >= n;
+    let sizes = case.log_sizes.len() >= 65;
+    let log = sizes && case.log_vars.len() >= 4096 && case.log_values.len() >= 4096;
     let questions = asked <= 32 && case.asked_vars.len() >= asked && case.results.len() >= asked;
     match case.call {
-        Call::Build => tables && state && case.starts.len() >= n,
-        Call::Trial => keep && questions && case.trial.len() >= n,
-        Call::Keep => keep,
+        Call::Build => tables && state && case.starts.len() >= n && sizes,
+        Call::Trial => changes && moved && questions && case.trial.len() >= n,
+        Call::Keep => changes && moved && log,
+        Call::TakeBack => changes && log,
         Call::Read => true,
         Call::Write => tables && case.starts.len() >= n && case.bytes.len() >= 24 + 4 * n + 12 * m + 4 * e,
     }
@@ -221,14 +229,67 @@ impl Model {
         ((0..=self.n).map(|end| below(end).len() as u16).collect(), below(self.n))
     }
 
-    fn checks_10_to_12(&self, case: &Case) -> [Check; 3] {
-        let variable = |pair: usize| usize::from(case.move_vars[pair]);
+    fn checks_10_to_12(&self, moved: &Moved) -> [Check; 3] {
+        let variable = |pair: usize| moved.pairs[pair].0;
+        let pairs = moved.pairs.len();
         [
-            places(10, case.pairs, |pair| variable(pair) >= self.n || self.maker(variable(pair)).is_some()),
-            places(11, case.pairs, |pair| (0..pair).any(|earlier| variable(earlier) == variable(pair))),
-            places(12, case.pairs, |pair| case.move_values[pair] == BLANK),
+            places(10, pairs, |pair| variable(pair) >= self.n || self.maker(variable(pair)).is_some()),
+            places(11, pairs, |pair| (0..pair).any(|earlier| variable(earlier) == variable(pair))),
+            places(12, pairs, |pair| moved.pairs[pair].1 == BLANK),
         ]
     }
+
+    /// A log holds at most 64 moves and no more than were kept, and each is at most 64 pairs that a move may have.
+    fn check_16(&self, case: &Case) -> Check {
+        let moves = usize::from(case.log_sizes[0]);
+        let good =
+            |k: usize| case.log_sizes[k + 1] <= 64 && first(self.checks_10_to_12(&Moved::back(case, k))).is_none();
+        fixed(16, moves <= 64 && moves <= case.session.kept as usize && (0..moves).all(good))
+    }
+}
+
+/// A move: variable and new value of each pair.
+struct Moved {
+    pairs: Vec<(usize, i32)>,
+}
+
+impl Moved {
+    /// The move that a case is lent.
+    fn of(case: &Case) -> Moved {
+        let pair = |pair: usize| (usize::from(case.move_vars[pair]), case.move_values[pair]);
+        Moved { pairs: (0..case.pairs).map(pair).collect() }
+    }
+
+    /// The move that takes move k of the log back: the pairs from place 64 k on.
+    fn back(case: &Case, k: usize) -> Moved {
+        let pair = |place: usize| (usize::from(case.log_vars[place]), case.log_values[place]);
+        Moved { pairs: (64 * k..64 * k + usize::from(case.log_sizes[k + 1])).map(pair).collect() }
+    }
+}
+
+/// The log after a keep: the oldest of 64 moves is taken out, with its places, and the move is put behind the others.
+fn note(case: &mut Case, moved: &Moved) {
+    let (mut sizes, mut vars, mut values) = (case.log_sizes.to_vec(), case.log_vars.to_vec(), case.log_values.to_vec());
+    let mut moves = usize::from(sizes[0]);
+    if moves == 64 {
+        // a place that comes free at the end stays as it was
+        sizes.insert(65, sizes[64]);
+        sizes.remove(0);
+        vars.splice(4096..4096, vars[4032..4096].to_vec());
+        vars.drain(..64);
+        values.splice(4096..4096, values[4032..4096].to_vec());
+        values.drain(..64);
+        moves = 63;
+    }
+    sizes[0] = moves as u16 + 1;
+    sizes[moves + 1] = moved.pairs.len() as u16;
+    for (pair, &(variable, _)) in moved.pairs.iter().enumerate() {
+        vars[64 * moves + pair] = variable as u16;
+        values[64 * moves + pair] = case.stored[variable];
+    }
+    case.log_sizes.copy_from_slice(&sizes);
+    case.log_vars.copy_from_slice(&vars);
+    case.log_values.copy_from_slice(&values);
 }
 
 /// What an accepted call leaves, and its answer.
@@ -242,14 +303,21 @@ fn accepted(case: &mut Case) -> Answer {
     if case.call == Call::Build {
         return build(case, &model);
     }
+    let moved = match case.call {
+        Call::TakeBack => Moved::back(case, usize::from(case.log_sizes[0]) - 1),
+        _ => Moved::of(case),
+    };
     let (new, evaluated) = {
-        let route = Route { model: &model, case };
-        let number = if case.call == Call::Keep { 1 } else { case.route };
+        let route = Route { model: &model, case, moved: &moved };
+        let number = if case.call == Call::Trial { case.route } else { 1 };
         let evaluated = route.evaluated(number);
         let new: Vec<i32> = (0..case.n).map(|variable| route.left(number, &evaluated, variable)).collect();
         (new, evaluated)
     };
-    let values = if case.call == Call::Keep { &mut case.stored } else { &mut case.trial };
+    if case.call == Call::Keep {
+        note(case, &moved);
+    }
+    let values = if case.call == Call::Trial { &mut case.trial } else { &mut case.stored };
     values[..new.len()].copy_from_slice(&new);
     for variable in 0..case.n {
         case.flags[variable] = u8::from(evaluated.contains(&variable));
@@ -258,15 +326,18 @@ fn accepted(case: &mut Case) -> Answer {
         for place in 0..case.asked {
             case.results[place] = new[usize::from(case.asked_vars[place])];
         }
-    } else {
+    } else if case.call == Call::Keep {
         case.session.kept = case.session.kept.saturating_add(1);
+    } else {
+        case.session.kept -= u32::from(case.session.kept != 4_294_967_295);
+        case.log_sizes[0] -= 1;
     }
     case.session.evaluations = evaluated.len() as u32;
     Answer { evaluations: case.session.evaluations, ..Answer::default() }
 }
 
 fn build(case: &mut Case, model: &Model) -> Answer {
-    let route = Route { model, case };
+    let route = Route { model, case, moved: &Moved { pairs: Vec::new() } };
     let values: Vec<i32> = (0..case.n).map(|variable| route.fresh(variable, &|search| case.starts[search])).collect();
     let numbers: Vec<u16> = (0..case.n).map(|variable| model.number(variable, case.n).unwrap() as u16).collect();
     let order: Vec<u16> = model.order().unwrap().into_iter().map(|row| row as u16).collect();
@@ -276,6 +347,7 @@ fn build(case: &mut Case, model: &Model) -> Answer {
     let (starts, places) = model.index();
     case.reader_starts[..starts.len()].copy_from_slice(&starts);
     case.reader_places[..places.len()].copy_from_slice(&places);
+    case.log_sizes[0] = 0;
     case.session.kept = 0;
     case.session.evaluations = case.m as u32;
     Answer { evaluations: case.session.evaluations, ..Answer::default() }
@@ -285,6 +357,7 @@ fn build(case: &mut Case, model: &Model) -> Answer {
 struct Route<'a> {
     model: &'a Model,
     case: &'a Case,
+    moved: &'a Moved,
 }
 
 impl Route<'_> {
@@ -294,8 +367,8 @@ impl Route<'_> {
 
     /// The new value of a search variable.
     fn moved(&self, variable: usize) -> i32 {
-        let pair = (0..self.case.pairs).find(|&pair| usize::from(self.case.move_vars[pair]) == variable);
-        pair.map_or(self.old(variable), |pair| self.case.move_values[pair])
+        let pair = self.moved.pairs.iter().find(|(named, _)| *named == variable);
+        pair.map_or(self.old(variable), |&(_, value)| value)
     }
 
     /// The value from the formulas alone, given the search variables.

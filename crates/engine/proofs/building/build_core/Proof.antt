@@ -19,13 +19,16 @@ use Rattle.engine.proofs.building.build_core.Tie as tie
 abbrev lent : tie.Start → BuildLent
 lent s =
     let a = s .args in
-    toBuild (a .session .kept) (a .session .evaluations) (a .n) (a .m) (a .e) (a .kinds .now) (a .makes .now) (a .params .now) (a .firsts .now) (a .counts .now) (a .vars .now) (a .coefs .now) (a .starts .now) (a .numbers .now) (a .order .now) (a .stored .now) (a .reader-starts .now) (a .reader-places .now)
+    toBuild (a .session .kept) (a .session .evaluations) (a .n) (a .m) (a .e) (a .kinds .now) (a .makes .now) (a .params .now) (a .firsts .now) (a .counts .now) (a .vars .now) (a .coefs .now) (a .starts .now) (a .numbers .now) (a .order .now) (a .stored .now) (a .reader-starts .now) (a .reader-places .now) (a .log-sizes .now)
 
-passed : (c : tie.After-enum-told) → buildVerdict (lent (c .before .before .before .before .before .before .before .before .before .before .before .before .before .before .before .before .before .before)) ≡ accepted
-passed c = let said = c .enum-told .given in any-session (lent (c .before .before .before .before .before .before .before .before .before .before .before .before .before .before .before .before .before .before)) (record { kept = 0; evaluations = 0 }) ∙ accepted-is 0 (said .0 .0) _ (sym (c .before .before .judge-build .ensures .verdict) ∙ said .1)
+abbrev start : tie.After-enum-told → tie.Start
+start c = c .before .before .before .before .before .before .before .before .before .before .before .before .before .before .before .before .before .before .before .before
 
-few : (c : tie.After-enum-told) → Sized (lent (c .before .before .before .before .before .before .before .before .before .before .before .before .before .before .before .before .before .before) .tables)
-few c = let l = lent (c .before .before .before .before .before .before .before .before .before .before .before .before .before .before .before .before .before .before) in fitting l (build-known l (passed c) .fits) .held
+passed : (c : tie.After-enum-told) → buildVerdict (lent (start c)) ≡ accepted
+passed c = let said = c .enum-told .given in any-session (lent (start c)) (record { kept = 0; evaluations = 0 }) ∙ accepted-is 0 (said .0 .0) _ (sym (c .before .before .judge-build .ensures .verdict) ∙ said .1)
+
+few : (c : tie.After-enum-told) → Sized (lent (start c) .tables)
+few c = let l = lent (start c) in fitting l (build-known l (passed c) .fits) .held
 
 judge-build-requires : tie.Need-judge-build-requires
 judge-build-requires c κs =
@@ -52,23 +55,23 @@ same-length-4 c = search needs
 same-length-5 : tie.Need-same-length-5
 same-length-5 c = search needs
 
+same-length-6 : tie.Need-same-length-6
+same-length-6 c = search needs
+
 returns : tie.Need-returns
 returns c =
-    let s = c .before .before .before .before .before .before .before .before .before .before .before .before .before .before .before .before .before .before in let l = lent s in let said = c .enum-told2 .given in let v = any-session l (record { kept = 0; evaluations = 0 }) ∙ refused-is 0 _ _ _ (sym (c .before .before .judge-build .ensures .verdict) ∙ said .1) in
+    let l = lent (c .before .before .before .before .before .before .before .before .before .before .before .before .before .before .before .before .before .before .before .before) in let said = c .enum-told2 .given in let v = any-session l (record { kept = 0; evaluations = 0 }) ∙ refused-is 0 _ _ _ (sym (c .before .before .judge-build .ensures .verdict) ∙ said .1) in
     build-meets l _ (refused (said .0 .0) (said .0 .1 .0)) v
-    (ap answerIn (said .1)) refl refl refl refl refl
+    (ap answerIn (said .1)) refl refl refl refl refl refl
 
 fill-model-requires : tie.Need-fill-model-requires
 fill-model-requires c κs =
-    let l = lent (c .before .before .before .before .before .before .before .before .before .before .before .before .before .before .before .before .before .before .before .before .before .before .before .before) in let said = c .before .before .before .before .before .before .enum-told .given in let judged = c .before .before .before .before .before .before .before .before .judge-build .ensures in
+    let said = c .before .before .before .before .before .before .before .enum-told .given in let judged = c .before .before .before .before .before .before .before .before .before .judge-build .ensures in
     let v = accepted-is 0 (said .0 .0) _ (sym (judged .verdict) ∙ said .1) in
     record { verdict = v; numbered = judged .numbered v }
 
 cast-evaluations : tie.Need-cast-evaluations
-cast-evaluations c = let z = few (c .before .before .before .before .before .before .before .before .before .before .before .before .before .before .before .before) in omega (arith, z .m-most, z .n-most)
-
-same-length-6 : tie.Need-same-length-6
-same-length-6 c = search needs
+cast-evaluations c = let z = few (c .before .before .before .before .before .before .before .before .before .before .before .before .before .before .before .before .before .before .before) in omega (arith, z .m-most, z .n-most)
 
 same-length-7 : tie.Need-same-length-7
 same-length-7 c = search needs
@@ -82,10 +85,16 @@ same-length-9 c = search needs
 same-length-10 : tie.Need-same-length-10
 same-length-10 c = search needs
 
+same-length-11 : tie.Need-same-length-11
+same-length-11 c = search needs
+
+same-length-12 : tie.Need-same-length-12
+same-length-12 c = search needs
+
 returns-2 : tie.Need-returns-2
 returns-2 c =
-    let e = c .before .before .before .before .before .before .before .before .before .before .before .before .before .before .before .before in
-    build-meets (lent (e .before .before .before .before .before .before .before .before .before .before .before .before .before .before .before .before .before .before)) _ accepted (passed e) refl refl (c .before .before .before .before .before .before .before .before .before .fill-model .ensures .0) (c .before .before .before .before .before .before .before .before .before .fill-model .ensures .1 .0) (c .before .before .before .before .before .before .before .before .before .fill-model .ensures .1 .1 .0) (c .before .before .before .before .before .before .before .before .before .fill-model .ensures .1 .1 .1)
+    let e = c .before .before .before .before .before .before .before .before .before .before .before .before .before .before .before .before .before .before .before in let left = c .before .before .before .before .before .before .before .before .before .before .before .fill-model .ensures in
+    build-meets (lent (start e)) _ accepted (passed e) refl refl (left .0) (left .1 .0) (left .1 .1 .0) (left .1 .1 .1 .0) (left .1 .1 .1 .1)
 
 pub build-core-spec : {M : Type 1} → statement M
 build-core-spec =
@@ -99,12 +108,14 @@ build-core-spec =
     same-length-3
     same-length-4
     same-length-5
+    same-length-6
     returns
     fill-model-requires
     cast-evaluations
-    same-length-6
     same-length-7
     same-length-8
     same-length-9
     same-length-10
+    same-length-11
+    same-length-12
     returns-2)

@@ -1,4 +1,6 @@
--- The numbers, the order and the index first, then the start values, and over them every row along that order. Assumes nothing.
+-- The numbers, the order and the index first, then the start values, and over them every row along that order; the log's first size becomes 0. Assumes nothing.
+use native.Mathlib.Omega.{arith}
+use mathlib.Core.Path.{refl}
 use Rattle.paper.specs.Calls.{BuildLent}
 use Rattle.order.proofs.Bare.{formed-of}
 use Rattle.judges.specs.Lent.{toBuild}
@@ -11,26 +13,29 @@ use Rattle.fills.proofs.model.fill_model.Tie as tie
 abbrev lent : tie.Start → BuildLent
 lent s =
     let a = s .args in
-    toBuild 0 0 (a .n) (a .m) (a .e) (a .kinds .now) (a .makes .now) (a .params .now) (a .firsts .now) (a .counts .now) (a .vars .now) (a .coefs .now) (a .starts .now) (a .numbers .now) (a .order .now) (a .stored .now) (a .reader-starts .now) (a .reader-places .now)
+    toBuild 0 0 (a .n) (a .m) (a .e) (a .kinds .now) (a .makes .now) (a .params .now) (a .firsts .now) (a .counts .now) (a .vars .now) (a .coefs .now) (a .starts .now) (a .numbers .now) (a .order .now) (a .stored .now) (a .reader-starts .now) (a .reader-places .now) (a .log-sizes .now)
 
 write-numbers-requires : tie.Need-write-numbers-requires
-write-numbers-requires c κs = let s = c .before .before .before .before .before .before .before .before .before .before in (s .pre .numbered, room (lent s) _ (s .pre) .numbers)
+write-numbers-requires c κs = let s = c .before .before .before .before .before .before .before .before .before .before .before in (s .pre .numbered, room (lent s) _ (s .pre) .numbers)
 
 write-order-requires : tie.Need-write-order-requires
-write-order-requires c κs = let s = c .before .before .before .before .before .before .before .before .before .before .before .before .before .before in let l = lent s in (formed-of (l .tables) (known l _ (s .pre) .sound), (s .pre .numbered, room l _ (s .pre) .order))
+write-order-requires c κs = let s = c .before .before .before .before .before .before .before .before .before .before .before .before .before .before .before in let l = lent s in (formed-of (l .tables) (known l _ (s .pre) .sound), (s .pre .numbered, room l _ (s .pre) .order))
 
 write-readers-requires : tie.Need-write-readers-requires
 write-readers-requires c κs =
-    let s = c .before .before .before .before .before .before .before .before .before .before .before .before .before .before .before .before .before .before .before in let l = lent s in let r = room l _ (s .pre) in
+    let s = c .before .before .before .before .before .before .before .before .before .before .before .before .before .before .before .before .before .before .before .before in let l = lent s in let r = room l _ (s .pre) in
     (entries-laid (l .tables) (known l _ (s .pre) .sound), (r .index-starts, r .index-places))
 
 copy-values-requires : tie.Need-copy-values-requires
-copy-values-requires c κs = let s = c .before .before .before .before .before .before .before .before .before .before .before .before .before .before .before .before .before .before .before .before .before .before .before .before .before in let r = room (lent s) _ (s .pre) in (r .starts, r .stored)
+copy-values-requires c κs = let s = c .before .before .before .before .before .before .before .before .before .before .before .before .before .before .before .before .before .before .before .before .before .before .before .before .before .before in let r = room (lent s) _ (s .pre) in (r .starts, r .stored)
 
 work-out-requires : tie.Need-work-out-requires
 work-out-requires c κs =
-    let s = c .before .before .before .before .before .before .before .before .before .before .before .before .before .before .before .before .before .before .before .before .before .before .before .before .before .before .before .before .before in let l = lent s in
+    let s = c .before .before .before .before .before .before .before .before .before .before .before .before .before .before .before .before .before .before .before .before .before .before .before .before .before .before .before .before .before .before in let l = lent s in
     (along l _ (s .pre) _ (c .before .before .before .before .before .before .before .before .before .before .before .before .before .before .write-order .ensures), stored-long l _ (s .pre) _ (c .before .before .before .copy-values .ensures))
+
+slice-write-log-sizes : tie.Need-slice-write-log-sizes
+slice-write-log-sizes c = let s = c .before .before .before .before .before .before .before .before .before .before .before .before .before .before .before .before .before .before .before .before .before .before .before .before .before .before .before .before .before .before .before .before in let long = room (lent s) _ (s .pre) .log in omega arith
 
 same-length : tie.Need-same-length
 same-length c = search needs
@@ -47,10 +52,13 @@ same-length-4 c = search needs
 same-length-5 : tie.Need-same-length-5
 same-length-5 c = search needs
 
+same-length-6 : tie.Need-same-length-6
+same-length-6 c = search needs
+
 returns : tie.Need-returns
 returns c =
-    let s = c .before .before .before .before .before .before .before .before .before .before .before .before .before .before .before .before .before .before .before .before .before .before .before .before .before .before .before .before .before .before .before in let l = lent s in
-    (numbers-left l _ (s .pre) _ (c .before .before .before .before .before .before .before .before .before .before .before .before .before .before .before .before .before .before .before .before .write-numbers .ensures), (order-left l _ (s .pre) _ (c .before .before .before .before .before .before .before .before .before .before .before .before .before .before .before .before .write-order .ensures), (stored-left l _ (s .pre) _ _ (c .before .before .before .before .before .copy-values .ensures) (c .before .work-out .ensures), c .before .before .before .before .before .before .before .before .before .before .before .write-readers .ensures)))
+    let s = c .before .before .before .before .before .before .before .before .before .before .before .before .before .before .before .before .before .before .before .before .before .before .before .before .before .before .before .before .before .before .before .before in let l = lent s in
+    (numbers-left l _ (s .pre) _ (c .before .before .before .before .before .before .before .before .before .before .before .before .before .before .before .before .before .before .before .before .write-numbers .ensures), (order-left l _ (s .pre) _ (c .before .before .before .before .before .before .before .before .before .before .before .before .before .before .before .before .write-order .ensures), (stored-left l _ (s .pre) _ _ (c .before .before .before .before .before .copy-values .ensures) (c .before .work-out .ensures), (c .before .before .before .before .before .before .before .before .before .before .before .write-readers .ensures, refl))))
 
 pub fill-model-spec : {M : Type 1} → statement M
 fill-model-spec =
@@ -61,9 +69,11 @@ fill-model-spec =
     write-readers-requires
     copy-values-requires
     work-out-requires
+    slice-write-log-sizes
     same-length
     same-length-2
     same-length-3
     same-length-4
     same-length-5
+    same-length-6
     returns)

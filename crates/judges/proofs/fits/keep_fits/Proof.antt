@@ -1,7 +1,6 @@
 -- The tests are those of `keepFits`, in its order. Assumes nothing.
-use mathlib.Core.Bool.{Bool}
 use mathlib.Core.List.{[], _∷_}
-use mathlib.Core.Path.{ap₂, _∙_}
+use mathlib.Core.Path.{_∙_}
 use lib.Dec.{leb}
 use lib.ListN.{length}
 use borrow.Author.Needs.{needs}
@@ -15,10 +14,13 @@ model-fits-requires c κs = search needs
 move-sizes-requires : tie.Need-move-sizes-requires
 move-sizes-requires c κs = search needs
 
+log-fits-requires : tie.Need-log-fits-requires
+log-fits-requires c κs = search needs
+
 returns : tie.Need-returns
 returns c =
-    let a = c .before .before .before .before .before .before .before .before .before .before .before .before .before .args in
-    ap₂ (λ (x y : Bool). joined x (y ∷ leb (a .n) (length (a .flags .now)) ∷ [])) (c .before .model-fits .ensures) (c .move-sizes .ensures) ∙ joined-every _ _
+    let a = c .before .before .before .before .before .before .before .before .before .before .before .before .before .before .before .before .args in
+    (λ i. joined (c .before .before .model-fits .ensures i) (c .before .move-sizes .ensures i ∷ leb (a .n) (length (a .flags .now)) ∷ c .log-fits .ensures i ∷ [])) ∙ joined-every _ _
 
 pub keep-fits-spec : {M : Type 1} → statement M
-keep-fits-spec = tie.close (tie.spec model-fits-requires move-sizes-requires returns)
+keep-fits-spec = tie.close (tie.spec model-fits-requires move-sizes-requires log-fits-requires returns)

@@ -13,10 +13,11 @@ mod values;
 use std::hint::black_box;
 use std::time::{Duration, Instant};
 
-use compare::runs::{built, keep, trial};
+use compare::runs::{built, keep, take_back, trial};
 use compare::{Call, Case, Engine, Second};
 use graphs::{Graph, graphs};
 use live::Proved;
+use lukhandro::{MOST_LOGGED, MOST_PAIRS};
 
 /// How long the calls of one round take, about.
 const ROUND: Duration = Duration::from_millis(1);
@@ -77,29 +78,57 @@ fn times_in_a_round(engine: &dyn Engine, calls: &[Case; 2]) -> usize {
     ((ROUND.as_secs_f64() / once / 2.0) as usize).clamp(1, 20_000)
 }
 
-/// The time of one call, on the average of a round. A keep finds what the keep before it left.
+/// The time of one call, on the average of a round.
 fn round(engine: &dyn Engine, calls: &mut [Case; 2], times: usize) -> f64 {
-    let keeps = calls[0].call == Call::Keep;
     let start = Instant::now();
     for _ in 0..times {
         let [one, other] = &mut *calls;
         black_box(engine.answer(one));
-        if keeps {
-            std::mem::swap(&mut one.stored, &mut other.stored);
-        }
+        hand_on(one, other);
         black_box(engine.answer(other));
-        if keeps {
-            std::mem::swap(&mut one.stored, &mut other.stored);
-        }
+        hand_on(other, one);
     }
     start.elapsed().as_secs_f64() / (2 * times) as f64
 }
 
-/// Every call on a graph, each in two versions: one move and the other.
+/// A keep finds the values and the log that the keep before it left. A taking back finds the values, and a log that is full
+/// again.
+fn hand_on(from: &mut Case, to: &mut Case) {
+    if matches!(from.call, Call::Keep | Call::TakeBack) {
+        std::mem::swap(&mut from.stored, &mut to.stored);
+    }
+    if from.call == Call::Keep {
+        std::mem::swap(&mut from.log_sizes, &mut to.log_sizes);
+        std::mem::swap(&mut from.log_vars, &mut to.log_vars);
+        std::mem::swap(&mut from.log_values, &mut to.log_values);
+    }
+    if from.call == Call::TakeBack {
+        from.log_sizes[0] = MOST_LOGGED as u16;
+        from.session.kept = MOST_LOGGED as u32;
+    }
+}
+
+/// A move with pairs of other search variables behind its own that change nothing: 64 of them, or as many as there are.
+fn widened(model: &Case, moved: &[(u16, i32)]) -> Vec<(u16, i32)> {
+    let mut pairs = moved.to_vec();
+    let search = (0..).zip(&*model.numbers).filter(|(_, number)| **number == 0).map(|(variable, _)| variable);
+    let others: Vec<u16> = search.filter(|variable| moved.iter().all(|(named, _)| named != variable)).collect();
+    pairs.extend(others.iter().map(|&variable| (variable, model.stored[usize::from(variable)])));
+    pairs.truncate(MOST_PAIRS);
+    pairs
+}
+
+/// Every call on a graph, each in two versions: one move and the other. A keep and a taking back have a log of 64 such
+/// moves; those of "back 64" have 64 pairs each.
 fn calls_of(graph: &Graph) -> Vec<(&'static str, [Case; 2])> {
     let model = built(&Second, &graph.build);
     let [one, other] = &graph.moves;
     let both = |case: &Case| [case.clone(), case.clone()];
+    let full = |moved: &[(u16, i32)]| {
+        let mut full = model.clone().with_moves(&vec![moved.to_vec(); MOST_LOGGED]);
+        full.session.kept = MOST_LOGGED as u32;
+        full
+    };
     let route = |route| [one, other].map(|moved| trial(&model, moved, &[graph.asked], route));
     let bytes = vec![0; 24 + 4 * model.n + 12 * model.m + 4 * model.e];
     let write = Case { call: Call::Write, bytes: bytes.into(), ..graph.build.clone() };
@@ -111,7 +140,9 @@ fn calls_of(graph: &Graph) -> Vec<(&'static str, [Case; 2])> {
         ("route 1", route(1)),
         ("route 2", route(2)),
         ("route 3", route(3)),
-        ("keep", [one, other].map(|moved| keep(&model, moved))),
+        ("keep", [one, other].map(|moved| keep(&full(moved), moved))),
+        ("back", [one, other].map(|moved| take_back(&full(moved)))),
+        ("back 64", [one, other].map(|moved| take_back(&full(&widened(&model, moved))))),
         ("read", both(&read)),
         ("write", both(&write)),
     ]

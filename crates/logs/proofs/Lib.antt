@@ -1,0 +1,4 @@
+pub mod Slid
+pub mod Laid
+pub mod Noted
+pub mod Good

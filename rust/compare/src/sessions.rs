@@ -1,0 +1,173 @@
+//! Long sessions over one log, as tests of any engine beside the second implementation: many more keeps than the log
+//! holds, takings back among them, and now and then a trial, a refused call or a build anew. Taking back leaves the values
+//! before the move byte for byte, and the log is as it was before it.
+
+use std::collections::VecDeque;
+
+use second::MOST_LOGGED;
+
+use crate::{
+    Call, Case, Difference, Engine, Guarded, Random, Second, Sizes, compare, draw_move, model, seed, shrink, trial_of,
+};
+
+/// How many sessions, and the calls of each.
+const SESSIONS: usize = 80;
+const CALLS: usize = 300;
+
+/// Runs the sessions.
+///
+/// # Panics
+/// If the engine differs from the second implementation, or if a session is not as it must be.
+pub fn long_sessions(engine: &dyn Engine) {
+    let seed = seed();
+    println!("seed {seed}");
+    let mut random = Random::new(seed);
+    let mut tally = Tally::default();
+    for _ in 0..SESSIONS {
+        let mut session = Session::of(engine, draw(&mut random));
+        for call in 0..CALLS {
+            session.turn(&mut random, call);
+        }
+        session.all_back();
+        tally.add(&session.tally);
+    }
+    println!("{tally:?}");
+    let Tally { kept, pushed, taken, spent } = tally;
+    assert!(kept > 10_000 && pushed > 2_000 && taken > 5_000 && spent > 100, "every turn comes often: {tally:?}");
+}
+
+/// A model of some size, with more search variables than a move has pairs at times.
+fn draw(random: &mut Random) -> Case {
+    let sizes = |variables, entries, inputs| Sizes { variables, entries, inputs };
+    let sizes = random.pick(&[sizes(9, 36, 5), sizes(9, 36, 5), sizes(40, 160, 8), sizes(200, 400, 8)]);
+    model(random, sizes)
+}
+
+/// What happened: keeps, keeps that pushed a move out of the log, takings back, and those with nothing left.
+#[derive(Clone, Copy, Debug, Default)]
+struct Tally {
+    kept: usize,
+    pushed: usize,
+    taken: usize,
+    spent: usize,
+}
+
+impl Tally {
+    fn add(&mut self, other: &Tally) {
+        self.kept += other.kept;
+        self.pushed += other.pushed;
+        self.taken += other.taken;
+        self.spent += other.spent;
+    }
+}
+
+/// A session: the model as the calls left it, and the values before each move that can be taken back.
+struct Session<'a> {
+    engine: &'a dyn Engine,
+    model: Case,
+    before: VecDeque<Vec<i32>>,
+    kept: u32,
+    tally: Tally,
+}
+
+impl<'a> Session<'a> {
+    /// The session of a build.
+    fn of(engine: &'a dyn Engine, build: Case) -> Session<'a> {
+        let model = Case { flags: vec![7; build.n].into(), ..build.with_log() };
+        let mut session = Session { engine, model, before: VecDeque::new(), kept: 0, tally: Tally::default() };
+        session.make(Call::Build, 0);
+        session
+    }
+
+    /// One turn; long stretches of keeps and of takings back, and either by turns.
+    fn turn(&mut self, random: &mut Random, call: usize) {
+        let back = match call / 50 {
+            3 => !random.once_in(8),
+            4 => random.once_in(2),
+            _ => random.once_in(8),
+        };
+        match random.below(60) {
+            0 => self.refused(random),
+            1..=4 => self.tried(random),
+            5 if random.once_in(10) => self.built_anew(),
+            _ if back => self.taken_back(),
+            _ => self.kept(random),
+        }
+    }
+
+    /// Makes a call, which gives this number, and leaves in the model what the call leaves.
+    fn make(&mut self, call: Call, number: u32) {
+        self.model.call = call;
+        let differs = |found: Box<Difference>| panic!("{}", shrink(self.engine, &Second, found));
+        let answer = compare(self.engine, &Second, &self.model).unwrap_or_else(differs);
+        assert_eq!(answer.number, number, "{call:?}");
+        Second.answer(&mut self.model);
+    }
+
+    fn kept(&mut self, random: &mut Random) {
+        let before = self.model.stored.to_vec();
+        draw_move(random, &mut self.model);
+        self.model.flags = Guarded::junk(random, self.model.n);
+        self.make(Call::Keep, 0);
+        self.before.push_back(before);
+        if self.before.len() > MOST_LOGGED {
+            self.before.pop_front();
+            self.tally.pushed += 1;
+        }
+        self.kept += 1;
+        self.tally.kept += 1;
+        self.holds();
+    }
+
+    fn taken_back(&mut self) {
+        let Some(before) = self.before.pop_back() else {
+            self.make(Call::TakeBack, 15);
+            self.tally.spent += 1;
+            return;
+        };
+        self.make(Call::TakeBack, 0);
+        assert_eq!(*self.model.stored, *before, "the values before the move");
+        self.kept -= 1;
+        self.tally.taken += 1;
+        self.holds();
+    }
+
+    /// A refused keep logs nothing.
+    fn refused(&mut self, random: &mut Random) {
+        draw_move(random, &mut self.model);
+        self.model.pairs = 1;
+        self.model.move_vars = vec![self.model.n as u16].into();
+        self.model.move_values = vec![0].into();
+        self.model.flags = Guarded::junk(random, self.model.n);
+        self.make(Call::Keep, 10);
+        self.holds();
+    }
+
+    /// A trial is not lent the log.
+    fn tried(&mut self, random: &mut Random) {
+        let tried = trial_of(random, &self.model);
+        assert!(compare(self.engine, &Second, &tried).is_ok_and(|answer| answer.number == 0));
+    }
+
+    /// A build empties the log.
+    fn built_anew(&mut self) {
+        self.make(Call::Build, 0);
+        self.before.clear();
+        self.kept = 0;
+        self.holds();
+        self.make(Call::TakeBack, 15);
+    }
+
+    /// The log holds what can be taken back, and the record what was kept and not taken back.
+    fn holds(&self) {
+        assert_eq!((self.model.logged(), self.model.session.kept), (self.before.len(), self.kept));
+    }
+
+    /// Takes back whatever is left.
+    fn all_back(&mut self) {
+        while !self.before.is_empty() {
+            self.taken_back();
+        }
+        self.taken_back();
+    }
+}
