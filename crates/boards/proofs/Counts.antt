@@ -1,15 +1,15 @@
--- How many departures there are: the list is as long as the windows' departures are many, and counting them up to 2,001 tells what check 4
--- asks, since DEPARTURES is blank only for more than that. Assumes nothing.
+-- How many departures there are: counting them up to 2,001 tells what check 4 asks, since the list is as long as they are many (`list-long`) and
+-- DEPARTURES is blank only for more than that. Assumes nothing.
 use Prim.Native.Nat.{ℕ, suc, _+_, _≤_, _<_, min}
 use native.Mathlib.Nat.{not-suc-le-zero}
 use native.Mathlib.Numerals.{add-one}
 use native.Mathlib.Omega.{arith}
 use mathlib.Core.Bool.{Bool, true, false, cond, not, _&&_, _||_, true≢false}
-use mathlib.Core.List.{List, [], _∷_}
+use mathlib.Core.List.{[], _∷_}
 use mathlib.Core.Path.{_≡_, refl, ap, sym, _∙_}
 use lib.Dec.{leb}
 use lib.IntN.{ℤ, pos, negsuc, natAbs, _+ℤ_, _*ℤ_}
-use lib.Signed.{leZ, ltZ}
+use lib.Signed.{ltZ}
 use lib.ListN.{length}
 use borrow.Author.Tests.{leb-true, leb-false, le-leb, lt-leb, ltb-true, not-true}
 use Rattle.integers.specs.Integers.{eqZ}
@@ -20,25 +20,9 @@ use Rattle.paper.proofs.Those.{joined-grown, joined-le}
 use Rattle.paper.proofs.Least.{below-all}
 use Rattle.paper.proofs.Buffers.{length-below}
 use Rattle.paper.proofs.Windows.{departures-is}
-use Rattle.boards.specs.Board.{Board, insert, inOrder, windowGood, start, end, headway, timesOf, timesBelow, list, numbersGood, fewEnough}
+use Rattle.times.specs.Windows.{Board, windowGood, start, end, headway, timesOf, timesBelow, list, numbersGood, fewEnough}
+use Rattle.times.proofs.Listing.{list-long}
 use Rattle.boards.specs.Counting.{counted}
-
--- ── the list is as long as the times are many ──
-insert-long : (x : ℤ) (ys : List ℤ) → length (insert x ys) ≡ suc (length ys)
-insert-long x [] = refl
-insert-long x (y ∷ ys) = go (leZ x y) (insert-long x ys)
-  where
-    go : (b : Bool) → length (insert x ys) ≡ suc (length ys) → length (cond b (x ∷ y ∷ ys) (y ∷ insert x ys)) ≡ suc (suc (length ys))
-    go true h = refl
-    go false h = ap suc h
-
-inOrder-long : (xs : List ℤ) → length (inOrder xs) ≡ length xs
-inOrder-long [] = refl
-inOrder-long (x ∷ xs) = insert-long x (inOrder xs) ∙ ap suc (inOrder-long xs)
-
-list-long : (b : Board) → length (list b) ≡ length (timesBelow b (b .windows))
-unfolding list
-list-long b = inOrder-long (timesBelow b (b .windows))
 
 -- ── DEPARTURES of a good window ──
 none-blank : (a b c : Bool) → not a ≡ true → not b ≡ true → not c ≡ true → (a || (b || (c || false))) ≡ false

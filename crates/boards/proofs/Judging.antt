@@ -11,7 +11,8 @@ use borrow.Author.Tests.{leb-true}
 use Rattle.paper.specs.Checks.{Verdict, accepted, refused, check, require, leaves}
 use Rattle.paper.proofs.Lists.{each}
 use Rattle.paper.proofs.Verdicts.{check-rest, check-held, require-next, require-stops, require-rest, require-held}
-use Rattle.boards.specs.Board.{Board, list, windowsFit, numbersGood, apart, fewEnough, roomGiven, boardVerdict, answered, boardLeaves, board, left, Passed}
+use Rattle.times.specs.Windows.{Board, list, windowsFit, numbersGood, apart, fewEnough, roomGiven, boardVerdict, Passed}
+use Rattle.boards.specs.Board.{answered, boardLeaves, board, left}
 use Rattle.boards.specs.declared.Listed.{Listed}
 use Rattle.boards.specs.declared.Listed.the-variants.{Accepted, Refused}
 

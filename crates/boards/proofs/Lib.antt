@@ -1,11 +1,4 @@
 pub mod Window
 pub mod Counts
 pub mod Judging
-pub mod Sorted
-pub mod Times
-pub mod Taking
-pub mod Timing
-pub mod Following
-pub mod Writing
-pub mod Listing
 pub mod Outcome

@@ -9,7 +9,8 @@ use lib.Seq.{take-at, drop-at}
 use borrow.Author.Tests.{leb-true}
 use Rattle.paper.specs.Lists.{between, firstFail}
 use Rattle.paper.specs.Checks.{Verdict, accepted, refused, check, require}
-use Rattle.boards.specs.Board.{Board, Left, list, windowsFit, numbersGood, apart, fewEnough, roomGiven, boardVerdict, boardLeaves, board}
+use Rattle.times.specs.Windows.{Board, list, windowsFit, numbersGood, apart, fewEnough, roomGiven, boardVerdict}
+use Rattle.boards.specs.Board.{Left, boardLeaves, board}
 use Rattle.boards.specs.Outcome.{Outcome, refuses, accepts}
 use Rattle.boards.proofs.Judging.{passed}
 

@@ -4,7 +4,8 @@ use mathlib.Core.Bool.{true}
 use mathlib.Core.Path.{_≡_}
 use lib.ListN.{length, take, drop}
 use Rattle.paper.specs.Lists.{between}
-use Rattle.boards.specs.Board.{Board, Left, list, lengthOf, Passed}
+use Rattle.times.specs.Windows.{Board, list, Passed}
+use Rattle.boards.specs.Board.{Left, lengthOf}
 use Rattle.boards.specs.declared.Listed.the-variants.{Accepted, Refused}
 
 -- refused with a number from 1 to 5: the length is 0, and the row is as it was

@@ -2,13 +2,14 @@
 ghost use mathlib.Core.Path.{_≡_};
 ghost use lib.ListN.{length};
 ghost use Prim.Native.Nat.{_≤_};
-ghost use Rattle.boards.specs.Board.{lends, list, board, boardVerdict, answered, left};
+ghost use Rattle.times.specs.Windows.{lends, list, boardVerdict};
+ghost use Rattle.boards.specs.Board.{board, answered, left};
 use crate::Listed;
-use crate::checks::count_departures;
-use crate::checks::first_bad_number;
-use crate::checks::first_overlapping;
-use crate::checks::windows_fit;
-use crate::list::write_list;
+use crate::trips::count_departures;
+use lists::write_list;
+use overlaps::first_bad_number;
+use overlaps::first_overlapping;
+use overlaps::windows_fit;
 
 // The answer that refuses with a number and a place.
 fn refused(number: u32, place: usize) -> Listed

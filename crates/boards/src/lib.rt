@@ -1,7 +1,6 @@
-// Departure boards: from the windows of one trip all its departures in time order. Stands on what the engine states and on nothing below it.
+// Departure boards: from the windows of one trip all its departures in time order. Stands on what the engine states, and below it
+// only on which number is blank.
 mod boards;
-mod checks;
-mod list;
 mod trips;
 
 pub use boards::list_departures;

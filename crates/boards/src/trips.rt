@@ -1,16 +1,18 @@
-// How many departures a window has, by the engine: DEPARTURES is the one row of a model of the window.
+// How many departures there are, by the engine: of one window, and of all.
 ghost use mathlib.Core.List.{[], _∷_};
 ghost use mathlib.Core.Path.{_≡_};
+ghost use Prim.Native.Nat.{_≤_, min};
 ghost use lib.IntN.{pos};
+ghost use lib.ListN.{length};
 ghost use Rattle.paper.specs.Formula.{strict};
+ghost use Rattle.times.specs.Windows.{lends, timesBelow, Numbered};
+ghost use Rattle.boards.specs.Counting.{counted};
+use blanks::BLANK;
 use engine::build_new;
 
-// No value.
-pub const BLANK: i32 = -2147483648;
-
-// DEPARTURES of a window: variables 0 to 2 are its numbers, and row 0 makes variable 3. Build refuses a blank number and leaves the row as it
+// DEPARTURES of a window, the one row of a model of it: variables 0 to 2 are its numbers, and row 0 makes variable 3. Build refuses a blank number and leaves the row as it
 // was: then there is no value.
-pub fn departures_of(start: i32, end: i32, headway: i32) -> i32
+fn departures_of(start: i32, end: i32, headway: i32) -> i32
     ensures { λ r. ⌜ r ≡ strict 8 (pos 0) [] (start ∷ end ∷ headway ∷ []) ⌝ }
 {
     let starts = [start, end, headway, 0];
@@ -38,4 +40,33 @@ pub fn departures_of(start: i32, end: i32, headway: i32) -> i32
         &mut reader_places,
     );
     stored[3]
+}
+
+// The count with a window's departures, and 2,001 for any more than 2,000. DEPARTURES is blank only for more than that.
+fn counted_on(count: usize, departures: i32) -> usize
+    requires { ⌜ count ≤ 2001 ⌝ }
+    ensures { λ r. ⌜ r ≡ counted count departures ⌝ }
+{
+    if departures < 0 {
+        return 2001;
+    }
+    let sum = count + departures as usize;
+    if 2001 < sum {
+        return 2001;
+    }
+    sum
+}
+
+// How many departures there are, and 2,001 for any more than 2,000.
+pub fn count_departures(windows: usize, starts: &[i32], ends: &[i32], headways: &[i32]) -> usize
+    requires { ⌜ (windows ≤ length (now starts)) × (windows ≤ length (now ends)) × (windows ≤ length (now headways)) ⌝ }
+    requires { ⌜ Numbered (lends windows (now starts) (now ends) (now headways) []) ⌝ }
+    ensures { λ r. ⌜ r ≡ min (length (timesBelow (lends windows (now (starts .entry)) (now (ends .entry)) (now (headways .entry)) []) windows)) 2001 ⌝ }
+{
+    let mut count = 0;
+    for i in 0..windows {
+        let departures = departures_of(starts[i], ends[i], headways[i]);
+        count = counted_on(count, departures);
+    }
+    count
 }

@@ -11,11 +11,12 @@ use Rattle.integers.specs.Integers.{up, dn, eqZ, away}
 use Rattle.integers.proofs.Order.{le-yes, le-no, yes-le, eqZ-yes}
 use Rattle.integers.proofs.Parts.{from-parts, sum-bal, sum-away, one-part}
 use Rattle.paper.specs.Lists.{tally}
-use Rattle.paper.proofs.Lists.{clash}
 use Rattle.paper.specs.Formula.{blank, lesser, greater}
+use Rattle.paper.proofs.Lists.{clash}
+use Rattle.outcomes.specs.Outcomes.{Small}
+use Rattle.outcomes.specs.declared.Outcome.{Outcome}
 use Rattle.figures.specs.Figures.{results, oneOf, sum, totals}
-use Rattle.figures.specs.Adding.{single, plus, Small, Room}
-use Rattle.figures.specs.declared.Outcome.{Outcome}
+use Rattle.figures.specs.Adding.{single, plus, Room}
 use Rattle.figures.specs.declared.Totals.{Totals}
 
 -- ── sums ──

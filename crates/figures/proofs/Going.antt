@@ -13,9 +13,10 @@ use Rattle.paper.specs.Lists.{nat, over}
 use Rattle.paper.specs.Checks.{Move}
 use Rattle.paper.specs.Calls.{Model}
 use Rattle.paper.proofs.Buffers.{over-length, over-at, over-over, over-of}
-use Rattle.figures.specs.Figures.{outcome, Batch, unpacked, outcomes, having, totals, tallies}
-use Rattle.figures.specs.Adding.{single, plus, Small, Room}
-use Rattle.figures.specs.declared.Outcome.{Outcome}
+use Rattle.outcomes.specs.Outcomes.{outcome, Small}
+use Rattle.outcomes.specs.declared.Outcome.{Outcome}
+use Rattle.figures.specs.Figures.{Batch, unpacked, outcomes, having, totals, tallies}
+use Rattle.figures.specs.Adding.{single, plus, Room}
 use Rattle.figures.specs.declared.Totals.{Totals}
 use Rattle.figures.proofs.Adding.{plus-assoc, none-plus, plus-none, totals-next, Bounded, bounded-none, bounded-room, bounded-next}
 

@@ -1,5 +1,4 @@
 pub mod Adding
-pub mod Trying
 pub mod Going
 pub mod Called
 pub mod Order

@@ -11,10 +11,11 @@ use lib.Seq.{take-at, drop-at, take-all}
 use Rattle.paper.specs.Checks.{Move}
 use Rattle.paper.specs.Calls.{Model}
 use Rattle.paper.proofs.Buffers.{over-same}
-use Rattle.figures.specs.Figures.{outcome, unpacked, movesOf, outcomes, having, totals, tallies}
+use Rattle.outcomes.specs.Outcomes.{outcome}
+use Rattle.outcomes.specs.declared.Outcome.{Outcome}
+use Rattle.figures.specs.Figures.{unpacked, movesOf, outcomes, having, totals, tallies}
 use Rattle.figures.specs.Adding.{single, plus}
 use Rattle.figures.specs.Laws.{Rearranged, same, behind, swapped, next, joined, packed, OrderChangesNothing}
-use Rattle.figures.specs.declared.Outcome.{Outcome}
 use Rattle.figures.specs.declared.Totals.{Totals}
 use Rattle.figures.specs.declared.Counted.{Counted}
 use Rattle.figures.specs.declared.Counted.the-variants.{Accepted, Refused}

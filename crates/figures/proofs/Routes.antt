@@ -12,7 +12,7 @@ use Rattle.paper.specs.Calls.{Session, numberOf, answered, Model, Tried, TrialL
 use Rattle.paper.specs.Demands.{modelOf, ownModel, after}
 use Rattle.paper.proofs.Outcomes.{trial-judged}
 use Rattle.paper.proofs.Demands.{demand3}
-use Rattle.figures.specs.Figures.{tried, asking}
+use Rattle.outcomes.specs.Outcomes.{tried, asking}
 use Rattle.figures.specs.Laws.{SameNumber, SameResult}
 
 -- ── any trial ──

@@ -1,12 +1,12 @@
 -- What a move adds to the figures, and what leaves room for it. Assumes nothing.
-use Prim.Native.Nat.{ℕ, _+_, _≤_, _<_}
+use Prim.Native.Nat.{ℕ, _+_, _<_}
 use mathlib.Core.Bool.{cond, _&&_}
 use lib.IntN.{ℤ, pos, _+ℤ_}
 use lib.Dec.{eqb}
 use Rattle.integers.specs.Integers.{eqZ, away}
 use Rattle.paper.specs.Formula.{blank, lesser, greater}
+use Rattle.outcomes.specs.declared.Outcome.{Outcome}
 use Rattle.figures.specs.Figures.{oneOf}
-use Rattle.figures.specs.declared.Outcome.{Outcome}
 use Rattle.figures.specs.declared.Totals.{Totals}
 
 -- the result of an accepted move, blank for a refused one
@@ -36,14 +36,6 @@ plus a b = record {
   second = a .second + b .second;
   third = a .third + b .third;
 }
-
--- a number that the engine gives, a result of 32 bits, and evaluations of at most all variables
-pub record Small (o : Outcome) : Type 0 where
-  pub number : o .number < 14
-  pub result : away (o .result) ≤ 2147483648
-  pub first : o .first ≤ 4096
-  pub second : o .second ≤ 4096
-  pub third : o .third ≤ 4096
 
 -- there is room for the figures of one more move
 pub record Room (t : Totals) : Type 0 where

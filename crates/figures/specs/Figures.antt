@@ -1,53 +1,21 @@
--- A batch of candidate moves in figures, as one function from what the call is lent to what it leaves. Assumes nothing.
+-- A batch of candidate moves in figures, as one function from what the call is lent to what it leaves, over the
+-- outcome of each move (`outcomes/specs/Outcomes`). Assumes nothing.
 use Prim.Native.Nat.{ℕ}
 use mathlib.Core.Bool.{Bool, cond, _&&_}
 use mathlib.Core.List.{List, [], _∷_, map}
 use lib.IntN.{ℤ, pos, _+ℤ_}
 use lib.Dec.{eqb, leb}
-use lib.ListN.{length, getD, take, drop, replicate}
+use lib.ListN.{length, take, drop}
 use Rattle.integers.specs.Integers.{eqZ}
 use Rattle.paper.specs.Lists.{total, tally, over}
 use Rattle.paper.specs.Formula.{blank, lesser, greater}
 use Rattle.paper.specs.Checks.{Move}
-use Rattle.paper.specs.Calls.{Model, TrialLeft, trial, numberOf, evaluationsOf}
-use Rattle.paper.specs.Calls as calls
-use Rattle.figures.specs.declared.Tried.{Tried}
-use Rattle.figures.specs.declared.Outcome.{Outcome}
+use Rattle.paper.specs.Calls.{Model}
+use Rattle.outcomes.specs.Outcomes.{outcome}
+use Rattle.outcomes.specs.declared.Outcome.{Outcome}
 use Rattle.figures.specs.declared.Totals.{Totals}
 use Rattle.figures.specs.declared.Counted.{Counted}
 use Rattle.figures.specs.declared.Counted.the-variants.{Accepted, Refused}
-
--- ── one move ──
-module _ (w : Model) (asked : ℕ) where
-  -- as it is asked of the engine: one variable, a route, and rows of its own
-  abbrev pub asking : ℕ → Move → calls.Tried
-  asking route mv = record {
-    move = mv;
-    asked = 1;
-    askedVars = asked ∷ [];
-    route = route;
-    results = pos 0 ∷ [];
-    trial = replicate 4096 (pos 0);
-    flags = replicate 4096 0;
-  }
-
-  -- what the engine then leaves, over a record that nobody else holds
-  abbrev pub left : ℕ → Move → TrialLeft
-  left route mv = trial (record { kept = 0; evaluations = 0 }) w (asking route mv)
-
-  -- its number, 0 if accepted, its evaluations, and the value of the asked variable
-  unfoldable pub tried : ℕ → Move → Tried
-  tried route mv = let x = left route mv in record { number = numberOf (x .answer); evaluations = evaluationsOf (x .answer); result = getD (x .results) 0 (pos 0) }
-
-  -- the number and the result by route 1, and the evaluations by each route
-  abbrev pub outcome : Move → Outcome
-  outcome mv = let x = tried 1 mv in record {
-    number = x .number;
-    result = x .result;
-    first = x .evaluations;
-    second = tried 2 mv .evaluations;
-    third = tried 3 mv .evaluations;
-  }
 
 -- ── the moves as they are lent: how many there are, the number of pairs of each, and all pairs one move after another ──
 pub record Batch : Type 0 where

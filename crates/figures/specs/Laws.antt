@@ -10,7 +10,8 @@ use Rattle.paper.specs.Lists.{between}
 use Rattle.paper.specs.Checks.{Move}
 use Rattle.paper.specs.Calls.{numberOf, BuildLent, build, Model}
 use Rattle.paper.specs.Demands.{Call, modelOf, ownModel, after, Proper, renewed}
-use Rattle.figures.specs.Figures.{tried, Batch, figures}
+use Rattle.outcomes.specs.Outcomes.{tried}
+use Rattle.figures.specs.Figures.{Batch, figures}
 
 -- ── the order of the moves ──
 -- one list is the other in another order

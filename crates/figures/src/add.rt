@@ -6,11 +6,12 @@ ghost use lib.IntN.{pos, _+ℤ_};
 ghost use Rattle.integers.specs.Integers.{eqZ, away};
 ghost use Rattle.paper.specs.Formula.{blank, lesser, greater};
 ghost use Rattle.figures.specs.Figures.{oneOf};
-ghost use Rattle.figures.specs.Adding.{Small, Room, given, plus, single};
-use crate::Outcome;
+ghost use Rattle.outcomes.specs.Outcomes.{Small};
+ghost use Rattle.figures.specs.Adding.{Room, given, plus, single};
 use crate::Totals;
-use formulas::blanks::BLANK;
-use formulas::blanks::is_blank;
+use blanks::BLANK;
+use blanks::is_blank;
+use outcomes::Outcome;
 
 // The greater of two results if max, else the lesser; a blank one is left out.
 fn one_of(max: bool, a: i32, b: i32) -> i32

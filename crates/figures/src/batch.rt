@@ -9,9 +9,9 @@ ghost use Rattle.figures.specs.Figures.{outcomes, totals, tallies, batch
 use crate::Counted;
 use crate::Totals;
 use crate::add::add;
-use crate::one::try_move;
-use formulas::blanks::BLANK;
+use blanks::BLANK;
 use integers::wide;
+use outcomes::try_move;
 
 // The figures of no move.
 fn none() -> Totals

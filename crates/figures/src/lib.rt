@@ -1,26 +1,9 @@
 // A batch of candidate moves in figures: each move is tried on the same stored values by each of the three routes, and none is kept. Uses what the engine
-// states, and of `formulas` only which number is blank.
+// states, and of `blanks` only which number is blank.
 mod add;
 mod batch;
-mod one;
 
 pub use batch::figures;
-
-// What comes of a move by one route: the number that the engine answers, its evaluations, and the value of the asked variable.
-struct Tried {
-    number: u32,
-    evaluations: u32,
-    result: i32,
-}
-
-// What comes of a move: its number and its result by route 1, and the evaluations by each route.
-struct Outcome {
-    number: u32,
-    result: i32,
-    first: u32,
-    second: u32,
-    third: u32,
-}
 
 // The figures of the moves together: blank results; least, greatest and sum of those that have a value; evaluations by each route.
 pub struct Totals {

@@ -24,9 +24,9 @@ use Rattle.paper.proofs.Count.{size-same}
 use Rattle.paper.proofs.Lawful.{lawful}
 use Rattle.paper.proofs.Fresh.{unnamed}
 use Rattle.tables.proofs.Shapes.{all-first}
+use Rattle.copies.proofs.Put.{not-named, low-named, moved-at}
 use Rattle.routes.specs.Routed.{Begun, Named, Routed}
 use Rattle.fills.specs.Accepted.{Keeping}
-use Rattle.moves.proofs.Put.{not-named, low-named, moved-at}
 use Rattle.fills.proofs.Settled.{idle-new, all-new}
 
 module _ (t : Tables) (ord : List ℕ) (x : Index) (stored : List ℤ) (c : Kept) (k : Keeping t ord x stored c) where

@@ -11,11 +11,11 @@ use Rattle.paper.specs.Lists.{all, nat}
 use Rattle.paper.specs.Tables.{Tables, Index, indexIn, isMade}
 use Rattle.paper.specs.Checks.{accepted}
 use Rattle.paper.specs.Calls.{evaluationsOf, BuildLent, buildVerdict, Tried, TrialLeft, askedList, trialLeaves, Kept, keptCount, keptStored, keptFlags}
+use Rattle.copies.specs.Put.{PairsFit}
 use Rattle.order.specs.Formed.{bare}
 use Rattle.order.specs.Numbering.{Numbered}
 use Rattle.readers.specs.Index.{Indexed}
 use Rattle.routes.specs.Rows.{Along}
-use Rattle.moves.specs.Put.{PairsFit}
 
 -- a build that is accepted, and the numbers found
 pub record Buildable (l : BuildLent) (state : List ℕ) : Type 0 where

@@ -2,8 +2,8 @@
 ghost use Rattle.paper.specs.Tables.{lent, indexIn};
 ghost use Rattle.judges.specs.Lent.{toKeep};
 ghost use Rattle.fills.specs.Accepted.{Keeping, KeepFilled};
-use moves::begin_route;
-use moves::copy_values;
+use copies::begin_route;
+use copies::copy_values;
 use routes::input_to_output;
 use steps::evaluations;
 

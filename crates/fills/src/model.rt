@@ -5,7 +5,7 @@ ghost use Rattle.paper.specs.Checks.{accepted};
 ghost use Rattle.paper.specs.Calls.{buildLeaves};
 ghost use Rattle.judges.specs.Lent.{toBuild};
 ghost use Rattle.fills.specs.Accepted.{Buildable};
-use moves::copy_values;
+use copies::copy_values;
 use order::write_numbers;
 use order::write_order;
 use readers::write_readers;

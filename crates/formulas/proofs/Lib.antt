@@ -1,6 +1,2 @@
-pub mod Reading
-pub mod Steps
-pub mod Skipping
-pub mod Pairs
-pub mod Times
+pub mod Sums
 pub mod Rows

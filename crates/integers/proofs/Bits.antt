@@ -6,7 +6,8 @@ use Prim.Native.Nat.{ℕ, suc, _-_, _^_, _≤_, _<_}
 use native.Mathlib.Omega.{arith}
 use lib.Dec.{T, leb, eqb}
 use lib.IntN.{ℤ, pos, negsuc, subℕ, _+ℤ_, _-ℤ_, natAbs}
-use lib.Signed.{ltZ, leZ, nonNeg}
+use lib.Signed.{ltZ, leZ, nonNeg, mag}
+use borrow.Author.Needs.{sfits-of}
 use borrow.Author.Tests.{ltb-true, le-ltb, eq-eqb, ne-eqb}
 use mir.Syntax.{Width, w64}
 use mir.Val.{Fits, SFits, hbits, bits, toZ, ofZ}
@@ -35,6 +36,10 @@ module _ (w : Width) (a b : ℤ) {t : Bool} (f : SFits w a) (g : SFits w b) wher
 
   pub le-read : leZ (toZ w (ofZ w a)) (toZ w (ofZ w b)) ≡ t → leZ a b ≡ t
   le-read e = subst (λ (x : ℤ). leZ x b ≡ t) (toZ-ofZ f) (subst (λ (y : ℤ). leZ (toZ w (ofZ w a)) y ≡ t) (toZ-ofZ g) e)
+
+-- what a callee gave, read back from its bits
+pub told : (w : Width) {r e : ℤ} → mag r < 2 ^ hbits w → r ≡ e → toZ w (ofZ w r) ≡ e
+told w k e = toZ-ofZ (sfits-of k) ∙ e
 
 -- ── a number that is not negative, as an unsigned one ──
 pub nat-of : (z : ℤ) → ltZ z (pos 0) ≡ false → T (nonNeg z)

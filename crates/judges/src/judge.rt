@@ -5,10 +5,10 @@ ghost use Rattle.judges.specs.Judged.{BuildJudged};
 use crate::fits::build_fits;
 use moves::first_bad_value;
 use order::find_numbers;
+use sound::table_checks;
 use tables::Answer;
 use tables::makers;
 use tables::refused;
-use tables::table_checks;
 
 // Checks 1 to 7 of build; if all are passed, `state` holds two more than each variable's number.
 pub fn judge_build(

@@ -9,10 +9,10 @@ ghost use Rattle.judges.specs.Judged.{ModelJudged};
 use moves::first_bad_value;
 use order::numbered_right;
 use readers::readers_right;
+use sound::table_checks;
 use tables::Answer;
 use tables::makers;
 use tables::refused;
-use tables::table_checks;
 
 // Checks 2 to 5, 8 and then 7; if all are passed, `by` holds the makers.
 pub fn model_checks(

@@ -1,3 +1,2 @@
 pub mod OverMakers
 pub mod Judged
-pub mod Put

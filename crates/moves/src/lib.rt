@@ -1,15 +1,10 @@
 // Moves. What is checked of them and of the values that they change: check 7, check 1 of a move, and checks 10 to 12 one by one and as a chain.
 // Made variables are told from search variables by the row of makers. Check 13 is `tables::first_unknown` over the asked variables.
-// What is done with an accepted one: a trial row is begun with it, asked values are copied out, and it is counted.
-mod begin;
-mod copy;
+// An accepted one is counted.
 mod kept;
 mod pair;
 mod value;
 
-pub use begin::begin_route;
-pub use copy::copy_asked;
-pub use copy::copy_values;
 pub use kept::kept_once_less;
 pub use kept::kept_once_more;
 pub use pair::first_blank;

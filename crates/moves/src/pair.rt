@@ -7,10 +7,10 @@ ghost use Rattle.paper.specs.Lists.{firstFail};
 ghost use Rattle.paper.specs.Checks.{accepted, moveFits, movable, hasValue, moveChecks};
 ghost use Rattle.tables.specs.Answers.{answerOf};
 ghost use Rattle.moves.specs.Moves.{OfMakers, moveOf};
-use formulas::blanks::is_blank;
+use blanks::is_blank;
 use integers::wide;
+use repeats::first_again;
 use tables::Answer;
-use tables::first_again;
 use tables::refused;
 
 // There are at most 64 pairs, and all of them are lent.

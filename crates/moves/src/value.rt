@@ -7,7 +7,7 @@ ghost use Rattle.paper.specs.Lists.{firstFail};
 ghost use Rattle.paper.specs.Tables.{valuesIn};
 ghost use Rattle.paper.specs.Checks.{startGood, storedGood};
 ghost use Rattle.moves.specs.Moves.{OfMakers, valueGood};
-use formulas::blanks::is_blank;
+use blanks::is_blank;
 
 // A variable may have the value: a search variable any but blank; a made one any, and 0 where a model is built.
 fn value_good(building: bool, made: bool, value: i32) -> bool

@@ -1,8 +1,8 @@
 // What is printed of an answer, of the record, and of the rows that a call leaves.
 use crate::fields::least;
 use crate::fields::wide;
+use blanks::is_blank;
 use engine::Session;
-use formulas::blanks::is_blank;
 use libc::STDOUT_FILENO;
 use tables::Answer;
 

@@ -19,10 +19,11 @@ use Rattle.paper.proofs.Lists.{clash, all-in}
 use Rattle.paper.proofs.Lawful.{Lawful, looked-in, formula-same, looked-same}
 use Rattle.paper.proofs.Numbers.{lower-input, number-right}
 use Rattle.paper.proofs.Fresh.{afresh-alike, afresh-equation}
+use Rattle.steps.specs.Asking.{waiting}
+use Rattle.marks.specs.Reach.{Closed, Either, Reached}
+use Rattle.marks.proofs.Reach.{reached-still, reaching-start, reaching-step, reached-own}
 use Rattle.routes.specs.Rows.{valuesOf}
-use Rattle.routes.specs.Reach.{Closed, Either, Reached}
-use Rattle.routes.specs.Work.{byRow, workNet, waiting, depth, worksOut, Workable, workedOut, asksOut, Ready, Asked, Asking}
-use Rattle.routes.proofs.Reach.{reached-still, reaching-start, reaching-step, reached-own}
+use Rattle.routes.specs.Work.{byRow, workNet, depth, worksOut, Workable, workedOut, asksOut, Ready, Asked, Asking}
 
 module _ (t : Tables) (work : List ℕ) where
   -- ── the model of what is to be worked out ──

@@ -15,10 +15,11 @@ use Rattle.paper.specs.Formula.{looked}
 use Rattle.paper.specs.Net.{Values}
 use Rattle.paper.specs.Tables.{Tables}
 use Rattle.paper.proofs.Scan.{next}
+use Rattle.steps.specs.Asking.{chosenPlace, nextPlace}
+use Rattle.marks.proofs.Members.{at-place}
+use Rattle.marks.proofs.Reach.{reaching-skip}
 use Rattle.routes.specs.Rows.{valuesOf, RowFits, rowGives}
-use Rattle.routes.specs.Work.{depth, Workable, workedOut, asksOut, Ready, Asked, Asking, AllAsked, worksOut, chosenPlace, nextPlace, askedFrom}
-use Rattle.routes.proofs.Walks.{at-place}
-use Rattle.routes.proofs.Reach.{reaching-skip}
+use Rattle.routes.specs.Work.{depth, Workable, workedOut, asksOut, Ready, Asked, Asking, AllAsked, worksOut, askedFrom}
 use Rattle.routes.proofs.Places.{asked-start, asked-end, asked-next}
 use Rattle.routes.proofs.Asks.{row-asks, asks-below, asked-value, asking-start, asking-same, asking-ready, asking-step, asked-row, busy-below}
 

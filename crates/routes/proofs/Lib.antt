@@ -4,11 +4,9 @@ pub mod Read
 pub mod Flags
 pub mod Spreads
 pub mod Sweeps
-pub mod Reach
 pub mod Places
 pub mod Asks
 pub mod InTurn
 pub mod Planned
-pub mod Readers
 pub mod Marks
 pub mod Guided

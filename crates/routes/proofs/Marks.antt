@@ -4,12 +4,12 @@ use Prim.Native.Nat.{ℕ, zero, suc, _+_, _≤_, _<_}
 use native.Mathlib.Nat.{lt-irrefl}
 use native.Mathlib.Omega.{arith}
 use mathlib.Core.Bool.{Bool, true, false, cond, not, false≢true}
-use mathlib.Core.List.{List, [], _∷_, map, List·Memᴰ, List·Memᴰ·not-nil, List·Memᴰ·cases-cons}
+use mathlib.Core.List.{List, [], map, List·Memᴰ, List·Memᴰ·not-nil}
 use mathlib.Core.Logic.{_⊎_, inl, inr}
 use mathlib.Core.Path.{_≡_, refl, ap, ap₂, sym, _∙_, subst}
 use lib.Dec.{eqb, ltb}
 use lib.IntN.{ℤ, pos}
-use lib.ListN.{length, take, drop, length-take, drop-of-length-le, List·getD-eq-default}
+use lib.ListN.{length, take, length-take, List·getD-eq-default}
 use lib.Seq.{getD-take, length-take-le}
 use borrow.Author.Tests.{ltb-true, ltb-false, eqb-true}
 use Rattle.integers.specs.Integers.{eqZ}
@@ -18,7 +18,6 @@ use Rattle.paper.specs.Lists.{any, nat}
 use Rattle.paper.specs.Net.{Values, runs, able, differs, marked}
 use Rattle.paper.specs.Tables.{Tables, net, isMade, inputsOf, valuesIn}
 use Rattle.paper.proofs.Lists.{clash, any-in, any-has}
-use Rattle.paper.proofs.Scan.{next}
 use Rattle.paper.proofs.Sizes.{sized-facts}
 use Rattle.paper.proofs.Accept.{sound-row, inputs-below}
 use Rattle.paper.proofs.Lawful.{lawful}
@@ -27,50 +26,14 @@ use Rattle.paper.proofs.Those.{those-in}
 use Rattle.order.specs.Numbering.{Clean}
 use Rattle.order.proofs.Visits.{left-none}
 use Rattle.readers.specs.Index.{Indexed}
+use Rattle.marks.specs.Sections.{section, madeFrom}
+use Rattle.marks.specs.Reach.{Follows, Either, Reaching}
+use Rattle.marks.specs.Readers.{variables, readFrom, Upward, Markable, Movable, Moved, none}
+use Rattle.marks.proofs.Members.{mapped}
+use Rattle.marks.proofs.Readers.{able-fewer}
 use Rattle.routes.specs.Rows.{Ended, valuesOf}
-use Rattle.routes.specs.Sections.{section, madeFrom}
-use Rattle.routes.specs.Reach.{Closed, Follows, Either, Reached, Reaching}
 use Rattle.routes.specs.Routed.{Begun, Named}
-use Rattle.routes.specs.Readers.{variables, readFrom, Upward, Markable, Movable, Moved, none}
-use Rattle.routes.proofs.Walks.{at-place}
-use Rattle.routes.proofs.Read.{mapped, input-made, section-reads, section-input, input-section}
-use Rattle.routes.proofs.Reach.{reaching-start, reaching-step, reaching-skip}
-use Rattle.routes.proofs.Readers.{able-fewer}
-
--- ── one named variable after another ──
--- those from place i on are left
-abbrev pub Passed : (ℕ → List ℕ) → List ℕ → List ℤ → List ℤ → List ℕ → ℕ → List ℕ → Type 0
-Passed to moves stored trial before i marks = Reaching (λ u. true) to (Moved moves stored trial) (λ u. List·Memᴰ u (drop i moves)) before marks
-
-module _ (to : ℕ → List ℕ) (moves : List ℕ) (stored trial : List ℤ) (before : List ℕ) where
-  pub passed-start : Closed (λ u. true) to before → Passed to moves stored trial before 0 before
-  passed-start c =
-      reaching-skip (λ u. true) to (Moved moves stored trial) (Moved moves stored trial) (λ u. List·Memᴰ u moves) before before
-      (reaching-start (λ u. true) to (Moved moves stored trial) before c) (λ u g h. h .0)
-
-  module _ (i : ℕ) (marks : List ℕ) (P : Passed to moves stored trial before i marks) where
-    module _ (l : i < length moves) (v : ℕ) (q : v ≡ nat moves i) (b : Bool) (e : b ≡ differs (valuesOf trial) (valuesOf stored) v) where
-      first : (u : ℕ) → List·Memᴰ u (drop i moves) → (u ≡ v) ⊎ List·Memᴰ u (drop (i + 1) moves)
-      first u m = List·Memᴰ·cases-cons (subst (List·Memᴰ u) (next moves i 0 l ∙ ap (_∷ drop (i + 1) moves) (sym q)) m)
-
-      pub passed-yes : b ≡ true → (after : List ℕ) → Reached (λ u. true) to v marks after → Passed to moves stored trial before (i + 1) after
-      passed-yes h after r =
-          reaching-step (λ u. true) to (Moved moves stored trial) (λ u. List·Memᴰ u (drop i moves)) (λ u. List·Memᴰ u (drop (i + 1) moves)) before marks P v after
-          (subst (λ z. List·Memᴰ z moves) (sym q) (at-place moves i l), sym e ∙ h) first r
-
-      pub passed-no : b ≡ false → Passed to moves stored trial before (i + 1) marks
-      passed-no h =
-          reaching-skip (λ u. true) to (Moved moves stored trial) (λ u. List·Memᴰ u (drop i moves)) (λ u. List·Memᴰ u (drop (i + 1) moves)) before marks P
-          (λ u g m. go u g (first u m))
-        where
-          go : (u : ℕ) → Moved moves stored trial u → (u ≡ v) ⊎ List·Memᴰ u (drop (i + 1) moves) → List·Memᴰ u (drop (i + 1) moves)
-          go u g (inl w) = clash (g .1) (ap (differs (valuesOf trial) (valuesOf stored)) w ∙ sym e ∙ h)
-          go u g (inr m) = m
-
-    pub passed-end : length moves ≤ i → Reaching (λ u. true) to (Moved moves stored trial) none before marks
-    passed-end h =
-        reaching-skip (λ u. true) to (Moved moves stored trial) (λ u. List·Memᴰ u (drop i moves)) none before marks P
-        (λ u g m. List·Memᴰ·not-nil (subst (List·Memᴰ u) (drop-of-length-le moves {i = i} h) m))
+use Rattle.routes.proofs.Read.{input-made, section-reads, section-input, input-section}
 
 -- ── the index of the tables ──
 module _ (t : Tables) (d : Ended t) (starts places : List ℕ) (x : Indexed t starts places) where

@@ -14,7 +14,8 @@ use Rattle.paper.specs.Formula.{looked, chosen, elementLooks}
 use Rattle.paper.specs.Net.{Values}
 use Rattle.paper.proofs.Lists.{eqb-self}
 use Rattle.paper.proofs.Scan.{next, part-length}
-use Rattle.routes.specs.Work.{chosenPlace, nextPlace, entries, askedFrom}
+use Rattle.steps.specs.Asking.{chosenPlace, nextPlace}
+use Rattle.routes.specs.Work.{entries, askedFrom}
 
 -- ── the entries from a place on ──
 entries-next : (vars : List ℕ) (i last : ℕ) → i < last → last ≤ length vars → entries vars i last ≡ nat vars i ∷ entries vars (i + 1) last

@@ -15,13 +15,9 @@ use Rattle.paper.proofs.Lists.{eqb-self, any-in, any-has}
 use Rattle.paper.proofs.Those.{those-in, those-has}
 use Rattle.paper.proofs.Accept.{row-inputs, made-row, made-by}
 use Rattle.readers.specs.Index.{Indexed}
-use Rattle.routes.proofs.Walks.{at-place}
+use Rattle.marks.proofs.Members.{at-place, mapped}
 
 -- ── what a list is mapped to ──
-pub mapped : {A B : Type 0} (f : A → B) (xs : List A) {x : A} → List·Memᴰ x xs → List·Memᴰ (f x) (map f xs)
-mapped f (y ∷ ys) (List·Memᴰ·head q) = List·Memᴰ·head (ap f q)
-mapped f (y ∷ ys) (List·Memᴰ·tail m) = List·Memᴰ·tail (mapped f ys m)
-
 mapped-from : {A B : Type 0} (f : A → B) (xs : List A) {y : B} → List·Memᴰ y (map f xs) → (x : A) × List·Memᴰ x xs × (y ≡ f x)
 mapped-from f [] m = absurd (List·Memᴰ·not-nil m)
 mapped-from f (x ∷ xs) (List·Memᴰ·head q) = (x, List·Memᴰ·head refl, q)

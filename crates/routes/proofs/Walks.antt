@@ -1,9 +1,9 @@
 -- A walk along the order: each place holds a row of the tables, each row stands somewhere, and a row stands after those that make its inputs.
 -- Assumes nothing.
-use Prim.Native.Nat.{ℕ, zero, suc, _≤_, _<_}
+use Prim.Native.Nat.{ℕ, suc, _≤_, _<_}
 use native.Mathlib.Omega.{arith}
 use mathlib.Core.Bool.{Bool, true, false}
-use mathlib.Core.List.{List, [], _∷_, map, List·Memᴰ, List·Memᴰ·head, List·Memᴰ·tail}
+use mathlib.Core.List.{List, _∷_, map, List·Memᴰ, List·Memᴰ·head, List·Memᴰ·tail}
 use mathlib.Core.Path.{_≡_, refl, ap, sym, _∙_, subst}
 use lib.Dec.{ltb}
 use lib.IntN.{ℤ, pos}
@@ -20,15 +20,11 @@ use Rattle.paper.proofs.Accept.{sound-row, row-of, made-row, made-by, row-input
 use Rattle.paper.proofs.Lawful.{lawful}
 use Rattle.paper.proofs.Numbers.{number-right}
 use Rattle.paper.proofs.Order.{order-in, order-has, order-length, inputs-done}
-use Rattle.formulas.specs.Row.{inputs}
+use Rattle.inputs.specs.Inputs.{inputs}
+use Rattle.marks.proofs.Members.{at-place}
 use Rattle.routes.specs.Rows.{Along, RowFits, rowGives}
 
 -- ── rows and places ──
-pub at-place : (l : List ℕ) (j : ℕ) → j < length l → List·Memᴰ (nat l j) l
-at-place [] j h = absurd (omega arith)
-at-place (x ∷ xs) zero h = List·Memᴰ·head refl
-at-place (x ∷ xs) (suc j) h = List·Memᴰ·tail (at-place xs j (omega arith))
-
 pub place-of : (l : List ℕ) {x : ℕ} → List·Memᴰ x l → (j : ℕ) × (j < length l) × (nat l j ≡ x)
 place-of (y ∷ ys) (List·Memᴰ·head q) = (0, omega arith, sym q)
 place-of (y ∷ ys) (List·Memᴰ·tail m) = let (j, h, e) = place-of ys m in (suc j, omega arith, e)

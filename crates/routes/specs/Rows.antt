@@ -10,7 +10,8 @@ use Rattle.paper.specs.Formula.{formula}
 use Rattle.paper.specs.Net.{able}
 use Rattle.paper.specs.Tables.{Tables, inputsOf, order}
 use Rattle.paper.specs.Checks.{Sound}
-use Rattle.formulas.specs.Row.{partOf, inputs, PartFits}
+use Rattle.inputs.specs.Inputs.{partOf, inputs}
+use Rattle.formulas.specs.Row.{PartFits}
 pub use Rattle.steps.specs.Changes.{valuesOf}
 
 -- the tables are sound, and their chains of inputs end

@@ -1,18 +1,18 @@
 -- Routes 2 and 3 as one walk over a row of work: 1 plus the row that makes a variable where the route works it out, and 0 where its value
 -- stands already. Assumes nothing.
-use Prim.Native.Nat.{ℕ, zero, suc, _+_, _-_, _≤_, _<_}
-use mathlib.Core.Bool.{Bool, true, false, not, cond}
+use Prim.Native.Nat.{ℕ, zero, suc, _-_, _≤_, _<_}
+use mathlib.Core.Bool.{Bool, true, false, cond}
 use mathlib.Core.List.{List, [], map, List·Memᴰ}
 use mathlib.Core.Path.{_≡_}
 use lib.Dec.{eqb, ltb}
-use lib.IntN.{ℤ, pos, negsuc}
+use lib.IntN.{ℤ, pos}
 use lib.ListN.{length, getD, take, drop}
 use Rattle.paper.specs.Lists.{all, nat}
 use Rattle.paper.specs.Formula.{formula, looked, elementLooks}
 use Rattle.paper.specs.Net.{Values, Net, able, number, afresh}
 use Rattle.paper.specs.Tables.{Tables, lent, part}
+use Rattle.marks.specs.Reach.{Closed, Reached, Reaching}
 use Rattle.routes.specs.Rows.{valuesOf, RowFits}
-use Rattle.routes.specs.Reach.{Closed, Reached, Reaching}
 
 -- the rows and entries that the walk reads of the tables
 abbrev pub rows : List ℕ → List ℤ → List ℕ → List ℕ → List ℕ → List ℤ → Tables
@@ -32,10 +32,6 @@ workNet t work = record {
   form = λ v f. byRow (pos 0) (λ r. formula (nat (t .kinds) r) (getD (t .params) r (pos 0)) (part t r (t .coefs)) (map f (part t r (t .vars)))) (nat work v);
   asks = λ v f. byRow [] (λ r. looked (nat (t .kinds) r) f (part t r (t .vars))) (nat work v);
 }
-
--- there is work to do for v that is not done yet
-abbrev pub waiting : List ℕ → List ℕ → ℕ → Bool
-waiting work flags v = cond (eqb (nat work v) 0) false (not (eqb (nat flags v) 1))
 
 module _ (t : Tables) (work : List ℕ) where
   -- the topological number of v in it, which falls from call to call
@@ -91,15 +87,6 @@ module _ (t : Tables) (work : List ℕ) where
   AllAsked asked = Asking (λ u. List·Memᴰ u asked) (λ u. ⊥)
 
 -- ── which places a row asks ──
--- of ELEMENT the chosen candidate after the index, if there is one
-abbrev pub chosenPlace : ℤ → ℕ → ℕ → ℕ
-chosenPlace (pos k) first last = cond (ltb (first + 1 + k) last) (first + 1 + k) last
-chosenPlace (negsuc k) first last = last
-
--- the place after place i, whose variable has the value x
-unfoldable pub nextPlace : ℕ → ℤ → ℕ → ℕ → ℕ → ℕ
-nextPlace kind x i first last = cond (eqb kind 4) (cond (eqb i first) (chosenPlace x first last) last) (i + 1)
-
 -- the variables from place i on
 abbrev pub entries : List ℕ → ℕ → ℕ → List ℕ
 entries vars i last = take (last - i) (drop i vars)

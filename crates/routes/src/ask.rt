@@ -5,41 +5,11 @@ ghost use Prim.Native.Nat.{suc, _<_};
 ghost use lib.Dec.{ltb};
 ghost use lib.ListN.{length};
 ghost use Rattle.paper.specs.Lists.{all, nat};
-ghost use Rattle.routes.specs.Work.{rows, Workable, waiting, workedOut, Ready, Asked, AllAsked, nextPlace};
+ghost use Rattle.routes.specs.Work.{rows, Workable, workedOut, Ready, Asked, AllAsked};
 use crate::row::row_value;
 use integers::wide;
-
-// The place that a row asks after place i, whose variable has the value x: the next one, but of ELEMENT the chosen candidate's after the index.
-fn next_place(kind: u16, x: i32, i: usize, first: usize, last: usize) -> usize
-    requires { ⌜ (i < last) × (first < last) × (last < 131072) ⌝ }
-    ensures { λ r. ⌜ r ≡ nextPlace kind x i first last ⌝ }
-{
-    if kind != 4 {
-        return i + 1;
-    }
-    if i != first {
-        return last;
-    }
-    if x < 0 {
-        return last;
-    }
-    let place = first + 1 + x as usize;
-    if place < last {
-        return place;
-    }
-    last
-}
-
-// There is work to do for variable v that is not done yet.
-fn waits(v: usize, work: &[u16], flags: &[u8]) -> bool
-    requires { ⌜ (v < length (now work)) × (v < length (now flags)) ⌝ }
-    ensures { λ r. ⌜ r ≡ waiting (now (work .entry)) (now (flags .entry)) v ⌝ }
-{
-    if work[v] == 0 {
-        return false;
-    }
-    flags[v] != 1
-}
+use steps::next_place;
+use steps::waits;
 
 // The value of variable v: as it stands, or, where there is work to do for v that is not done yet, the value of its row.
 fn value_of_variable(

@@ -1,7 +1,6 @@
 // Values worked out: of one row, of all rows along the order, and by each of the three routes.
 mod afresh;
 mod ask;
-mod mark;
 mod output;
 mod row;
 mod sweep;

@@ -13,7 +13,7 @@ ghost use Rattle.routes.specs.Routed.{Begun, Named, Routed};
 ghost use Rattle.routes.specs.Work.{rows, Ready, AllAsked};
 ghost use Rattle.routes.specs.Plan.{workOf};
 use crate::ask::ask_all;
-use crate::mark::mark_moved;
+use marks::mark_moved;
 use steps::plan_work;
 
 // Asks every variable of a list, where the marked of the made variables are to be worked out.

@@ -3,6 +3,5 @@ pub mod Whole
 pub mod Parts
 pub mod Shapes
 pub mod Numbers
-pub mod Seen
 pub mod Made
 pub mod Judged

@@ -1,4 +1,3 @@
 pub mod Rows
 pub mod Makers
 pub mod Answers
-pub mod Given

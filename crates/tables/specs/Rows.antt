@@ -1,13 +1,12 @@
 -- The lent rows that one check reads, as tables: what it does not read is left empty. So its contract is the paper's own test, which is the
--- same over the whole tables. Then checks 4 and 5 as the code takes them, coefficients and parameter each, and one place at a time. Assumes nothing.
+-- same over the whole tables. Then check 4 as the code takes it, coefficients and parameter each. Assumes nothing.
 use Prim.Native.Nat.{ℕ}
-use mathlib.Core.Bool.{Bool, false, cond, _||_}
+use mathlib.Core.Bool.{Bool, cond, _||_}
 use mathlib.Core.List.{List, []}
 use lib.IntN.{ℤ, pos, natAbs}
-use lib.Dec.{eqb, leb, ltb}
-use lib.ListN.{length, getD, take}
+use lib.Dec.{eqb, leb}
 use Rattle.integers.specs.Integers.{eqZ}
-use Rattle.paper.specs.Lists.{any, all, nat}
+use Rattle.paper.specs.Lists.{all}
 use Rattle.paper.specs.Tables.{Tables, lent}
 
 abbrev pub kindRows : List ℕ → Tables
@@ -18,9 +17,6 @@ shapeRows n e kinds makes firsts counts vars = lent n 0 e kinds makes [] firsts 
 
 abbrev pub numberRows : List ℕ → List ℤ → List ℕ → List ℕ → List ℤ → Tables
 numberRows kinds params firsts counts coefs = lent 0 0 0 kinds [] params firsts counts [] coefs
-
-abbrev pub makesRows : List ℕ → Tables
-makesRows makes = lent 0 0 0 [] makes [] [] [] [] []
 
 -- ── check 4, coefficients and parameter each ──
 abbrev pub allSmall : List ℤ → Bool
@@ -34,8 +30,3 @@ coefsGood kind part = cond (eqb kind 1) (allSmall part) (allOne part)
 
 abbrev pub paramGood : ℕ → ℤ → Bool
 paramGood kind param = cond (eqb kind 1 || eqb kind 6) (leb (natAbs param) 1000000000) (eqZ param (pos 0))
-
--- ── check 5, place by place ──
--- an earlier place names what place i names: its mark says so, if it has one
-abbrev pub namedBefore : List Bool → List ℕ → ℕ → Bool
-namedBefore seen vars i = let v = nat vars i in cond (ltb v (length seen)) (getD seen v false) (any (eqb v) (take i vars))

@@ -1,21 +1,16 @@
-// What is checked before anything is worked out: check 1 of the tables, checks 2 to 5 one by one and as a chain, the maker of each variable,
-// and the input variables of a row. A check answers the least place that fails, or its bound if none does. Nothing here trusts its caller.
-mod again;
-mod chain;
+// What is checked before anything is worked out: check 1 of the tables, checks 2 to 4 one by one, the maker of each variable, and the answer of a
+// call. A check answers the least place that fails, or its bound if none does. Nothing here trusts its caller.
 mod kind;
 mod maker;
 mod number;
-mod part;
 mod shape;
 mod size;
 
-pub use again::first_again;
-pub use chain::refused;
-pub use chain::table_checks;
+ghost use mathlib.Core.Path.{_≡_};
+ghost use Prim.Native.Nat.{_<_};
 pub use kind::first_bad_kind;
 pub use maker::makers;
 pub use number::first_bad_number;
-pub use part::inputs_of_row;
 pub use shape::first_bad_shape;
 pub use shape::first_unknown;
 pub use shape::total_of;
@@ -25,4 +20,15 @@ pub use size::sizes;
 pub enum Answer {
     Accepted { evaluations: u32 },
     Refused { number: u32, place: u32 },
+}
+
+// The answer that refuses with a number and a place.
+pub fn refused(number: u32, place: usize) -> Answer
+    requires { ⌜ place < 65536 ⌝ }
+    ensures { λ r. ⌜ r ≡ Answer.Refused number place ⌝ }
+{
+    Answer::Refused {
+        number: number,
+        place: place as u32,
+    }
 }

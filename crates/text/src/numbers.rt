@@ -5,7 +5,7 @@ ghost use Rattle.text.specs.Buffer.{Put};
 ghost use Rattle.text.specs.Lines as Lines;
 use crate::buffer::put;
 use crate::buffer::put_all;
-use formulas::blanks::is_blank;
+use blanks::is_blank;
 use integers::bits32;
 
 // Puts the decimal digits of a number.

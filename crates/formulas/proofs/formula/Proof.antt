@@ -10,11 +10,11 @@ use lib.Signed.{mag}
 use mir.Syntax.{w32}
 use mir.Val.{hbits, toZ, ofZ}
 use mir.Facts.{toZ-ofZ}
+use Rattle.integers.proofs.Bits.{told}
 use Rattle.paper.specs.Formula.{formula}
 use Rattle.paper.proofs.Least.{between-low, between-high}
 use Rattle.formulas.specs.declared.Worked.the-variants.{Value}
 use Rattle.formulas.specs.Row.{worked}
-use Rattle.formulas.proofs.Reading.{told}
 use Rattle.formulas.proofs.Rows.{some-inputs, few-inputs, two-inputs, three-inputs}
 use Rattle.formulas.proofs.formula.Statement.{statement}
 use Rattle.formulas.proofs.formula.Tie as tie

@@ -8,12 +8,13 @@ use borrow.Author.Needs.{needs}
 use lib.IntN.{ℤ}
 use mir.Syntax.{w32}
 use mir.Facts.{toZ-ofZ}
+use Rattle.integers.proofs.Bits.{told}
 use Rattle.paper.specs.Lists.{between}
 use Rattle.paper.specs.Formula.{formula}
+use Rattle.inputs.specs.Inputs.{partOf, inputs}
 use Rattle.formulas.specs.declared.Worked.{Worked}
 use Rattle.formulas.specs.declared.Worked.the-variants.{Value, NoFormula}
-use Rattle.formulas.specs.Row.{partOf, inputs, worked}
-use Rattle.formulas.proofs.Reading.{told}
+use Rattle.formulas.specs.Row.{worked}
 use Rattle.formulas.proofs.Rows.{part-row}
 use Rattle.formulas.proofs.formula_value.Statement.{statement}
 use Rattle.formulas.proofs.formula_value.Tie as tie

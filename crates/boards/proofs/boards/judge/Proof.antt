@@ -9,7 +9,7 @@ use borrow.Author.Tests.{not-true, not-false, le-leb, lt-leb}
 use Rattle.paper.specs.Checks.{accepted, refused}
 use Rattle.paper.proofs.Least.{firstFail-before}
 use Rattle.paper.proofs.Verdicts.{check-stops, check-passes, require-stops, require-next}
-use Rattle.boards.specs.Board.{Board, lends, list, windowsFit, numbersGood, apart, fewEnough, roomGiven, boardVerdict}
+use Rattle.times.specs.Windows.{Board, lends, list, windowsFit, numbersGood, apart, fewEnough, roomGiven, boardVerdict}
 use Rattle.boards.specs.declared.Listed.the-variants.{Accepted}
 use Rattle.boards.proofs.Counts.{too-many, not-many, all-counted}
 use Rattle.boards.proofs.Judging.{Lent, lent-of, fromThree, fromFour, fromFive, stops-1, past-1, answers}

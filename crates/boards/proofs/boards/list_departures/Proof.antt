@@ -3,7 +3,8 @@ use mathlib.Core.Path.{_≡_, refl, sym, ap, _∙_}
 use lib.ListN.{length}
 use borrow.Author.Needs.{needs}
 use Rattle.paper.specs.Checks.{accepted, refused}
-use Rattle.boards.specs.Board.{Board, lends, list, boardVerdict, answered}
+use Rattle.times.specs.Windows.{Board, lends, list, boardVerdict}
+use Rattle.boards.specs.Board.{answered}
 use Rattle.boards.proofs.Judging.{passed, accepted-is, refused-is, board-meets}
 use Rattle.boards.proofs.boards.list_departures.Statement.{statement}
 use Rattle.boards.proofs.boards.list_departures.Tie as tie

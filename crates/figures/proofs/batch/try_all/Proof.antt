@@ -4,9 +4,10 @@ use native.Mathlib.Omega.{arith}
 use mathlib.Core.Path.{ap₂, _∙_}
 use borrow.Author.Needs.{needs}
 use Rattle.paper.specs.Calls.{Model}
-use Rattle.judges.specs.Lent.{toModel}
 use Rattle.moves.specs.Moves.{moveOf}
-use Rattle.figures.specs.Figures.{outcome, Batch, batchOf}
+use Rattle.judges.specs.Lent.{toModel}
+use Rattle.outcomes.specs.Outcomes.{outcome}
+use Rattle.figures.specs.Figures.{Batch, batchOf}
 use Rattle.figures.proofs.Going.{cleared-long, Going, going-start, going-next, going-long, going-few, going-room, going-end}
 use Rattle.figures.proofs.batch.try_all.Statement.{statement}
 use Rattle.figures.proofs.batch.try_all.Tie as tie

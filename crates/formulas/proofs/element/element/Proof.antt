@@ -15,10 +15,10 @@ use mir.Val.{SFits, toZ, ofZ}
 use mir.Facts.{toZ-ofZ, sfits-lit, fits-natAbs}
 use Rattle.integers.proofs.Order.{natAbs-away}
 use Rattle.integers.proofs.Ranges.{fits-away}
-use Rattle.integers.proofs.Bits.{lt-read, nat-of}
+use Rattle.integers.proofs.Bits.{lt-read, nat-of, told}
 use Rattle.paper.specs.Formula.{blank, inputAt, element}
-use Rattle.formulas.specs.Row.{inputs}
-use Rattle.formulas.proofs.Reading.{told, inputs-length}
+use Rattle.inputs.specs.Inputs.{inputs}
+use Rattle.inputs.proofs.Reading.{inputs-length}
 use Rattle.formulas.proofs.element.element.Statement.{statement}
 use Rattle.formulas.proofs.element.element.Tie as tie
 

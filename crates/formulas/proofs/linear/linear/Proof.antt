@@ -9,11 +9,10 @@ use mir.Syntax.{w16, w32, w64}
 use mir.Val.{SFits, toZ, ofZ}
 use mir.Facts.{toZ-ofZ}
 use Rattle.integers.specs.Integers.{away, eqZ}
-use Rattle.integers.proofs.Bits.{cast-fits, cast-is}
+use Rattle.integers.proofs.Bits.{cast-fits, cast-is, told}
 use Rattle.paper.specs.Formula.{blank, fit, inputAt}
-use Rattle.formulas.specs.Row.{inputs}
-use Rattle.formulas.proofs.Reading.{told}
-use Rattle.formulas.proofs.Steps.{Summed, summed-none, summed-blank, summed-next, summed-all, term-room}
+use Rattle.inputs.specs.Inputs.{inputs}
+use Rattle.formulas.proofs.Sums.{Summed, summed-none, summed-blank, summed-next, summed-all, term-room}
 use Rattle.formulas.proofs.linear.linear.Statement.{statement}
 use Rattle.formulas.proofs.linear.linear.Tie as tie
 

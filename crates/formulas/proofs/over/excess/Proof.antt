@@ -4,9 +4,8 @@ use borrow.Author.Needs.{needs}
 use lib.IntN.{_-ℤ_}
 use mir.Syntax.{w32, w64}
 use mir.Facts.{toZ-ofZ}
-use Rattle.integers.proofs.Bits.{lt-read}
+use Rattle.integers.proofs.Bits.{lt-read, told}
 use Rattle.paper.specs.Formula.{fit}
-use Rattle.formulas.proofs.Reading.{told}
 use Rattle.formulas.proofs.over.excess.Statement.{statement}
 use Rattle.formulas.proofs.over.excess.Tie as tie
 

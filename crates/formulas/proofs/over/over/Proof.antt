@@ -2,9 +2,9 @@
 use mathlib.Core.Path.{_≡_}
 use borrow.Author.Needs.{needs}
 use mir.Syntax.{w32}
+use Rattle.integers.proofs.Bits.{told}
 use Rattle.paper.specs.Formula.{inputAt, excess}
-use Rattle.formulas.specs.Row.{inputs}
-use Rattle.formulas.proofs.Reading.{told}
+use Rattle.inputs.specs.Inputs.{inputs}
 use Rattle.formulas.proofs.over.over.Statement.{statement}
 use Rattle.formulas.proofs.over.over.Tie as tie
 

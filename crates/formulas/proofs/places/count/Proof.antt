@@ -5,8 +5,8 @@ use mir.Syntax.{w32}
 use mir.Val.{toZ, ofZ}
 use mir.Facts.{toZ-ofZ}
 use Rattle.integers.specs.Integers.{eqZ}
-use Rattle.formulas.proofs.Reading.{told}
-use Rattle.formulas.proofs.Steps.{tally-most}
+use Rattle.integers.proofs.Bits.{told}
+use Rattle.inputs.proofs.Counting.{tally-most}
 use Rattle.formulas.proofs.places.count.Statement.{statement}
 use Rattle.formulas.proofs.places.count.Tie as tie
 

@@ -3,7 +3,7 @@ use native.Mathlib.Omega.{arith}
 use borrow.Author.Needs.{needs}
 use mir.Syntax.{w32}
 use mir.Facts.{toZ-pos}
-use Rattle.formulas.proofs.Reading.{told}
+use Rattle.integers.proofs.Bits.{told}
 use Rattle.formulas.proofs.places.counted.Statement.{statement}
 use Rattle.formulas.proofs.places.counted.Tie as tie
 

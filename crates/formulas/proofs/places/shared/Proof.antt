@@ -3,10 +3,10 @@ use native.Mathlib.Omega.{arith}
 use borrow.Author.Needs.{needs}
 use lib.Dec.{leb}
 use mir.Syntax.{w32}
+use Rattle.integers.proofs.Bits.{told}
 use Rattle.paper.specs.Formula.{places}
-use Rattle.formulas.specs.Row.{inputs}
-use Rattle.formulas.proofs.Reading.{told}
-use Rattle.formulas.proofs.Steps.{tally-most}
+use Rattle.inputs.specs.Inputs.{inputs}
+use Rattle.inputs.proofs.Counting.{tally-most}
 use Rattle.formulas.proofs.places.shared.Statement.{statement}
 use Rattle.formulas.proofs.places.shared.Tie as tie
 

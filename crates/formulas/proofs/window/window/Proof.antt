@@ -3,9 +3,10 @@ use mathlib.Core.Bool.{cond}
 use mathlib.Core.Path.{_≡_}
 use borrow.Author.Needs.{needs}
 use mir.Syntax.{w32}
+use Rattle.integers.proofs.Bits.{told}
 use Rattle.paper.specs.Formula.{departures, last}
-use Rattle.formulas.specs.Row.{inputs, ofThree}
-use Rattle.formulas.proofs.Reading.{told}
+use Rattle.inputs.specs.Inputs.{inputs}
+use Rattle.formulas.specs.Row.{ofThree}
 use Rattle.formulas.proofs.window.window.Statement.{statement}
 use Rattle.formulas.proofs.window.window.Tie as tie
 

@@ -10,8 +10,8 @@ use lib.ListN.{length, length-set}
 use borrow.Author.Needs.{needs}
 use borrow.Author.Tests.{not-true, not-false}
 use mir.Syntax.{w32}
+use Rattle.integers.proofs.Bits.{told}
 use Rattle.paper.specs.Tables.{Tables}
-use Rattle.formulas.proofs.Reading.{told}
 use Rattle.routes.specs.Rows.{RowFits}
 use Rattle.routes.specs.Work.{rows, depth, Ready, Asked}
 use Rattle.routes.proofs.Asks.{waits-work, asked-still, asked-value}
@@ -25,8 +25,8 @@ use Rattle.routes.proofs.ask.value_of_variable.Reads as value-of-variab
 use Rattle.routes.proofs.ask.value_of_variable.Kinds as value-of-variable-kinds
 use Rattle.routes.proofs.ask.+value_of_row+value_of_variable.Lts-value_of_variable as value-of-variable-lts
 use Rattle.integers.proofs.wide.Reads as wide-reads
-use Rattle.routes.proofs.ask.next_place.Reads as next-place-reads
-use Rattle.routes.proofs.ask.waits.Reads as waits-reads
+use Rattle.steps.proofs.next_place.Reads as next-place-reads
+use Rattle.steps.proofs.waits.Reads as waits-reads
 use Rattle.routes.proofs.row.row_value.Reads as row-value-reads
 use Rattle.routes.proofs.ask.+value_of_row+value_of_variable.{statement}
 use Rattle.routes.proofs.ask.+value_of_row+value_of_variable.Tie.{close}

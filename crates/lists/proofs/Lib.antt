@@ -1,0 +1,4 @@
+pub mod Taking
+pub mod Timing
+pub mod Following
+pub mod Writing

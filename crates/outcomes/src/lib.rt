@@ -1,0 +1,214 @@
+// What comes of one move: it is tried on the stored values by each of the three routes, and not kept.
+ghost use mathlib.Core.Path.{_≡_};
+ghost use Prim.Native.Nat.{_≤_, _<_};
+ghost use Rattle.integers.specs.Integers.{away};
+ghost use Rattle.paper.specs.Calls.{numberOf, evaluationsOf};
+ghost use Rattle.judges.specs.Lent.{toModel};
+ghost use Rattle.moves.specs.Moves.{moveOf};
+ghost use Rattle.engine.specs.Left.{answerIn};
+ghost use Rattle.outcomes.specs.Outcomes.{tried, outcome, Small};
+use engine::Session;
+use tables::Answer;
+
+// What comes of a move by one route: the number that the engine answers, its evaluations, and the value of the asked variable.
+pub struct Tried {
+    pub number: u32,
+    pub evaluations: u32,
+    pub result: i32,
+}
+
+// What comes of a move: its number and its result by route 1, and the evaluations by each route.
+pub struct Outcome {
+    pub number: u32,
+    pub result: i32,
+    pub first: u32,
+    pub second: u32,
+    pub third: u32,
+}
+
+// The number of an answer, 0 if the call was accepted.
+fn number_of(answer: Answer) -> u32
+    ensures { λ r. ⌜ r ≡ numberOf (answerIn answer) ⌝ }
+{
+    match answer {
+        Answer::Accepted { .. } => 0,
+        Answer::Refused { number, .. } => number,
+    }
+}
+
+// The evaluations of an answer, 0 if the call was refused.
+fn evaluations_of(answer: Answer) -> u32
+    ensures { λ r. ⌜ r ≡ evaluationsOf (answerIn answer) ⌝ }
+{
+    match answer {
+        Answer::Accepted { evaluations } => evaluations,
+        Answer::Refused { .. } => 0,
+    }
+}
+
+// Tries a move by a route, with one variable asked, over a record and rows of its own.
+fn try_by(
+    n: usize,
+    m: usize,
+    e: usize,
+    kinds: &[u16],
+    makes: &[u16],
+    params: &[i32],
+    firsts: &[u16],
+    counts: &[u16],
+    vars: &[u16],
+    coefs: &[i16],
+    numbers: &[u16],
+    order: &[u16],
+    stored: &[i32],
+    reader_starts: &[u16],
+    reader_places: &[u16],
+    pairs: usize,
+    move_vars: &[u16],
+    move_values: &[i32],
+    asked: u16,
+    route: u32,
+) -> Tried
+    ensures { λ r. ⌜ (r ≡ tried (toModel n m e (now (kinds .entry)) (now (makes .entry)) (now (params .entry)) (now (firsts .entry)) (now (counts .entry)) (now (vars .entry)) (now (coefs .entry)) (now (numbers .entry)) (now (order .entry)) (now (stored .entry)) (now («reader_starts» .entry)) (now («reader_places» .entry))) asked route (moveOf pairs (now («move_vars» .entry)) (now («move_values» .entry)))) × (r .number < 14) × (r .evaluations ≤ 4096) × (away (r .result) ≤ 2147483648) ⌝ }
+{
+    let session = Session {
+        kept: 0,
+        evaluations: 0,
+    };
+    let asked_vars = [asked; 1];
+    let mut results = [0i32; 1];
+    let mut trial = [0i32; 4096];
+    let mut flags = [0u8; 4096];
+    let done = engine::trial_core(
+        session,
+        n,
+        m,
+        e,
+        kinds,
+        makes,
+        params,
+        firsts,
+        counts,
+        vars,
+        coefs,
+        numbers,
+        order,
+        stored,
+        reader_starts,
+        reader_places,
+        pairs,
+        move_vars,
+        move_values,
+        1,
+        &asked_vars,
+        route,
+        &mut results,
+        &mut trial,
+        &mut flags,
+    );
+    let answer = done.answer;
+    Tried {
+        number: number_of(answer),
+        evaluations: evaluations_of(answer),
+        result: results[0],
+    }
+}
+
+// Tries a move by each route; the number and the result are those of the first.
+pub fn try_move(
+    n: usize,
+    m: usize,
+    e: usize,
+    kinds: &[u16],
+    makes: &[u16],
+    params: &[i32],
+    firsts: &[u16],
+    counts: &[u16],
+    vars: &[u16],
+    coefs: &[i16],
+    numbers: &[u16],
+    order: &[u16],
+    stored: &[i32],
+    reader_starts: &[u16],
+    reader_places: &[u16],
+    pairs: usize,
+    move_vars: &[u16],
+    move_values: &[i32],
+    asked: u16,
+) -> Outcome
+    ensures { λ r. ⌜ (r ≡ outcome (toModel n m e (now (kinds .entry)) (now (makes .entry)) (now (params .entry)) (now (firsts .entry)) (now (counts .entry)) (now (vars .entry)) (now (coefs .entry)) (now (numbers .entry)) (now (order .entry)) (now (stored .entry)) (now («reader_starts» .entry)) (now («reader_places» .entry))) asked (moveOf pairs (now («move_vars» .entry)) (now («move_values» .entry)))) × Small r ⌝ }
+{
+    let first = try_by(
+        n,
+        m,
+        e,
+        kinds,
+        makes,
+        params,
+        firsts,
+        counts,
+        vars,
+        coefs,
+        numbers,
+        order,
+        stored,
+        reader_starts,
+        reader_places,
+        pairs,
+        move_vars,
+        move_values,
+        asked,
+        1,
+    );
+    let second = try_by(
+        n,
+        m,
+        e,
+        kinds,
+        makes,
+        params,
+        firsts,
+        counts,
+        vars,
+        coefs,
+        numbers,
+        order,
+        stored,
+        reader_starts,
+        reader_places,
+        pairs,
+        move_vars,
+        move_values,
+        asked,
+        2,
+    );
+    let third = try_by(
+        n,
+        m,
+        e,
+        kinds,
+        makes,
+        params,
+        firsts,
+        counts,
+        vars,
+        coefs,
+        numbers,
+        order,
+        stored,
+        reader_starts,
+        reader_places,
+        pairs,
+        move_vars,
+        move_values,
+        asked,
+        3,
+    );
+    Outcome {
+        number: first.number,
+        result: first.result,
+        first: first.evaluations,
+        second: second.evaluations,
+        third: third.evaluations,
+    }
+}
