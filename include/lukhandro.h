@@ -25,7 +25,11 @@
  *                                                    how many pairs each has (0 to 64), the oldest first
  *   log_vars, log_values                   4,096     the pairs of the log: variable, and its value before the move; those
  *                                          each      of move k, from 0, stand from place 64 k on
- *   bytes                                            a model file: 24 + 4n + 12m + 4e bytes, little-endian
+ *   bytes                                            a model file: 24 + 4n + 12m + 4e bytes, little-endian; for salvage
+ *                                                    a damaged one, of any length
+ *   file                                             the file saved of it; 131,096 bytes are room for any
+ *   list                                             what was not saved: rows of the damaged file, ascending, and then
+ *                                                    variables, ascending; m + n places are room for any, and 8,192
  *
  * Parameters stand in groups: record and counts, tables, what build fills, a move, what is asked, what a trial fills,
  * the log. A parameter that joins a group comes at its end, as the index of readers does behind stored; the log came
@@ -60,8 +64,9 @@
  *     lukhandro_trial by route 1, and
  *     lukhandro_keep, _take_back,
  *     _read and _write                         128 KiB or less
- * These figures were measured, in steps of 16 KiB, on an x86-64 machine; no proof states them. The tests send
- * these models through every call on a stack of 2 MiB: a thread that calls should have as much.
+ * These figures were measured, in steps of 16 KiB, on an x86-64 machine; no proof states them. lukhandro_salvage, which
+ * holds the tables of the damaged file and those saved, is not measured yet. The tests send these models through every
+ * call on a stack of 2 MiB: a thread that calls should have as much.
  */
 #ifndef LUKHANDRO_H
 #define LUKHANDRO_H
@@ -97,6 +102,14 @@ typedef struct {
     uint32_t place;  /* 0 if accepted */
     uint32_t n, m, e; /* 0 if refused */
 } lukhandro_read_outcome;
+
+typedef struct {
+    uint32_t number; /* 0 accepted, else the refusal */
+    uint32_t place;  /* 0 if accepted */
+    size_t length;   /* bytes of the saved file; this and the next two 0 if refused */
+    size_t rows;     /* rows dropped, the front of the list */
+    size_t values;   /* variables whose start value is missing or reset, which stand behind the rows */
+} lukhandro_salvage_outcome;
 
 /* Fills numbers, order, stored and the readers from tables and start values, and empties the log. Refusals 1 to 7. */
 lukhandro_outcome lukhandro_build(
@@ -174,6 +187,21 @@ lukhandro_outcome lukhandro_write(
     const uint16_t *counts, size_t counts_length, const uint16_t *vars, size_t vars_length,
     const int16_t *coefs, size_t coefs_length,
     uint8_t *bytes, size_t bytes_length);
+
+/* Saves what is whole and good in a damaged model file: fills the front of file with a model file that read and build
+ * accept, and the front of list with what was not saved. Of the header only its version and its counts are looked at, and
+ * everything is placed by these counts; bytes beyond are dropped.
+ *   A row is kept, in the order of the file, if it and its entries are whole in the file, it would pass checks 2 to 4 on
+ *   its own with its first entry as given, no kept row makes its variable already, and the kept rows have together at
+ *   most 16,384 entries. Of the rows kept, those that make a variable which depends on itself, or on one that does, are
+ *   dropped; the parts of the others then follow one another.
+ *   A start value that is missing or cut, blank, or not 0 at a variable that such a row makes, becomes 0.
+ * A file that read and build accept comes back the same, with nothing listed. Refusal 14: fewer than 24 bytes, place how
+ * many; another version than 1, place 0; n, m or e outside its bound, place 2, 4 or 6. Then 1, place 0: file or list
+ * shorter than what goes into it. */
+lukhandro_salvage_outcome lukhandro_salvage(
+    const uint8_t *bytes, size_t bytes_length, uint8_t *file, size_t file_length,
+    uint16_t *list, size_t list_length);
 
 #ifdef __cplusplus
 }

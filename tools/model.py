@@ -78,8 +78,9 @@ def suits(kind, count):
     return 1 <= count <= 256
 
 
-def refusal(starts, lines, entries):
-    n, m, e = len(starts), len(lines), len(entries)
+def unsound(n, lines, entries):
+    """Checks 2 to 4."""
+    m, e = len(lines), len(entries)
     for r, line in enumerate(lines):
         if not 1 <= line[0] <= 9:
             return 2, r
@@ -97,6 +98,13 @@ def refusal(starts, lines, entries):
             return 4, r
         if abs(param) > 1000000000 if kind in (LINEAR, COUNT) else param != 0:
             return 4, r
+    return None
+
+
+def refusal(starts, lines, entries):
+    n, bad = len(starts), unsound(len(starts), lines, entries)
+    if bad:
+        return bad
     seen = set()
     for r, line in enumerate(lines):
         if line[1] in seen:

@@ -9,10 +9,14 @@ use Rattle.paper.specs.Calls.{Session, Answer, numberOf, placeOf, evaluationsOf
 use Rattle.paper.specs.File.{counted}
 use Rattle.files.specs.declared.Reading.{Reading}
 use Rattle.files.specs.declared.Reading.the-variants as reading
+use Rattle.salvage.specs.Salvage as salvage
+use Rattle.salvage.specs.declared.Salvaged.{Salvaged}
+use Rattle.salvage.specs.declared.Salvaged.the-variants as salvaged
 use Rattle.engine.specs.Left.{recordIn}
 use Rattle.engine.specs.declared.Session as code-session
 use Rattle.capi.specs.declared.Outcome.{Outcome}
 use Rattle.capi.specs.declared.ReadOutcome.{ReadOutcome}
+use Rattle.capi.specs.declared.SalvageOutcome.{SalvageOutcome}
 
 -- an answer as C takes it: the paper's number, place and evaluations
 abbrev pub inNumbers : Answer → Outcome
@@ -55,6 +59,14 @@ readOut left = (inNumbers (answered (left .0) 0), left .1)
 abbrev pub readInNumbers : Reading → ReadOutcome
 readInNumbers (reading.Accepted n m e) = record { number = 0; place = 0; n = n; m = m; e = e }
 readInNumbers (reading.Refused number place) = record { number = number; place = place; n = 0; m = 0; e = 0 }
+
+-- salvage: five numbers for what it answers, and the two buffers
+abbrev pub salvageInNumbers : Salvaged → SalvageOutcome
+salvageInNumbers (salvaged.Accepted length rows values) = record { number = 0; place = 0; length = length; rows = rows; values = values }
+salvageInNumbers (salvaged.Refused number place) = record { number = number; place = place; length = 0; rows = 0; values = 0 }
+
+abbrev pub salvagedOut : salvage.Left → SalvageOutcome × (List ℕ × List ℕ)
+salvagedOut left = (salvageInNumbers (left .answer), (left .file, left .list))
 
 -- the counts of an answer fit 32 bits
 pub record Small (told : Reading) : Type 0 where

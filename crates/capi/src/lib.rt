@@ -3,6 +3,7 @@ mod answers;
 mod build;
 mod file;
 mod keep;
+mod saving;
 mod take_back;
 mod trial;
 
@@ -10,6 +11,7 @@ pub use build::lukhandro_build;
 pub use file::lukhandro_read;
 pub use file::lukhandro_write;
 pub use keep::lukhandro_keep;
+pub use saving::lukhandro_salvage;
 pub use take_back::lukhandro_take_back;
 pub use trial::lukhandro_trial;
 
@@ -29,4 +31,15 @@ pub struct ReadOutcome {
     pub n: u32,
     pub m: u32,
     pub e: u32,
+}
+
+// What salvaging a file answers: 0 and place 0 if accepted, and then how long the saved file is, and how many rows dropped and how many start
+// values missing or reset the list has.
+#[repr(C)]
+pub struct SalvageOutcome {
+    pub number: u32,
+    pub place: u32,
+    pub length: usize,
+    pub rows: usize,
+    pub values: usize,
 }

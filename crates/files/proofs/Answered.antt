@@ -1,18 +1,21 @@
--- A call that reads, by the answer to the header: the counts that an accepted one gives are those that the file states. Assumes nothing.
+-- The header by the answer to the counts, and a call that reads by the answer to the header: the counts that an accepted one gives are those that
+-- the file states. Assumes nothing.
 use Prim.Native.Nat.{ℕ}
 use native.Mathlib.Omega.{arith}
 use mathlib.Core.Bool.{Bool, true, false, cond}
 use mathlib.Core.List.{List}
-use mathlib.Core.Path.{_≡_, refl, sym, _∙_}
+use mathlib.Core.Path.{_≡_, refl, ap, sym, _∙_}
 use lib.IntN.{ℤ}
 use lib.ListN.{length}
 use Rattle.paper.specs.Tables.{Tables}
 use Rattle.paper.specs.Checks.{Verdict, accepted, refused, require}
-use Rattle.paper.specs.File.{held, header, nIn, mIn, eIn, counted, endsAt, laid, read}
-use Rattle.paper.proofs.Reading.{headed, read-refused, read-short, read-done}
+use Rattle.paper.specs.File.{held, headed, header, nIn, mIn, eIn, counted, endsAt, laid, read}
+use Rattle.paper.proofs.Reading as reading
+use Rattle.paper.proofs.Reading.{read-refused, read-short, read-done}
 use Rattle.files.specs.Answers.{answer, hasRead}
 use Rattle.files.specs.declared.Reading.{Reading}
 use Rattle.files.specs.declared.Reading.the-variants.{Accepted, Refused}
+use Rattle.files.proofs.Counted.{Counted, counted-facts, counted-stops}
 
 -- the answer of a chain of tests is the answer to the chain
 pub answer-require : (bytes : List ℕ) (code place : ℕ) (good : Bool) (next : Verdict)
@@ -21,11 +24,11 @@ answer-require bytes code place true next = refl
 answer-require bytes code place false next = refl
 
 -- ── the verdict that an answer was given to ──
-record Stated (bytes : List ℕ) (v : Verdict) (n m e : ℕ) : Type 0 where
-  good : v ≡ accepted
-  n-is : n ≡ nIn bytes
-  m-is : m ≡ mIn bytes
-  e-is : e ≡ eIn bytes
+pub record Stated (bytes : List ℕ) (v : Verdict) (n m e : ℕ) : Type 0 where
+  pub good : v ≡ accepted
+  pub n-is : n ≡ nIn bytes
+  pub m-is : m ≡ mIn bytes
+  pub e-is : e ≡ eIn bytes
 
 stated : (bytes : List ℕ) (v : Verdict) {n m e : ℕ} → Accepted n m e ≡ answer bytes v → Stated bytes v n m e
 stated bytes accepted q = record { good = refl; n-is = cc; m-is = cc; e-is = cc }
@@ -35,6 +38,16 @@ turned : (bytes : List ℕ) (v : Verdict) {number place : ℕ} → Refused numbe
 turned bytes accepted q = let z : _≡_ {A = ℕ} 0 1 = cc in absurd (omega arith)
 turned bytes (refused number place) q = cc
 
+-- ── the answer to the counts, and the rest of the header ──
+module _ (bytes : List ℕ) {r : Reading} (q : r ≡ answer bytes (headed bytes accepted)) where
+  pub refused-counts : {number place : ℕ} → r ≡ Refused number place → r ≡ answer bytes (header bytes)
+  unfolding header
+  refused-counts h = h ∙ sym (ap (answer bytes) (counted-stops bytes (turned bytes (headed bytes accepted) (sym h ∙ q)) _))
+
+  pub given-counts : {n m e : ℕ} → r ≡ Accepted n m e → Stated bytes (headed bytes accepted) n m e × Counted bytes
+  given-counts h = let s = stated bytes (headed bytes accepted) (sym h ∙ q) in (s, counted-facts bytes (s .good))
+
+-- ── the call, by the answer to the header ──
 module _ (bytes : List ℕ) {r : Reading} (q : r ≡ answer bytes (header bytes)) where
   pub refused-header : {number place : ℕ} → r ≡ Refused number place → (t : Tables) (starts : List ℤ) → hasRead r t starts ≡ read bytes t starts
   refused-header {number} {place} h t starts = rw h (read-refused bytes t starts number place (turned bytes (header bytes) (sym h ∙ q)))
@@ -45,7 +58,7 @@ module _ (bytes : List ℕ) {r : Reading} (q : r ≡ answer bytes (header bytes)
 
     -- the file ends where its counts say
     pub ends : length bytes ≡ endsAt n m e
-    ends = rw (s .n-is, s .m-is, s .e-is) (headed bytes (s .good) .whole)
+    ends = rw (s .n-is, s .m-is, s .e-is) (reading.headed bytes (s .good) .whole)
 
     module _ (t : Tables) (starts : List ℤ) where
       pub short-tables : held (counted n m e t) starts ≡ false → hasRead (Refused 1 0) t starts ≡ read bytes t starts

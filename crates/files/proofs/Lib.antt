@@ -1,4 +1,5 @@
 pub mod Widths
 pub mod Runs
 pub mod Signed
+pub mod Counted
 pub mod Answered

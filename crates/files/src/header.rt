@@ -4,6 +4,7 @@ ghost use mathlib.Core.Bool.{cond};
 ghost use Prim.Native.Nat.{_≤_, _<_};
 ghost use lib.ListN.{length};
 ghost use lib.Seq.{sets};
+ghost use Rattle.paper.specs.Checks.{accepted};
 ghost use Rattle.paper.specs.File as File;
 ghost use Rattle.files.specs.Answers.{answer};
 use crate::Reading;
@@ -42,9 +43,9 @@ fn right(place: u32, good: bool, answer: Reading) -> Reading
     }
 }
 
-// The counts that a file states, or the first field of its header that is wrong.
-pub fn header(bytes: &[u8]) -> Reading
-    ensures { λ r. ⌜ r ≡ answer (now (bytes .entry)) (File.header (now (bytes .entry))) ⌝ }
+// The counts that a file states, or the first of its length, its version and its counts that is wrong.
+pub fn counts(bytes: &[u8]) -> Reading
+    ensures { λ r. ⌜ r ≡ answer (now (bytes .entry)) (File.headed (now (bytes .entry)) accepted) ⌝ }
 {
     if bytes.len() < 24 {
         return Reading::Refused {
@@ -56,19 +57,29 @@ pub fn header(bytes: &[u8]) -> Reading
     let n = get(bytes, 2, 2);
     let m = get(bytes, 4, 2);
     let e = get(bytes, 6, 2);
+    // from the last field to the first, so that the first wrong one decides
+    let answer = Reading::Accepted { n, m, e };
+    let answer = right(6, e <= 16384, answer);
+    let answer = right(4, m <= n, answer);
+    let answer = right(2, (1 <= n) & (n <= 4096), answer);
+    right(0, version == 1, answer)
+}
+
+// The counts that a file states, or the first field of its header that is wrong.
+pub fn header(bytes: &[u8]) -> Reading
+    ensures { λ r. ⌜ r ≡ answer (now (bytes .entry)) (File.header (now (bytes .entry))) ⌝ }
+{
+    let told = counts(bytes);
+    let Reading::Accepted { n, m, e } = told else {
+        return told;
+    };
     let starts = get(bytes, 8, 4);
     let rows = get(bytes, 12, 4);
     let entries = get(bytes, 16, 4);
     let end = get(bytes, 20, 4);
     let whole = ends_at(n, m, e);
-    // from the last field to the first, so that the first wrong one decides
-    let answer = Reading::Accepted { n, m, e };
-    let answer = right(20, (end == whole) & (bytes.len() == whole), answer);
+    let answer = right(20, (end == whole) & (bytes.len() == whole), told);
     let answer = right(16, entries == entries_at(n, m), answer);
     let answer = right(12, rows == rows_at(n), answer);
-    let answer = right(8, starts == 24, answer);
-    let answer = right(6, e <= 16384, answer);
-    let answer = right(4, m <= n, answer);
-    let answer = right(2, (1 <= n) & (n <= 4096), answer);
-    right(0, version == 1, answer)
+    right(8, starts == 24, answer)
 }

@@ -1,21 +1,24 @@
 // The model file: `write` stores a model as bytes, and `read` lays the model that bytes hold over lent rows. Whatever a call is lent, it answers
-// and leaves what the paper says; a refused call changes nothing.
+// and leaves what the paper says; a refused call changes nothing. The counts, the layout and the columns are also there for whoever takes a file
+// whose header is wrong behind its counts.
 mod columns;
 mod fields;
 mod header;
 mod layout;
 mod lines;
 
+pub use columns::lay_entries;
+pub use columns::lay_rows;
+pub use columns::lay_starts;
+pub use header::counts;
+pub use layout::ends_at;
+pub use layout::entries_at;
 ghost use mathlib.Core.Path.{_≡_};
 ghost use Rattle.paper.specs.Tables.{lent};
 ghost use Rattle.files.specs.Answers.{verdict, hasRead};
 ghost use Rattle.paper.specs.File as File;
-use crate::columns::lay_entries;
-use crate::columns::lay_rows;
-use crate::columns::lay_starts;
 use crate::header::header;
 use crate::header::put_header;
-use crate::layout::ends_at;
 use crate::lines::put_entries;
 use crate::lines::put_rows;
 use crate::lines::put_starts;

@@ -118,6 +118,7 @@ module _ (t : Tables) (F : Formed t) (state : List ℕ) (S : Swept (t .n) (input
   found : (r : ℕ) → r ≡ firstFail (ended state) (t .n) → Found t state r
   found r e = record {
     least = e ∙ firstFail-same (ended state) (ends t) (t .n) ended-ends;
+    which = λ v l. sym (ended-ends v l);
     numbered = λ h. record { few = F .few; at = λ v l. let q = numbers-are (past h) v in let k = leb-true 2 (nat state v) (past h v l) in omega arith };
   }
     where

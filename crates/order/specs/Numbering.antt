@@ -94,7 +94,8 @@ pub record Numbered (t : Tables) (state : List ℕ) : Type 0 where
   pub few : t .n ≤ 4096
   pub at : (v : ℕ) → v < t .n → nat state v ≡ 2 + number (net t) (t .n) v
 
--- r is the least variable that can have no number, or n; with n the row holds the numbers
+-- r is the least variable that can have no number, or n; with n the row holds the numbers; what has ended is what can have one
 pub record Found (t : Tables) (state : List ℕ) (r : ℕ) : Type 0 where
   pub least : r ≡ firstFail (ends t) (t .n)
+  pub which : (v : ℕ) → v < t .n → ends t v ≡ ended state v
   pub numbered : t .n ≤ r → Numbered t state

@@ -86,7 +86,8 @@ fn first_open(n: usize, state: &[u16; 4096]) -> usize
     v
 }
 
-// The least variable that can have no number, or n; with n, `state` holds two more than each variable's number.
+// The least variable that can have no number, or n; with n, `state` holds two more than each variable's number. Whatever the answer, it says
+// which variables can have one: those whose visit ended.
 pub fn find_numbers(
     n: usize,
     m: usize,

@@ -83,18 +83,22 @@ module _ (bytes : List ℕ) where
   abbrev pub eIn : ℕ
   eIn = field 2 6 bytes
 
-  -- the header's fields in their order; the total is also the file's length
-  unfoldable pub header : Verdict
-  header =
+  -- the header's length, version and counts, and then what is next
+  abbrev pub headed : Verdict → Verdict
+  headed next =
       require 14 (length bytes) (leb 24 (length bytes))
       (require 14 0 (eqb (field 2 0 bytes) 1)
       (require 14 2 (between 1 nIn 4096)
       (require 14 4 (leb mIn nIn)
-      (require 14 6 (leb eIn 16384)
+      (require 14 6 (leb eIn 16384) next))))
+
+  -- the header's fields in their order; the total is also the file's length
+  unfoldable pub header : Verdict
+  header = headed
       (require 14 8 (eqb (field 4 8 bytes) 24)
       (require 14 12 (eqb (field 4 12 bytes) (rowsAt nIn))
       (require 14 16 (eqb (field 4 16 bytes) (entriesAt nIn mIn))
-      (require 14 20 (eqb (field 4 20 bytes) (endsAt nIn mIn eIn) && eqb (length bytes) (endsAt nIn mIn eIn)) accepted))))))))
+      (require 14 20 (eqb (field 4 20 bytes) (endsAt nIn mIn eIn) && eqb (length bytes) (endsAt nIn mIn eIn)) accepted))))
 
   -- a column of a table: the numbers of w bytes at, at + step, at + 2 step and on
   abbrev pub column : ℕ → ℕ → ℕ → ℕ → ℕ

@@ -34,7 +34,7 @@ fn named_before(seen: &[bool], vars: &[u16], i: usize) -> bool
 }
 
 // Marks the variable, unless it is too great to have a mark.
-fn mark(v: u16, seen: &mut [bool])
+pub fn mark(v: u16, seen: &mut [bool])
     ensures { λ r. ⌜ now (seen .exit) ≡ set (now (seen .entry)) v true ⌝ }
 {
     let at = wide(v);

@@ -21,6 +21,8 @@ pub enum Call {
     Read,
     /// A file from tables.
     Write,
+    /// A file from a damaged one, and a list of what was not saved.
+    Salvage,
 }
 
 /// A call with its counts and every buffer that any call is lent; a call uses those that are its own.
@@ -58,6 +60,8 @@ pub struct Case {
     pub log_vars: Guarded<u16>,
     pub log_values: Guarded<i32>,
     pub bytes: Guarded<u8>,
+    pub file: Guarded<u8>,
+    pub list: Guarded<u16>,
 }
 
 /// The buffers of a case by name, borrowed one way or the other.
@@ -87,6 +91,8 @@ macro_rules! buffers_of {
             ("log_vars", $($borrowed)+ $case.log_vars),
             ("log_values", $($borrowed)+ $case.log_values),
             ("bytes", $($borrowed)+ $case.bytes),
+            ("file", $($borrowed)+ $case.file),
+            ("list", $($borrowed)+ $case.list),
         ]
     };
 }
@@ -111,13 +117,13 @@ impl Case {
 
     /// Every buffer by name, in the order of the fields.
     #[must_use]
-    pub fn buffers(&self) -> [(&'static str, &dyn Buffer); 23] {
+    pub fn buffers(&self) -> [(&'static str, &dyn Buffer); 25] {
         buffers_of!(self, &)
     }
 
     /// Every buffer by name, to be changed.
     #[must_use]
-    pub fn buffers_mut(&mut self) -> [(&'static str, &mut dyn Buffer); 23] {
+    pub fn buffers_mut(&mut self) -> [(&'static str, &mut dyn Buffer); 25] {
         buffers_of!(self, &mut)
     }
 
@@ -149,6 +155,9 @@ pub struct Answer {
     pub n: u32,
     pub m: u32,
     pub e: u32,
+    pub length: u32,
+    pub rows: u32,
+    pub values: u32,
 }
 
 impl Answer {
@@ -164,6 +173,15 @@ impl Answer {
         counts.map_or_else(Answer::refused, |(n, m, e)| {
             let [n, m, e] = [n, m, e].map(|count| u32::try_from(count).unwrap_or(u32::MAX));
             Answer { n, m, e, ..Answer::default() }
+        })
+    }
+
+    /// The answer of salvage.
+    #[must_use]
+    pub fn of_salvage(saved: Result<(usize, usize, usize), Refused>) -> Answer {
+        saved.map_or_else(Answer::refused, |(length, rows, values)| {
+            let [length, rows, values] = [length, rows, values].map(|count| u32::try_from(count).unwrap_or(u32::MAX));
+            Answer { length, rows, values, ..Answer::default() }
         })
     }
 

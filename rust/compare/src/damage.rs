@@ -4,6 +4,7 @@ use lent::{LOG_PLACES, LOG_SIZES};
 use second::{BLANK, MOST_ASKED, MOST_ENTRIES, MOST_LOGGED, MOST_PAIRS, MOST_VARIABLES};
 
 use crate::logs::is_search;
+use crate::salvages::room_for;
 use crate::{Call, Case, Element, Guarded, Random, value};
 
 /// Makes one thing that the call is lent wrong, or only other than it was.
@@ -233,8 +234,12 @@ impl<T: Element> Length for Guarded<T> {
     }
 }
 
-/// The buffers that the call is lent, each with the length that the counts ask of it.
+/// The buffers that the call is lent, each with the length that the counts, or what is saved, ask of it.
 fn buffers(case: &mut Case) -> Vec<(&mut dyn Length, usize)> {
+    if case.call == Call::Salvage {
+        let (file, list) = room_for(&case.bytes);
+        return vec![(&mut case.file, file), (&mut case.list, list)];
+    }
     let Case { n, m, e, pairs, asked, .. } = *case;
     let total = n.saturating_mul(4).saturating_add(m.saturating_mul(12)).saturating_add(e.saturating_mul(4));
     let mut lent: Vec<(&mut dyn Length, usize)> = vec![
@@ -256,7 +261,7 @@ fn buffers(case: &mut Case) -> Vec<(&mut dyn Length, usize)> {
             lent.push((&mut case.move_vars, pairs));
             lent.push((&mut case.move_values, pairs));
         }
-        Call::TakeBack => {}
+        Call::TakeBack | Call::Salvage => {}
     }
     if case.call == Call::Trial {
         lent.push((&mut case.trial, n));

@@ -3,6 +3,7 @@
 use std::thread;
 
 use crate::runs::{built, keep, take_back, trial};
+use crate::salvages::salvage_of;
 use crate::{Answer, Call, Case, Engine, Side, chain, edges};
 
 /// The stack on which every call is to come back, in bytes.
@@ -34,6 +35,7 @@ fn every_row(name: &str, answer: Answer) {
     match name {
         "read" => assert_eq!((answer.n, answer.m, answer.e), (4096, 4095, 16380)),
         "write" => {}
+        "salvage" => assert_eq!((answer.length, answer.rows, answer.values), (131_068, 0, 0)),
         "route 1" | "keep" | "taking back" => assert!(answer.evaluations > 0, "{name}"),
         _ => assert_eq!(answer.evaluations, 4095, "{name}"),
     }
@@ -53,7 +55,7 @@ pub fn models() -> Vec<Case> {
 
 /// Every call on a deepest model by name; a move at the near end of the chain is tried, kept and taken back, and the far
 /// end asked.
-pub fn calls(engine: &dyn Engine, model: &Case) -> [(&'static str, Case); 8] {
+pub fn calls(engine: &dyn Engine, model: &Case) -> [(&'static str, Case); 9] {
     let built = built(engine, model);
     let numbered = |wanted| built.numbers.iter().position(|&number| number == wanted).unwrap_or(0) as u16;
     let moved = [(numbered(0), 2)];
@@ -69,6 +71,7 @@ pub fn calls(engine: &dyn Engine, model: &Case) -> [(&'static str, Case); 8] {
         ("taking back", take_back(&Side::of(engine, &kept).left)),
         ("keep", kept),
         ("write", write),
+        ("salvage", salvage_of(&read.bytes)),
         ("read", read),
     ]
 }

@@ -4,7 +4,7 @@ use lent::{Asked, Built, Keep, Move, Session, State, Tables, TablesMut, TakeBack
 
 use crate::{Answer, Call, Case};
 
-/// An implementation of the six calls.
+/// An implementation of the seven calls.
 pub trait Engine {
     /// Answers the case, and leaves in it what the call leaves.
     fn answer(&self, case: &mut Case) -> Answer;
@@ -13,7 +13,7 @@ pub trait Engine {
 /// A test of any engine, with its name.
 pub type Test = (&'static str, fn(&dyn Engine));
 
-/// The six calls over what is lent to them.
+/// The seven calls over what is lent to them.
 pub trait Calls {
     /// Numbers, order, values and readers from tables and start values, and an empty log.
     fn build(session: &mut Session, tables: Tables<'_>, starts: &[i32], built: Built<'_>) -> Answer;
@@ -32,6 +32,9 @@ pub trait Calls {
 
     /// A file from tables.
     fn write(tables: Tables<'_>, starts: &[i32], bytes: &mut [u8]) -> Answer;
+
+    /// A file from a damaged one, and a list of what was not saved.
+    fn salvage(bytes: &[u8], file: &mut [u8], list: &mut [u16]) -> Answer;
 }
 
 impl<C: Calls> Engine for C {
@@ -86,6 +89,7 @@ impl<C: Calls> Engine for C {
             ),
             Call::Read => C::read(&case.bytes, TablesMut { starts, kinds, makes, params, firsts, counts, vars, coefs }),
             Call::Write => C::write(tables, starts, &mut case.bytes),
+            Call::Salvage => C::salvage(&case.bytes, &mut case.file, &mut case.list),
         }
     }
 }
@@ -117,5 +121,9 @@ impl Calls for Second {
 
     fn write(tables: Tables<'_>, starts: &[i32], bytes: &mut [u8]) -> Answer {
         Answer::of_call(second::write(tables, starts, bytes).map(|()| 0))
+    }
+
+    fn salvage(bytes: &[u8], file: &mut [u8], list: &mut [u16]) -> Answer {
+        Answer::of_salvage(second::salvage(bytes, file, list))
     }
 }

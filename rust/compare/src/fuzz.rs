@@ -2,12 +2,13 @@
 //! back, stays inside its buffers, and agrees with the second implementation. What once went wrong is kept in `kept.txt`.
 
 use crate::runs::model_a;
+use crate::salvages;
 use crate::{
     Call, Case, Difference, Engine, Random, Second, Sizes, calls_on, compare, keep_of, model, scramble, seed, shrink,
     take_back_of, trial_of,
 };
 
-/// Cases kept from earlier runs: `file` and the bytes of a file in hexadecimal digits, or `calls` and a seed.
+/// Cases kept from earlier runs: `file` or `salvage` and the bytes of a file in hexadecimal digits, or `calls` and a seed.
 const KEPT: &str = include_str!("kept.txt");
 
 /// How many mutated files, and how many models whose calls are scrambled.
@@ -24,6 +25,9 @@ pub fn kept_cases(engine: &dyn Engine) {
         match line.split_once(' ').unwrap_or((line, "")) {
             ("file", digits) => {
                 read_and_build(engine, &bytes_of(digits), &mut Random::new(0));
+            }
+            ("salvage", digits) => {
+                salvages::agree(engine, &salvages::salvage_of(&bytes_of(digits)));
             }
             ("calls", seed) => scrambled_calls(engine, seed.parse().expect("a seed")),
             _ => panic!("not a kept case: {line}"),
@@ -78,7 +82,7 @@ fn scrambled_calls(engine: &dyn Engine, seed: u64) {
 
 /// Reads a file, builds what was read, and tries, keeps and takes back a move on what was built, if it gets so far.
 fn read_and_build(engine: &dyn Engine, bytes: &[u8], random: &mut Random) -> Option<Case> {
-    let name = || format!("file {}", bytes.iter().map(|byte| format!("{byte:02x}")).collect::<String>());
+    let name = || format!("file {}", digits_of(bytes));
     let read = agree(engine, &reading(bytes), name)?;
     let building = Case { call: Call::Build, ..read };
     let built = agree(engine, &building.with_room(), name)?;
@@ -101,7 +105,7 @@ fn agree(engine: &dyn Engine, case: &Case, name: impl Fn() -> String) -> Option<
 }
 
 /// A read into tables as long as the header asks, up to the bounds.
-fn reading(bytes: &[u8]) -> Case {
+pub(crate) fn reading(bytes: &[u8]) -> Case {
     let field = |at: usize| match bytes.get(at..at + 2) {
         Some(&[low, high]) => usize::from(u16::from_le_bytes([low, high])),
         _ => 0,
@@ -124,7 +128,7 @@ fn reading(bytes: &[u8]) -> Case {
 }
 
 /// The file of a model.
-fn file_of(build: &Case) -> Vec<u8> {
+pub(crate) fn file_of(build: &Case) -> Vec<u8> {
     let bytes = vec![0; 24 + 4 * build.n + 12 * build.m + 4 * build.e];
     let mut case = Case { call: Call::Write, bytes: bytes.into(), ..build.clone() };
     Second.answer(&mut case);
@@ -156,10 +160,15 @@ fn mutate(random: &mut Random, bytes: &mut Vec<u8>, sound: &[Vec<u8>]) {
 }
 
 /// Writes over the bytes at a place, as far as there are any.
-fn put(bytes: &mut [u8], place: usize, over: &[u8]) {
+pub(crate) fn put(bytes: &mut [u8], place: usize, over: &[u8]) {
     for (byte, &new) in bytes.iter_mut().skip(place).zip(over) {
         *byte = new;
     }
+}
+
+/// The bytes as hexadecimal digits.
+pub(crate) fn digits_of(bytes: &[u8]) -> String {
+    bytes.iter().map(|byte| format!("{byte:02x}")).collect()
 }
 
 /// The bytes that hexadecimal digits stand for.

@@ -3,7 +3,8 @@
 //! A [`Case`] is one call with everything that is lent to it, each buffer between guard elements. An [`Engine`] answers
 //! it in place. [`compare`] lets two engines answer the same case and compares the answers, the session record, every
 //! element of every buffer, and the guards. [`run`] does so for as many random cases as it is told, from a seed, and
-//! [`shrink`] makes a case on which two engines differ smaller. [`sessions`] keeps and takes back over long sessions. [`tests_of!`] is everything that an engine must pass.
+//! [`shrink`] makes a case on which two engines differ smaller. [`sessions`] keeps and takes back over long sessions,
+//! and [`salvages`] saves damaged files. [`tests_of!`] is everything that an engine must pass.
 #![forbid(unsafe_code)]
 #![warn(missing_docs)]
 
@@ -21,6 +22,7 @@ mod models;
 mod plan;
 mod random;
 pub mod runs;
+pub mod salvages;
 pub mod sessions;
 mod shrink;
 pub mod takings;

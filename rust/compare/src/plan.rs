@@ -23,7 +23,7 @@ pub fn seed() -> u64 {
 pub struct Tally {
     /// The calls by number.
     pub by_number: [usize; 17],
-    /// The accepted calls by call: build, trial, keep, taking back, read, write.
+    /// The accepted calls by call: build, trial, keep, taking back, read, write. Salvage is tried by itself.
     pub accepted: [usize; 6],
     /// The calls refused with 8 by the index of readers alone.
     pub by_index: usize,

@@ -30,7 +30,10 @@ impl Search<'_> {
     fn round(&mut self) -> bool {
         let case = &self.best.case;
         let (n, m, e, pairs, asked, logged) = (case.n, case.m, case.e, case.pairs, case.asked, case.logged());
+        let damaged = if case.call == Call::Salvage { case.bytes.len() } else { 0 };
         let mut smaller = self.try_case(cut);
+        smaller |= self.without(damaged, |case, place| shorter(&mut case.bytes, place));
+        smaller |= self.without(damaged, |case, place| plain(&mut case.bytes, place, 0));
         smaller |= self.try_case(plain_beyond_log);
         smaller |= self.without(logged, remove_logged);
         smaller |= self.without(m, remove_row);

@@ -25,7 +25,7 @@ pub fn random_calls(engine: &dyn Engine) {
 
 /// The tests of an engine: the runs that the specification names, both sides of the edge of every refusal, files there
 /// and back, the deepest models on a small stack, random calls beside the second implementation, long sessions of keeps
-/// and takings back, and the fuzz runs.
+/// and takings back, the fuzz runs, and damaged files that are saved.
 /// The second expression is the engine whose calls have a stack of 2 MiB if their thread has.
 #[macro_export]
 macro_rules! tests_of {
@@ -78,6 +78,16 @@ macro_rules! tests_of {
         #[test]
         fn scrambled_buffers_through_every_call() {
             $crate::fuzz::scrambled_buffers(&$engine);
+        }
+
+        #[test]
+        fn salvage_on_both_sides() {
+            $crate::hold(&$engine, $crate::salvages::SALVAGES);
+        }
+
+        #[test]
+        fn random_damaged_files_are_saved() {
+            $crate::salvages::damaged_files(&$engine);
         }
     };
 }

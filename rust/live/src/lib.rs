@@ -4,7 +4,7 @@
 
 use compare::{Answer, Calls};
 use lent::{Built, Keep, Session, Tables, TablesMut, TakeBack, Trial};
-use lukhandro::sys::{Outcome, ReadOutcome};
+use lukhandro::sys::{Outcome, ReadOutcome, SalvageOutcome};
 
 /// The engine that the archive holds.
 #[derive(Clone, Copy, Debug)]
@@ -29,11 +29,18 @@ impl Calls for Proved {
 
     fn read(bytes: &[u8], tables: TablesMut<'_>) -> Answer {
         let ReadOutcome { number, place, n, m, e } = lukhandro::lent::read(bytes, tables);
-        Answer { number, place, n, m, e, evaluations: 0 }
+        Answer { number, place, n, m, e, ..Answer::default() }
     }
 
     fn write(tables: Tables<'_>, starts: &[i32], bytes: &mut [u8]) -> Answer {
         answer(lukhandro::lent::write(tables, starts, bytes))
+    }
+
+    fn salvage(bytes: &[u8], file: &mut [u8], list: &mut [u16]) -> Answer {
+        let SalvageOutcome { number, place, length, rows, values } = lukhandro::lent::salvage(bytes, file, list);
+        let [length, rows, values] =
+            [length, rows, values].map(|count| u32::try_from(count).expect("a count of a file"));
+        Answer { number, place, length, rows, values, ..Answer::default() }
     }
 }
 

@@ -4,7 +4,7 @@
 //! and refuses what does not fit. A slice may be longer than its count asks; what lies beyond is neither looked at nor
 //! changed. A refused call changes nothing.
 
-use crate::sys::{self, Outcome, ReadOutcome};
+use crate::sys::{self, Outcome, ReadOutcome, SalvageOutcome};
 pub use ::lent::{
     Asked, Built, Keep, LOG_PLACES, LOG_SIZES, Move, Session, State, Tables, TablesMut, TakeBack, Trial, Tried,
 };
@@ -124,4 +124,14 @@ pub fn write(tables: Tables<'_>, starts: &[i32], bytes: &mut [u8]) -> Outcome {
             coefs.as_ptr(), coefs.len(), bytes.as_mut_ptr(), bytes.len(),
         )
     }
+}
+
+/// Fills the front of `file` with what is saved of a damaged file, and the front of `list` with the rows dropped and then
+/// the variables whose start value is missing or reset; gives the length of the file and how many of each are listed.
+/// 131,096 bytes and 8,192 places are room for everything. Refusal 14 for the header, then 1 for a short buffer.
+pub fn salvage(bytes: &[u8], file: &mut [u8], list: &mut [u16]) -> SalvageOutcome {
+    let (bytes_length, file_length, list_length) = (bytes.len(), file.len(), list.len());
+    let (bytes, file, list) = (bytes.as_ptr(), file.as_mut_ptr(), list.as_mut_ptr());
+    // SAFETY: each pointer goes with the length of its own slice, and no slice that is written overlaps another.
+    unsafe { sys::lukhandro_salvage(bytes, bytes_length, file, file_length, list, list_length) }
 }

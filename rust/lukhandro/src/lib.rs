@@ -18,10 +18,14 @@
 //! # Ok::<(), lukhandro::Refused>(())
 //! ```
 //!
+//! [`salvage`] saves what is whole and good in a damaged model file, and the command of that name does so for a file on its
+//! standard input.
+//!
 //! [`lent`] has the same calls for callers who keep the buffers themselves.
 //!
 //! A thread that calls should have a stack of 2 MiB, as Rust's threads do. On the deepest model a trial by route 2 or 3
-//! takes 1,056 KiB of it and a build 480 KiB, measured on an x86-64 machine; no other call takes more than 128.
+//! takes 1,056 KiB of it and a build 480 KiB, measured on an x86-64 machine; no other call takes more than 128, but
+//! for a salvage, which is not measured yet.
 #![warn(missing_docs)]
 
 #[cfg(not(target_arch = "x86_64"))]
@@ -31,11 +35,13 @@ pub mod lent;
 mod model;
 mod refused;
 mod row;
+mod salvage;
 pub mod sys;
 
 pub use model::{Model, Trial};
 pub use refused::Refused;
 pub use row::{Kind, Route, Row};
+pub use salvage::{Salvage, salvage};
 
 /// No value: the one 32-bit number that is no value of a variable.
 pub const BLANK: i32 = i32::MIN;
@@ -45,6 +51,9 @@ pub const MOST_VARIABLES: usize = 4096;
 
 /// The most entries of a model.
 pub const MOST_ENTRIES: usize = 16384;
+
+/// The most bytes of a model file.
+pub const MOST_BYTES: usize = 24 + 16 * MOST_VARIABLES + 4 * MOST_ENTRIES;
 
 /// The most pairs of a move.
 pub const MOST_PAIRS: usize = 64;

@@ -1,4 +1,4 @@
-//! The six calls as the archive exports them. A slice is a pointer and a length.
+//! The seven calls as the archive exports them. A slice is a pointer and a length.
 
 use crate::Refused;
 use crate::lent::Session;
@@ -31,6 +31,22 @@ pub struct ReadOutcome {
     pub e: u32,
 }
 
+/// What salvage gives.
+#[repr(C)]
+#[derive(Clone, Copy, Debug, PartialEq, Eq)]
+pub struct SalvageOutcome {
+    /// 0 if accepted.
+    pub number: u32,
+    /// The smallest offending index.
+    pub place: u32,
+    /// Bytes of the saved file, 0 if refused.
+    pub length: usize,
+    /// Rows of the list, 0 if refused.
+    pub rows: usize,
+    /// Start values of the list, which stand behind the rows, 0 if refused.
+    pub values: usize,
+}
+
 impl Outcome {
     /// The evaluations, or the refusal.
     ///
@@ -53,6 +69,19 @@ impl ReadOutcome {
         match self {
             ReadOutcome { number: 0, n, m, e, .. } => Ok((n as usize, m as usize, e as usize)),
             ReadOutcome { number, place, .. } => Err(Refused { number, place }),
+        }
+    }
+}
+
+impl SalvageOutcome {
+    /// The length of the saved file and how many rows and start values the list names, or the refusal.
+    ///
+    /// # Errors
+    /// The refusal, if the call was refused.
+    pub fn judged(self) -> Result<(usize, usize, usize), Refused> {
+        match self {
+            SalvageOutcome { number: 0, length, rows, values, .. } => Ok((length, rows, values)),
+            SalvageOutcome { number, place, .. } => Err(Refused { number, place }),
         }
     }
 }
@@ -133,4 +162,10 @@ unsafe extern "C" {
         coefs: *const i16, coefs_length: usize,
         bytes: *mut u8, bytes_length: usize,
     ) -> Outcome;
+
+    /// A file from a damaged one, and a list of what was not saved.
+    pub fn lukhandro_salvage(
+        bytes: *const u8, bytes_length: usize, file: *mut u8, file_length: usize,
+        list: *mut u16, list_length: usize,
+    ) -> SalvageOutcome;
 }

@@ -1,6 +1,6 @@
 //! The model that owns its buffers.
 
-use lukhandro::{BLANK, Kind, MOST_LOGGED, Model, Refused, Route, Row};
+use lukhandro::{BLANK, Kind, MOST_LOGGED, Model, Refused, Route, Row, Salvage, salvage};
 
 fn refused(number: u32, place: u32) -> Refused {
     Refused { number, place }
@@ -139,4 +139,32 @@ fn every_refusal_has_a_sentence() {
         assert!(!sentence.contains("no check"), "{sentence}");
     }
     assert!(refused(17, 0).to_string().contains("no check"));
+}
+
+#[test]
+fn a_damaged_file_is_saved() {
+    let file = model_a().write().expect("a file");
+    let whole = Salvage { file: file.clone(), rows: vec![], values: vec![] };
+    assert_eq!(salvage(&file), Ok(whole.clone()));
+    assert_eq!(salvage(&[&file[..], &[7; 5]].concat()), Ok(whole), "surplus bytes");
+
+    let saved = salvage(&file[..file.len() - 1]).expect("a cut file");
+    assert_eq!((&saved.rows[..], &saved.values[..]), (&[2][..], &[][..]));
+    assert_eq!(Model::read(&saved.file).expect("a model").stored(), [25200, 28800, 600, 6, 28200, 0]);
+
+    let saved = salvage(&file[..30]).expect("little more than a header");
+    assert_eq!((&saved.rows[..], &saved.values[..]), (&[0, 1, 2][..], &[1, 2, 3, 4, 5][..]));
+    assert_eq!(Model::read(&saved.file).expect("a model").stored(), [25200, 0, 0, 0, 0, 0]);
+
+    assert_eq!(salvage(&file[..23]), Err(refused(14, 23)));
+    assert_eq!(salvage(&[]), Err(refused(14, 0)));
+}
+
+#[test]
+fn everything_is_listed_at_most() {
+    let mut header = vec![0; 24];
+    header[..8].copy_from_slice(&[1, 0, 0, 16, 0, 16, 0, 64]);
+    let saved = salvage(&header).expect("4,096 variables and rows, and 16,384 entries");
+    let all: Vec<u16> = (0..4096).collect();
+    assert_eq!((saved.file.len(), &saved.rows, &saved.values), (24 + 4 * 4096, &all, &all));
 }

@@ -86,12 +86,12 @@ fn parts(tables: &Tables<'_>) -> Result<(), Refused> {
 }
 
 /// Whether every variable is below n.
-fn all_below(vars: &[u16], n: usize) -> bool {
+pub(crate) fn all_below(vars: &[u16], n: usize) -> bool {
     vars.iter().copied().max().is_none_or(|greatest| usize::from(greatest) < n)
 }
 
 /// Check 4 of one row: its coefficients and its parameter.
-fn weighed(row: &Row<'_>) -> bool {
+pub(crate) fn weighed(row: &Row<'_>) -> bool {
     let coefficients_of_one = || row.coefs.iter().all(|&coefficient| coefficient == 1);
     let parameter_fits = row.parameter.unsigned_abs() <= MOST_PARAMETER;
     match row.kind {

@@ -5,21 +5,21 @@ use crate::checks::{counts_fit, fits, tables_fit};
 use crate::parts::counted_tables;
 use lent::{Tables, TablesMut};
 
-const HEADER: usize = 24;
-const START: usize = 4;
-const ROW: usize = 12;
-const ENTRY: usize = 4;
+pub(crate) const HEADER: usize = 24;
+pub(crate) const START: usize = 4;
+pub(crate) const ROW: usize = 12;
+pub(crate) const ENTRY: usize = 4;
 
 /// Where the parts of a file begin and where it ends.
-struct Layout {
-    rows: usize,
-    entries: usize,
-    total: usize,
+pub(crate) struct Layout {
+    pub rows: usize,
+    pub entries: usize,
+    pub total: usize,
 }
 
 impl Layout {
     /// The layout of these counts, all inside their bounds.
-    fn of(n: usize, m: usize, e: usize) -> Layout {
+    pub(crate) fn of(n: usize, m: usize, e: usize) -> Layout {
         let rows = HEADER + START * n;
         let entries = rows + ROW * m;
         Layout { rows, entries, total: entries + ENTRY * e }
@@ -61,21 +61,31 @@ pub fn read(bytes: &[u8], tables: TablesMut<'_>) -> Result<(usize, usize, usize)
 
 /// Check 14, and with it n, m and e: the place is the first wrong field's byte, or the length of a file without header.
 fn header(bytes: &[u8]) -> Result<(usize, usize, usize), Refused> {
-    let Some(header) = bytes.first_chunk::<HEADER>() else { return Err(Refused::at(14, bytes.len())) };
-    let short = |at: usize| usize::from(u16::from_le_bytes([header[at], header[at + 1]]));
-    let long = |at: usize| u32::from_le_bytes([header[at], header[at + 1], header[at + 2], header[at + 3]]);
-    let require = |good: bool, at: usize| if good { Ok(()) } else { Err(Refused::at(14, at)) };
-    let (n, m, e) = (short(2), short(4), short(6));
-    require(short(0) == 1, 0)?;
-    require(counts_fit(n, 0, 0), 2)?;
-    require(counts_fit(n, m, 0), 4)?;
-    require(counts_fit(n, m, e), 6)?;
+    let (n, m, e) = counts_in(bytes)?;
+    let long = |at: usize| u32::from_le_bytes([bytes[at], bytes[at + 1], bytes[at + 2], bytes[at + 3]]);
     let layout = Layout::of(n, m, e);
     for (at, offset) in [(8, HEADER), (12, layout.rows), (16, layout.entries), (20, layout.total)] {
-        require(usize::try_from(long(at)) == Ok(offset), at)?;
+        right(usize::try_from(long(at)) == Ok(offset), at)?;
     }
-    require(bytes.len() == layout.total, 20)?;
+    right(bytes.len() == layout.total, 20)?;
     Ok((n, m, e))
+}
+
+/// What check 14 asks of the header's length, its version and its counts; gives n, m and e.
+pub(crate) fn counts_in(bytes: &[u8]) -> Result<(usize, usize, usize), Refused> {
+    let Some(header) = bytes.first_chunk::<HEADER>() else { return Err(Refused::at(14, bytes.len())) };
+    let short = |at: usize| usize::from(u16::from_le_bytes([header[at], header[at + 1]]));
+    let (n, m, e) = (short(2), short(4), short(6));
+    right(short(0) == 1, 0)?;
+    right(counts_fit(n, 0, 0), 2)?;
+    right(counts_fit(n, m, 0), 4)?;
+    right(counts_fit(n, m, e), 6)?;
+    Ok((n, m, e))
+}
+
+/// Check 14 of one field.
+fn right(good: bool, at: usize) -> Result<(), Refused> {
+    if good { Ok(()) } else { Err(Refused::at(14, at)) }
 }
 
 /// Fills the front of a byte buffer with the file of these tables and start values.

@@ -18,10 +18,12 @@ mod parts;
 mod readers;
 mod refused;
 mod routes;
+mod salvage;
 
 pub use calls::{build, inputs_of_row, keep, take_back, trial};
 pub use file::{read, write};
 pub use refused::Refused;
+pub use salvage::salvage;
 
 /// No value: the one 32-bit number that is no value of a variable.
 pub const BLANK: i32 = i32::MIN;

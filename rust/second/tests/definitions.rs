@@ -2,6 +2,7 @@
 
 mod naive;
 
+use compare::salvages::tiny_damaged_files;
 use compare::{Call, Case, Engine, Second, Sizes, compare, model, run, seed};
 use naive::Naive;
 use second::BLANK;
@@ -13,6 +14,11 @@ fn agrees_with_the_definitions() {
     let tally = run(&Second, &Naive, seed, 200_000, |random| model(random, Sizes::TINY));
     let tally = tally.unwrap_or_else(|difference| panic!("seed {seed}\n{difference}"));
     tally.assert_wide();
+}
+
+#[test]
+fn saves_as_the_definitions_do() {
+    tiny_damaged_files(&Naive);
 }
 
 /// An engine with one fault that is easy to write.

@@ -6,6 +6,7 @@ use compare::deep::deepest_models;
 use compare::edges::EDGES;
 use compare::files::FILES;
 use compare::runs::{RUNS, model_a};
+use compare::salvages::{SALVAGES, damaged_files};
 use compare::sessions::long_sessions;
 use compare::takings::TAKINGS;
 use compare::{Case, Engine, Second, Test};
@@ -58,6 +59,23 @@ fn refusals_by_the_definitions() {
 #[test]
 fn files_there_and_back() {
     hold(FILES, &Second);
+}
+
+#[test]
+fn salvage_on_both_sides() {
+    hold(SALVAGES, &Second);
+}
+
+#[test]
+fn salvage_by_the_definitions() {
+    let small = |name: &str| !["14", "16,384 entries", "undamaged files", "the largest files"].contains(&name);
+    let tests: Vec<_> = SALVAGES.iter().copied().filter(|(name, _)| small(name)).collect();
+    hold(&tests, &Naive);
+}
+
+#[test]
+fn random_damaged_files_are_saved() {
+    damaged_files(&Second);
 }
 
 #[test]

@@ -10,13 +10,13 @@
 
 static uint16_t kinds[3] = {8, 9, 1}, makes[3] = {3, 4, 5}, firsts[3] = {0, 3, 6}, counts[3] = {3, 3, 1};
 static uint16_t vars[7] = {0, 1, 2, 0, 1, 2, 3}, numbers[6], order[3], reader_starts[7], reader_places[7];
-static uint16_t move_vars[1] = {1}, asked_vars[2] = {5, 4};
+static uint16_t move_vars[1] = {1}, asked_vars[2] = {5, 4}, list[9];
 static uint16_t log_sizes[LUKHANDRO_LOG_SIZES] = {7}, log_vars[LUKHANDRO_LOG_PLACES];
 static int32_t log_values[LUKHANDRO_LOG_PLACES];
 static int32_t params[3] = {0, 0, 2}, starts[6] = {25200, 28800, 600}, stored[6], move_values[1] = {28801};
 static int32_t results[2], trial[6];
 static int16_t coefs[7] = {1, 1, 1, 1, 1, 1, 4};
-static uint8_t flags[6], bytes[112];
+static uint8_t flags[6], bytes[112], file[112];
 static lukhandro_session session = {9, 9};
 
 static void print(const char *call, lukhandro_outcome outcome) {
@@ -24,6 +24,10 @@ static void print(const char *call, lukhandro_outcome outcome) {
         session.kept, session.evaluations);
     for (int variable = 3; variable < 6; variable++) printf(" %d", stored[variable]);
     printf("\n");
+}
+
+static void print_saved(lukhandro_salvage_outcome saved) {
+    printf("salvage %u %u %zu %zu %zu\n", saved.number, saved.place, saved.length, saved.rows, saved.values);
 }
 
 int main(void) {
@@ -52,5 +56,12 @@ int main(void) {
     printf("read %u %u %u %u %u, parameter %d\n", read.number, read.place, read.n, read.m, read.e, params[2]);
     read = lukhandro_read(bytes, 111, LENT(starts), TABLES);
     printf("read %u %u %u %u %u\n", read.number, read.place, read.n, read.m, read.e);
+    lukhandro_salvage_outcome saved = lukhandro_salvage(bytes, 111, LENT(file), LENT(list));
+    print_saved(saved);
+    read = lukhandro_read(file, saved.length, LENT(starts), TABLES);
+    printf("row %u dropped, read %u %u %u %u %u\n", list[0], read.number, read.place, read.n, read.m, read.e);
+    print_saved(lukhandro_salvage(LENT(bytes), LENT(file), NULL, 0));
+    print_saved(lukhandro_salvage(LENT(bytes), file, 111, LENT(list)));
+    print_saved(lukhandro_salvage(bytes, 23, LENT(file), LENT(list)));
     return 0;
 }

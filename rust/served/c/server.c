@@ -12,16 +12,16 @@
 #include <unistd.h>
 #include "lukhandro.h"
 
-enum call { BUILD, TRIAL, KEEP, TAKE_BACK, READ, WRITE };
+enum call { BUILD, TRIAL, KEEP, TAKE_BACK, READ, WRITE, SALVAGE };
 
 enum buffer {
     SESSION, KINDS, MAKES, PARAMS, FIRSTS, COUNTS, VARS, COEFS, STARTS, NUMBERS, ORDER, STORED, READER_STARTS,
     READER_PLACES, MOVE_VARS, MOVE_VALUES, ASKED_VARS, RESULTS, TRIED, FLAGS, LOG_SIZES, LOG_VARS, LOG_VALUES, BYTES,
-    BUFFERS
+    SAVED, LIST, BUFFERS
 };
 
 /* Bytes of one element of each buffer; the record is one element. */
-static const uint64_t width[BUFFERS] = {8, 2, 2, 4, 2, 2, 2, 2, 4, 2, 2, 4, 2, 2, 2, 4, 2, 4, 4, 1, 2, 2, 4, 1};
+static const uint64_t width[BUFFERS] = {8, 2, 2, 4, 2, 2, 2, 2, 4, 2, 2, 4, 2, 2, 2, 4, 2, 4, 4, 1, 2, 2, 4, 1, 1, 2};
 
 struct request {
     uint64_t call, n, m, e, pairs, asked, route;
@@ -30,7 +30,7 @@ struct request {
 };
 
 struct answer {
-    uint32_t number, place, evaluations, n, m, e; /* what the call does not give is 0 */
+    uint32_t number, place, evaluations, n, m, e, length, rows, values; /* what the call does not give is 0 */
 };
 
 static struct request request;
@@ -86,11 +86,16 @@ static void take_block(void) {
 #define LOG LENT(LOG_SIZES), LENT(LOG_VARS), LENT(LOG_VALUES)
 
 static struct answer of_call(lukhandro_outcome outcome) {
-    return (struct answer){outcome.number, outcome.place, outcome.evaluations, 0, 0, 0};
+    return (struct answer){outcome.number, outcome.place, outcome.evaluations, 0, 0, 0, 0, 0, 0};
 }
 
 static struct answer of_read(lukhandro_read_outcome outcome) {
-    return (struct answer){outcome.number, outcome.place, 0, outcome.n, outcome.m, outcome.e};
+    return (struct answer){outcome.number, outcome.place, 0, outcome.n, outcome.m, outcome.e, 0, 0, 0};
+}
+
+static struct answer of_salvage(lukhandro_salvage_outcome outcome) {
+    return (struct answer){outcome.number, outcome.place, 0, 0, 0, 0,
+        (uint32_t)outcome.length, (uint32_t)outcome.rows, (uint32_t)outcome.values};
 }
 
 static struct answer made(void) {
@@ -109,6 +114,8 @@ static struct answer made(void) {
         return of_read(lukhandro_read(LENT(BYTES), LENT(STARTS), ROWS_AND_ENTRIES));
     case WRITE:
         return of_call(lukhandro_write(COUNTED, LENT(STARTS), ROWS_AND_ENTRIES, LENT(BYTES)));
+    case SALVAGE:
+        return of_salvage(lukhandro_salvage(LENT(BYTES), LENT(SAVED), LENT(LIST)));
     default:
         exit(2);
     }

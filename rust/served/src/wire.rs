@@ -8,11 +8,11 @@ const GAP: u8 = 0x5A;
 /// Every buffer of a block begins at a multiple of this, guards and all.
 const ALIGNED: usize = 8;
 
-/// The bytes of a request before its block: 8 numbers, and the place and length of the record and the 23 buffers.
-const REQUEST: usize = 8 * (8 + 2 * 24);
+/// The bytes of a request before its block: 8 numbers, and the place and length of the record and the 25 buffers.
+const REQUEST: usize = 8 * (8 + 2 * 26);
 
 /// The bytes of an answer before its block.
-const ANSWER: usize = 4 * 6;
+const ANSWER: usize = 4 * 9;
 
 /// The session record between guards.
 fn record(case: &Case) -> Guarded<i32> {
@@ -57,8 +57,8 @@ pub fn take_answer(bytes: &[u8], case: &mut Case) -> Answer {
         rest = buffer.receive(after);
     }
     let number = |at: usize| u32::from_le_bytes(answer[4 * at..][..4].try_into().expect("four bytes"));
-    let [number, place, evaluations, n, m, e] = [0, 1, 2, 3, 4, 5].map(number);
-    Answer { number, place, evaluations, n, m, e }
+    let [number, place, evaluations, n, m, e, length, rows, values] = [0, 1, 2, 3, 4, 5, 6, 7, 8].map(number);
+    Answer { number, place, evaluations, n, m, e, length, rows, values }
 }
 
 #[cfg(test)]
@@ -88,7 +88,8 @@ mod tests {
         }
         let mut left = case.clone();
         let answer = take_answer(&bytes, &mut left);
-        assert_eq!(answer, Answer { number: 1, place: 2, evaluations: 3, n: 4, m: 5, e: 6 });
+        let (n, m, e) = (4, 5, 6);
+        assert_eq!(answer, Answer { number: 1, place: 2, evaluations: 3, n, m, e, length: 7, rows: 8, values: 9 });
         assert_eq!(left, case);
     }
 

@@ -43,6 +43,11 @@ taking back 15 0 0, session 0 3, stored 6 28200 26
 write 0 0 0, session 0 3, stored 6 28200 26
 read 0 0 6 3 7, parameter 2
 read 14 20 0 0 0
+salvage 0 0 96 1 0
+row 2 dropped, read 0 0 6 2 6
+salvage 0 0 112 0 0
+salvage 1 0 0 0 0
+salvage 14 23 0 0 0
 ";
     assert_eq!(printed("calls"), expected);
 }
@@ -59,7 +64,7 @@ fn ends(input: &[u8]) -> Option<i32> {
 fn the_server_ends_with_its_input() {
     assert_eq!(ends(&[]), Some(0));
     assert_eq!(ends(&[0; 10]), Some(2), "a request that breaks off");
-    assert_eq!(ends(&[0; 448]), Some(2), "a request without a record");
+    assert_eq!(ends(&[0; 480]), Some(2), "a request without a record");
 }
 
 #[test]

@@ -2,6 +2,8 @@
 //!
 //! A check is the list of all places that offend; a value is worked out anew each time it is looked at.
 
+mod salvage;
+
 use std::collections::BTreeSet;
 
 use compare::{Answer, Call, Case, Engine};
@@ -35,6 +37,9 @@ impl Engine for Naive {
     fn answer(&self, case: &mut Case) -> Answer {
         if case.call == Call::Read {
             return read(case);
+        }
+        if case.call == Call::Salvage {
+            return salvage::salvage(case);
         }
         match verdict(case) {
             Some(refused) => Answer::refused(refused),
@@ -88,7 +93,7 @@ fn verdict(case: &Case) -> Option<Refused> {
     })
 }
 
-/// Check 1 of every call but read.
+/// Check 1 of every call but read and salvage.
 fn check_1(case: &Case) -> bool {
     let Case { n, m, e, pairs, asked, .. } = *case;
     let counts = (1..=4096).contains(&n) && m <= n && e <= 16384;
@@ -112,7 +117,7 @@ fn check_1(case: &Case) -> bool {
         Call::Trial => changes && moved && questions && case.trial.len() >= n,
         Call::Keep => changes && moved && log,
         Call::TakeBack => changes && log,
-        Call::Read => true,
+        Call::Read | Call::Salvage => true,
         Call::Write => tables && case.starts.len() >= n && case.bytes.len() >= 24 + 4 * n + 12 * m + 4 * e,
     }
 }

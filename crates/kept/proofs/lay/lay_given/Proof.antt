@@ -1,0 +1,60 @@
+-- The buffer holds what the file holds, as far as the counts reach, and each column is laid from it (`laid-padded`). Assumes nothing.
+use native.Mathlib.Omega.{arith}
+use borrow.Author.Needs.{needs}
+use Rattle.paper.specs.Tables.{lent}
+use Rattle.paper.proofs.Reading.{same-rows}
+use Rattle.files.proofs.Counted.{Counted, counted-facts}
+use Rattle.kept.proofs.Padded.{laid-padded}
+use Rattle.kept.proofs.lay.lay_given.Statement.{statement}
+use Rattle.kept.proofs.lay.lay_given.Tie as tie
+
+says : (c : tie.Start) → Counted (c .args .bytes .now)
+says c = counted-facts (c .args .bytes .now) (c .pre .1)
+
+slice-aggregate-fill : tie.Need-slice-aggregate-fill
+slice-aggregate-fill c = search needs
+
+fill-requires : tie.Need-fill-requires
+fill-requires c κs = search needs
+
+slice-aggregate-lay-starts : tie.Need-slice-aggregate-lay-starts
+slice-aggregate-lay-starts c = search needs
+
+lay-starts-requires : tie.Need-lay-starts-requires
+lay-starts-requires c κs = let h = says (c .before .before .before .before .before .before) in let l = slice-aggregate-lay-starts (c .before) in omega arith
+
+slice-aggregate-lay-rows : tie.Need-slice-aggregate-lay-rows
+slice-aggregate-lay-rows c = search needs
+
+lay-rows-requires : tie.Need-lay-rows-requires
+lay-rows-requires c κs = let h = says (c .before .before .before .before .before .before .before .before .before .before .before .before .before) in let l = slice-aggregate-lay-rows (c .before .before .before .before .before) in omega arith
+
+slice-aggregate-lay-entries : tie.Need-slice-aggregate-lay-entries
+slice-aggregate-lay-entries c = search needs
+
+lay-entries-requires : tie.Need-lay-entries-requires
+lay-entries-requires c κs = let h = says (c .before .before .before .before .before .before .before .before .before .before .before .before .before .before .before .before .before) in let l = slice-aggregate-lay-entries (c .before .before) in omega arith
+
+returns : tie.Need-returns
+returns c =
+    let rows = c .before .before .before .before .lay-rows .ensures in
+    let l = c .before .before .before .before .before .before .before .before .before .before .before in
+    let s = l .before .before .before .before .before .before .before in let a = s .args in
+    let h = says s in let long = slice-aggregate-lay-starts (l .before .before) in
+    laid-padded (a .bytes .now) (l .before .before .before .before .fill .ensures) (a .n) (a .m) (a .e) (omega arith) (s .pre .1) (s .pre .0)
+    (lent 0 0 0 (a .kinds .now) (a .makes .now) (a .params .now) (a .firsts .now) (a .counts .now) (a .vars .now) (a .coefs .now)) (a .starts .now)
+    (same-rows (l .lay-starts .ensures) (rows .0) (rows .1 .0) (rows .1 .1 .0) (rows .1 .1 .1 .0) (rows .1 .1 .1 .1) (c .lay-entries .ensures .0) (c .lay-entries .ensures .1))
+
+pub lay-given-spec : {M : Type 1} → statement M
+lay-given-spec =
+    tie.close
+    (tie.spec
+    slice-aggregate-fill
+    fill-requires
+    slice-aggregate-lay-starts
+    lay-starts-requires
+    slice-aggregate-lay-rows
+    lay-rows-requires
+    slice-aggregate-lay-entries
+    lay-entries-requires
+    returns)

@@ -1,0 +1,220 @@
+// Which rows of a file are kept: each that is whole and good, makes a variable that none kept before it makes, and leaves the entries within 16,384.
+ghost use mathlib.Core.Bool.{true, cond, _&&_};
+ghost use mathlib.Core.List.{[]};
+ghost use mathlib.Core.Path.{_≡_};
+ghost use Prim.Native.Nat.{_+_, _≤_, _<_};
+ghost use lib.Dec.{leb};
+ghost use lib.ListN.{length, set};
+ghost use Rattle.paper.specs.Lists.{nat};
+ghost use Rattle.paper.specs.Tables.{lent};
+ghost use Rattle.paper.specs.File.{nIn, endsAt};
+ghost use Rattle.paper.specs.Demands.{cut};
+ghost use Rattle.paper.proofs.Sizes.{Sized};
+ghost use Rattle.kept.specs.Saved.{rowWhole, aloneGood, canKeep, keptRows};
+ghost use Rattle.kept.specs.Scratch.{Kept};
+ghost use Rattle.kept.specs.Keeping.{Gives, Taken};
+use files::ends_at;
+use files::entries_at;
+use integers::wide;
+use repeats::mark;
+use sound::table_checks;
+use tables::Answer;
+
+// The row is whole in the file.
+fn row_whole(bytes: &[u8], n: usize, row: usize) -> bool
+    requires { ⌜ (n ≡ nIn (now bytes)) × (n ≤ 4096) × (row < 4096) ⌝ }
+    ensures { λ r. ⌜ r ≡ rowWhole (now (bytes .entry)) row ⌝ }
+{
+    entries_at(n, row + 1) <= bytes.len()
+}
+
+// The entries of a row with this part are whole: they end within e and within the file.
+fn entries_whole(bytes: &[u8], n: usize, m: usize, e: usize, first: u16, count: u16) -> bool
+    requires { ⌜ (n ≤ 4096) × (m ≤ n) × (e ≤ 16384) ⌝ }
+    ensures { λ r. ⌜ r ≡ leb (first + count) e && leb (endsAt n m (first + count)) (length (now (bytes .entry))) ⌝ }
+{
+    let end = wide(first) + wide(count);
+    if e < end {
+        return false;
+    }
+    ends_at(n, m, end) <= bytes.len()
+}
+
+// The row is good on its own: checks 2 to 5 accept a table of this row alone.
+fn alone_good(
+    n: usize,
+    m: usize,
+    e: usize,
+    row: usize,
+    kinds: &[u16],
+    makes: &[u16],
+    params: &[i32],
+    firsts: &[u16],
+    counts: &[u16],
+    vars: &[u16],
+    coefs: &[i16],
+) -> bool
+    requires { ⌜ Sized (lent n m e (now kinds) (now makes) (now params) (now firsts) (now counts) (now vars) (now coefs)) ⌝ }
+    requires { ⌜ (row < m) × (nat (now firsts) row + nat (now counts) row ≤ e) ⌝ }
+    ensures { λ r. ⌜ r ≡ aloneGood (lent n m e (now (kinds .entry)) (now (makes .entry)) (now (params .entry)) (now (firsts .entry)) (now (counts .entry))
+        (now (vars .entry)) (now (coefs .entry))) row ⌝ }
+{
+    let next = row + 1;
+    let first = wide(firsts[row]);
+    let count = wide(counts[row]);
+    let end = first + count;
+    let none = [0u16; 1];
+    let told = table_checks(
+        n,
+        1,
+        count,
+        &kinds[row..next],
+        &makes[row..next],
+        &params[row..next],
+        &none,
+        &counts[row..next],
+        &vars[first..end],
+        &coefs[first..end],
+    );
+    let Answer::Accepted { .. } = told else {
+        return false;
+    };
+    true
+}
+
+// The row can be kept after those kept before it, whose variables are marked and whose entries are counted.
+fn can_keep(
+    bytes: &[u8],
+    n: usize,
+    m: usize,
+    e: usize,
+    row: usize,
+    kinds: &[u16],
+    makes: &[u16],
+    params: &[i32],
+    firsts: &[u16],
+    counts: &[u16],
+    vars: &[u16],
+    coefs: &[i16],
+    made: &[bool],
+    used: usize,
+) -> bool
+    requires { ⌜ Gives (now bytes) (lent n m e (now kinds) (now makes) (now params) (now firsts) (now counts) (now vars) (now coefs)) ⌝ }
+    requires { ⌜ row < m ⌝ }
+    requires { ⌜ Taken (now makes) (now counts) (keptRows (now bytes) row) (now made) used ⌝ }
+    ensures { λ r. ⌜ r ≡ canKeep (now (bytes .entry)) (keptRows (now (bytes .entry)) row) row ⌝ }
+{
+    let whole = row_whole(bytes, n, row) & entries_whole(bytes, n, m, e, firsts[row], counts[row]);
+    if !whole {
+        return false;
+    }
+    if !alone_good(
+        n,
+        m,
+        e,
+        row,
+        kinds,
+        makes,
+        params,
+        firsts,
+        counts,
+        vars,
+        coefs,
+    ) {
+        return false;
+    }
+    let v = wide(makes[row]);
+    let room = used + wide(counts[row]) <= 16384;
+    !made[v] & room
+}
+
+// Takes a row if it is kept: marks its variable, and answers how many entries there are with its own.
+fn take_row(kept: bool, v: u16, count: u16, made: &mut [bool], used: usize) -> usize
+    requires { ⌜ used ≤ 16384 ⌝ }
+    ensures { λ r. ⌜ (r ≡ cond kept (used + count) used) × (now (made .exit) ≡ cond kept (set (now (made .entry)) v true) (now (made .entry))) ⌝ }
+{
+    if !kept {
+        return used;
+    }
+    mark(v, made);
+    used + wide(count)
+}
+
+// Says of each row whether it is kept, where the tables are exactly those that the file gives.
+fn keep_each(
+    bytes: &[u8],
+    n: usize,
+    m: usize,
+    e: usize,
+    kinds: &[u16],
+    makes: &[u16],
+    params: &[i32],
+    firsts: &[u16],
+    counts: &[u16],
+    vars: &[u16],
+    coefs: &[i16],
+    stands: &mut [bool],
+)
+    requires { ⌜ Gives (now bytes) (lent n m e (now kinds) (now makes) (now params) (now firsts) (now counts) (now vars) (now coefs)) ⌝ }
+    requires { ⌜ m ≤ length (now stands) ⌝ }
+    ensures { λ _. ⌜ Kept (now (bytes .entry)) (lent n m e (now (kinds .entry)) (now (makes .entry)) (now (params .entry)) (now (firsts .entry)) (now (counts .entry))
+        (now (vars .entry)) (now (coefs .entry))) (now (stands .exit)) ⌝ }
+{
+    let mut made = [false; 4096];
+    let mut used = 0;
+    for row in 0..m {
+        let kept = can_keep(
+            bytes,
+            n,
+            m,
+            e,
+            row,
+            kinds,
+            makes,
+            params,
+            firsts,
+            counts,
+            vars,
+            coefs,
+            &made,
+            used,
+        );
+        stands[row] = kept;
+        used = take_row(kept, makes[row], counts[row], &mut made, used);
+    }
+}
+
+// Says of each row whether it is kept, where the tables may be longer than the counts.
+pub fn keep_rows(
+    bytes: &[u8],
+    n: usize,
+    m: usize,
+    e: usize,
+    kinds: &[u16],
+    makes: &[u16],
+    params: &[i32],
+    firsts: &[u16],
+    counts: &[u16],
+    vars: &[u16],
+    coefs: &[i16],
+    stands: &mut [bool; 4096],
+)
+    requires { ⌜ Gives (now bytes) (cut (lent n m e (now kinds) (now makes) (now params) (now firsts) (now counts) (now vars) (now coefs), []) .0) ⌝ }
+    ensures { λ _. ⌜ Kept (now (bytes .entry)) (lent n m e (now (kinds .entry)) (now (makes .entry)) (now (params .entry)) (now (firsts .entry)) (now (counts .entry))
+        (now (vars .entry)) (now (coefs .entry))) (now (stands .exit)) ⌝ }
+{
+    keep_each(
+        bytes,
+        n,
+        m,
+        e,
+        &kinds[0..m],
+        &makes[0..m],
+        &params[0..m],
+        &firsts[0..m],
+        &counts[0..m],
+        &vars[0..e],
+        &coefs[0..e],
+        stands,
+    );
+}

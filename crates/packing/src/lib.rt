@@ -1,0 +1,12 @@
+// Rows that flags say: listed, copied one after another with their parts, and dropped if what they make can have no topological number.
+mod choose;
+mod copy;
+mod number;
+
+pub use choose::count_flagged;
+pub use choose::list_flagged;
+pub use copy::pack;
+pub use copy::pack_coefs;
+pub use copy::pack_shape;
+pub use copy::pack_signed;
+pub use number::drop_rows;

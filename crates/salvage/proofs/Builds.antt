@@ -1,0 +1,133 @@
+-- What is saved is read back and built: its rows are sound tables in which every chain ends, its start values are good, and each number fits
+-- its field. Assumes nothing.
+use Prim.Native.Nat.{ℕ, _<_}
+use native.Mathlib.Nat.{le-refl}
+use native.Mathlib.Omega.{arith}
+use mathlib.Core.Bool.{Bool, true, false, cond, not}
+use mathlib.Core.List.{List}
+use mathlib.Core.Path.{_≡_, refl, ap, sym, _∙_, subst}
+use lib.Dec.{eqb}
+use lib.IntN.{ℤ, pos}
+use lib.ListN.{getD}
+use lib.Seq.{getD-take}
+use mir.Syntax.{w32}
+use mir.Val.{SFits}
+use mir.Facts.{sfits-lit}
+use Rattle.integers.specs.Integers.{eqZ}
+use Rattle.paper.specs.Lists.{any, nat, those}
+use Rattle.paper.specs.Formula.{blank}
+use Rattle.paper.specs.Tables.{Tables, isMade, ends, valuesIn}
+use Rattle.paper.specs.Checks.{accepted, sized, startGood, Sound}
+use Rattle.paper.specs.Calls.{BuildLent, startValues, buildFits, buildVerdict}
+use Rattle.paper.specs.File.{held, nIn, mIn, eIn}
+use Rattle.paper.specs.Demands.{Fitting, cut}
+use Rattle.paper.proofs.Lists.{and-left, and-right}
+use Rattle.paper.proofs.Buffers.{length-below, getD-below}
+use Rattle.paper.proofs.Verdicts.{check-next, require-next}
+use Rattle.paper.proofs.Sizes.{held-of}
+use Rattle.paper.proofs.Accept.{tables-next}
+use Rattle.paper.proofs.Reread.{reread, cut-back}
+use Rattle.kept.specs.Saved.{packed, given, startGiven, keptRows, stands, startWhole, savedTables, startKept, savedStarts, savedFile}
+use Rattle.salvage.specs.Promises.{Readable, Builds, SalvageBuilds}
+use Rattle.kept.proofs.Packed.{Rows, packed-sized, packed-sound}
+use Rattle.kept.proofs.Given.{vars-long, coefs-long, given-fits}
+use Rattle.kept.proofs.Kept.{those-at, any-those, keeps, kept-those, rows-kept}
+use Rattle.salvage.proofs.Bare.{bare-sound, sound-bare, bare-ends, bare-starts}
+use Rattle.salvage.proofs.Ends.{all-end}
+use Rattle.salvage.proofs.Fits.{packed-fits}
+
+-- build accepts sound tables in which every chain ends, with good start values, in any rows that are long enough
+build-accepts : (t : Tables) (starts : List ℤ) → Sound t → ((v : ℕ) → ends t v ≡ true) → ((v : ℕ) → v < t .n → startGood t (valuesIn t starts) v ≡ true)
+    → (b : BuildLent) → cut (b .tables, b .starts) ≡ cut (t, starts) → buildFits b ≡ true → buildVerdict b ≡ accepted
+unfolding buildVerdict
+build-accepts t starts sound chains good b e fits =
+    require-next 1 0 (buildFits b) _ fits ∙ tables-next u own _ ∙ check-next 6 (u .n) (ends u) _ own-chains ∙ check-next 7 (u .n) (startGood u (startValues b)) accepted own-good
+  where
+    u : Tables
+    u = b .tables
+
+    own : Sound (b .tables)
+    own = sound-bare (b .tables) (and-left (sized (b .tables)) _ fits) (subst (λ x. Sound (x .0)) (sym e) (bare-sound t sound))
+
+    own-chains : (v : ℕ) → v < b .tables .n → ends (b .tables) v ≡ true
+    own-chains v l = sym (bare-ends (b .tables) own v) ∙ ap (λ x. ends (x .0) v) e ∙ bare-ends t sound v ∙ chains v
+
+    own-good : (v : ℕ) → v < b .tables .n → startGood (b .tables) (startValues b) v ≡ true
+    own-good v l =
+        sym (bare-starts (b .tables) (b .starts) v) ∙ ap (λ x. startGood (x .0) (valuesIn (x .0) (x .1)) v) e
+        ∙ bare-starts t starts v ∙ good v (rw (ap (λ (x : Tables × List ℤ). x .0 .n) e) at l)
+
+module _ (bytes : List ℕ) (ok : Readable bytes) where
+  abbrev t : Tables
+  t = given bytes
+
+  abbrev m : ℕ
+  m = mIn bytes
+
+  abbrev S : Tables
+  S = savedTables bytes
+
+  -- ── the rows ──
+  stands-keeps : (r : ℕ) → r < m → stands bytes r ≡ true → keeps bytes r ≡ true
+  stands-keeps r l e = sym (any-those (keeps bytes) m r l) ∙ ap (any (eqb r)) (sym (kept-those bytes m)) ∙ and-left _ _ e
+
+  kept : Rows t (those (keeps bytes) m)
+  kept = rows-kept bytes (ok .head) (keeps bytes) m (λ r l e. e)
+
+  left : Rows t (those (stands bytes) m)
+  left = rows-kept bytes (ok .head) (stands bytes) m stands-keeps
+
+  sound : Sound S
+  sound = packed-sound t (those (stands bytes) m) left
+
+  top : (r : ℕ) → r < m → stands bytes r ≡ true → ends (packed t (those (keeps bytes) m)) (nat (t .makes) r) ≡ true
+  top r l e = subst (λ rows. ends (packed t rows) (nat (t .makes) r) ≡ true) (kept-those bytes m) (and-right (any (eqb r) (keptRows bytes m)) _ e)
+
+  chains : (v : ℕ) → ends S v ≡ true
+  chains = all-end t (stands bytes) (keeps bytes) m stands-keeps kept left top
+
+  -- ── the start values ──
+  value : (v : ℕ) → v < nIn bytes → getD (savedStarts bytes) v (pos 0) ≡ cond (startKept bytes v) (getD (startGiven bytes) v (pos 0)) (pos 0)
+  value v l = getD-below (λ u. cond (startKept bytes u) (getD (startGiven bytes) u (pos 0)) (pos 0)) (nIn bytes) v (pos 0) l
+
+  starts-good : (v : ℕ) → v < nIn bytes → startGood S (valuesIn S (savedStarts bytes)) v ≡ true
+  starts-good v l = ap good (getD-take (nIn bytes) (savedStarts bytes) v (pos 0) l ∙ value v l) ∙ go (startKept bytes v) refl
+    where
+      good : ℤ → Bool
+      good x = cond (isMade S v) (eqZ x (pos 0)) (not (eqZ x blank))
+
+      zero-good : (b : Bool) → cond b (eqZ (pos 0) (pos 0)) (not (eqZ (pos 0) blank)) ≡ true
+      zero-good true = refl
+      zero-good false = refl
+
+      go : (b : Bool) → startKept bytes v ≡ b → good (cond b (getD (startGiven bytes) v (pos 0)) (pos 0)) ≡ true
+      go true e = ap good (sym (getD-take (nIn bytes) (startGiven bytes) v (pos 0) l)) ∙ and-right (startWhole bytes v) (startGood S (valuesIn S (startGiven bytes)) v) e
+      go false e = zero-good (isMade S v)
+
+  -- ── the file ──
+  start-fits : (v : ℕ) → v < nIn bytes → SFits w32 (getD (savedStarts bytes) v (pos 0))
+  start-fits v l = subst (SFits w32) (sym (value v l)) (go (startKept bytes v))
+    where
+      go : (b : Bool) → SFits w32 (cond b (getD (startGiven bytes) v (pos 0)) (pos 0))
+      go true = given-fits bytes (ok .small) .starts v l
+      go false = sfits-lit tt
+
+  fits : Fitting S (savedStarts bytes)
+  fits =
+      packed-fits t (startGiven bytes) (given-fits bytes (ok .small)) (those (stands bytes) m) left (λ k l. those-at (stands bytes) m k l .low)
+      (rw (vars-long bytes) (le-refl (eIn bytes))) (rw (coefs-long bytes) (le-refl (eIn bytes))) (savedStarts bytes) start-fits
+
+  holds : held S (savedStarts bytes) ≡ true
+  holds = held-of S (savedStarts bytes) (packed-sized t (those (stands bytes) m) left) (let h = length-below (λ u. cond (startKept bytes u) (getD (startGiven bytes) u (pos 0)) (pos 0)) (nIn bytes) in omega arith)
+
+  pub builds : Builds bytes
+  unfolding savedFile
+  builds = record {
+    reads = λ t₀ starts₀ h.
+        subst (λ back. (back .0 ≡ accepted) × (cut (back .1) ≡ cut (S, savedStarts bytes))) (reread S (savedStarts bytes) holds fits t₀ starts₀ h)
+        (refl, cut-back S (savedStarts bytes) holds fits t₀ starts₀);
+    builds = build-accepts S (savedStarts bytes) sound chains starts-good;
+  }
+
+pub salvage-builds : SalvageBuilds
+salvage-builds = builds

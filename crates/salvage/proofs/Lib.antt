@@ -1,0 +1,9 @@
+pub mod Ends
+pub mod Fits
+pub mod Bare
+pub mod Builds
+pub mod All
+pub mod Same
+pub mod Outcome
+pub mod Starts
+pub mod Judging

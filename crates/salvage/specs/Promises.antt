@@ -1,0 +1,38 @@
+-- What holds of what is saved, whatever the bytes are: build accepts it, and a file that was not damaged comes back. `proofs/Builds` and
+-- `proofs/Same` prove it. Assumes nothing.
+use Prim.Native.Nat.{ℕ, _<_}
+use mathlib.Core.Bool.{true}
+use mathlib.Core.List.{List, []}
+use mathlib.Core.Path.{_≡_}
+use lib.IntN.{ℤ}
+use Rattle.paper.specs.Lists.{nat}
+use Rattle.paper.specs.Tables.{Tables}
+use Rattle.paper.specs.Checks.{accepted}
+use Rattle.paper.specs.Calls.{BuildLent, buildFits, buildVerdict}
+use Rattle.paper.specs.Demands.{cut}
+use Rattle.paper.specs.File.{held, counted, headed, read}
+use Rattle.kept.specs.Saved.{savedTables, savedStarts, savedFile, savedList}
+
+-- the bytes are bytes, and the header's version and counts are right
+pub record Readable (bytes : List ℕ) : Type 0 where
+  pub small : (i : ℕ) → nat bytes i < 256
+  pub head : headed bytes accepted ≡ accepted
+
+-- the saved file is read, by rows that hold it, to the saved tables and start values, and build accepts these, in any rows that are long enough
+pub record Builds (bytes : List ℕ) : Type 0 where
+  pub reads : (t : Tables) (starts : List ℤ) → let s = savedTables bytes in held (counted (s .n) (s .m) (s .e) t) starts ≡ true
+      → (read (savedFile bytes) t starts .0 ≡ accepted) × (cut (read (savedFile bytes) t starts .1) ≡ cut (s, savedStarts bytes))
+  pub builds : (b : BuildLent) → cut (b .tables, b .starts) ≡ cut (savedTables bytes, savedStarts bytes) → buildFits b ≡ true → buildVerdict b ≡ accepted
+
+-- a file that reading and build accept comes back the same, and nothing is listed
+pub record Same (bytes : List ℕ) : Type 0 where
+  pub file : savedFile bytes ≡ bytes
+  pub none : savedList bytes ≡ []
+
+abbrev pub SalvageBuilds : Type 0
+SalvageBuilds = (bytes : List ℕ) → Readable bytes → Builds bytes
+
+abbrev pub UndamagedSame : Type 0
+UndamagedSame =
+    (bytes : List ℕ) → ((i : ℕ) → nat bytes i < 256) → (t : Tables) (starts : List ℤ) → read bytes t starts .0 ≡ accepted
+    → (b : BuildLent) → (b .tables, b .starts) ≡ read bytes t starts .1 → buildVerdict b ≡ accepted → Same bytes

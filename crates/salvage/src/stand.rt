@@ -1,0 +1,203 @@
+// What a file gives, and which of its rows stand.
+ghost use mathlib.Core.Path.{_≡_};
+ghost use Prim.Native.Nat.{_≤_};
+ghost use lib.ListN.{length, take};
+ghost use Rattle.paper.specs.Tables.{lent};
+ghost use Rattle.paper.specs.Checks.{accepted};
+ghost use Rattle.paper.specs.File as File;
+ghost use Rattle.kept.specs.Saved.{startGiven};
+ghost use Rattle.salvage.specs.Salvage.{lends, left};
+ghost use Rattle.salvage.specs.Salvage as Salvage;
+ghost use Rattle.kept.specs.Scratch.{Laid, Kept};
+ghost use Rattle.kept.specs.Keeping.{Gives};
+use crate::Salvaged;
+use crate::save::save;
+use kept::keep_rows;
+use kept::lay_given;
+use packing::drop_rows;
+
+// Salvages what a file gives, where `row` says which of its rows are kept.
+fn salvage_kept(
+    bytes: &[u8],
+    n: usize,
+    m: usize,
+    e: usize,
+    starts: &mut [i32],
+    kinds: &[u16],
+    makes: &[u16],
+    params: &[i32],
+    firsts: &[u16],
+    counts: &[u16],
+    vars: &[u16],
+    coefs: &[i16],
+    row: &mut [bool; 4096],
+    file: &mut [u8],
+    list: &mut [u16],
+) -> Salvaged
+    requires gives { ⌜ Gives (now bytes) (lent n m e (now kinds) (now makes) (now params) (now firsts) (now counts) (now vars) (now coefs)) ⌝ }
+    requires kept { ⌜ Kept (now bytes) (lent n m e (now kinds) (now makes) (now params) (now firsts) (now counts) (now vars) (now coefs)) (now row) ⌝ }
+    requires values { ⌜ (n ≤ length (now starts)) × (take n (now starts) ≡ startGiven (now bytes)) ⌝ }
+    ensures { λ r. ⌜ left r (now (file .exit)) (now (list .exit)) ≡ Salvage.salvage (lends (now (bytes .entry)) (now (file .entry)) (now (list .entry))) ⌝ }
+{
+    drop_rows(n, m, makes, firsts, counts, vars, row);
+    save(
+        bytes,
+        n,
+        starts,
+        kinds,
+        makes,
+        params,
+        firsts,
+        counts,
+        vars,
+        coefs,
+        row,
+        file,
+        list,
+    )
+}
+
+// Salvages what a file gives, laid over rows.
+fn salvage_cut(
+    bytes: &[u8],
+    n: usize,
+    m: usize,
+    e: usize,
+    starts: &mut [i32],
+    kinds: &[u16],
+    makes: &[u16],
+    params: &[i32],
+    firsts: &[u16],
+    counts: &[u16],
+    vars: &[u16],
+    coefs: &[i16],
+    file: &mut [u8],
+    list: &mut [u16],
+) -> Salvaged
+    requires { ⌜ Laid (now bytes) (lent n m e (now kinds) (now makes) (now params) (now firsts) (now counts) (now vars) (now coefs)) (now starts) ⌝ }
+    ensures { λ r. ⌜ left r (now (file .exit)) (now (list .exit)) ≡ Salvage.salvage (lends (now (bytes .entry)) (now (file .entry)) (now (list .entry))) ⌝ }
+{
+    let mut row = [false; 4096];
+    keep_rows(
+        bytes,
+        n,
+        m,
+        e,
+        kinds,
+        makes,
+        params,
+        firsts,
+        counts,
+        vars,
+        coefs,
+        &mut row,
+    );
+    salvage_kept(
+        bytes,
+        n,
+        m,
+        e,
+        starts,
+        &kinds[0..m],
+        &makes[0..m],
+        &params[0..m],
+        &firsts[0..m],
+        &counts[0..m],
+        &vars[0..e],
+        &coefs[0..e],
+        &mut row,
+        file,
+        list,
+    )
+}
+
+// Salvages what a file gives, laid over scratch rows, whose length is known here.
+fn salvage_laid(
+    bytes: &[u8],
+    n: usize,
+    m: usize,
+    e: usize,
+    starts: &mut [i32; 4096],
+    kinds: &[u16; 4096],
+    makes: &[u16; 4096],
+    params: &[i32; 4096],
+    firsts: &[u16; 4096],
+    counts: &[u16; 4096],
+    vars: &[u16; 16384],
+    coefs: &[i16; 16384],
+    file: &mut [u8],
+    list: &mut [u16],
+) -> Salvaged
+    requires { ⌜ Laid (now bytes) (lent n m e (now kinds) (now makes) (now params) (now firsts) (now counts) (now vars) (now coefs)) (now starts) ⌝ }
+    ensures { λ r. ⌜ left r (now (file .exit)) (now (list .exit)) ≡ Salvage.salvage (lends (now (bytes .entry)) (now (file .entry)) (now (list .entry))) ⌝ }
+{
+    salvage_cut(
+        bytes,
+        n,
+        m,
+        e,
+        starts,
+        kinds,
+        makes,
+        params,
+        firsts,
+        counts,
+        vars,
+        coefs,
+        file,
+        list,
+    )
+}
+
+// Salvages a file whose version and counts are right.
+pub fn salvage_given(
+    bytes: &[u8],
+    n: usize,
+    m: usize,
+    e: usize,
+    file: &mut [u8],
+    list: &mut [u16],
+) -> Salvaged
+    requires counts { ⌜ (n ≡ File.nIn (now bytes)) × (m ≡ File.mIn (now bytes)) × (e ≡ File.eIn (now bytes)) ⌝ }
+    requires head { ⌜ File.headed (now bytes) accepted ≡ accepted ⌝ }
+    ensures { λ r. ⌜ left r (now (file .exit)) (now (list .exit)) ≡ Salvage.salvage (lends (now (bytes .entry)) (now (file .entry)) (now (list .entry))) ⌝ }
+{
+    let mut starts = [0i32; 4096];
+    let mut kinds = [0u16; 4096];
+    let mut makes = [0u16; 4096];
+    let mut params = [0i32; 4096];
+    let mut firsts = [0u16; 4096];
+    let mut counts = [0u16; 4096];
+    let mut vars = [0u16; 16384];
+    let mut coefs = [0i16; 16384];
+    lay_given(
+        bytes,
+        n,
+        m,
+        e,
+        &mut starts,
+        &mut kinds,
+        &mut makes,
+        &mut params,
+        &mut firsts,
+        &mut counts,
+        &mut vars,
+        &mut coefs,
+    );
+    salvage_laid(
+        bytes,
+        n,
+        m,
+        e,
+        &mut starts,
+        &kinds,
+        &makes,
+        &params,
+        &firsts,
+        &counts,
+        &vars,
+        &coefs,
+        file,
+        list,
+    )
+}
