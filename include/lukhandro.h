@@ -41,10 +41,15 @@
  * other call touches them. The 65th move pushes out the oldest: then every move comes one place forward, with all of its
  * 64 places. What stands behind the moves and behind a move's pairs means nothing.
  *
+ * THE RECORD needs no content before build. Lend the same record with the same stored values to every other call: its
+ * blanks is always how many of the n stored values are blank, at a glance. To try a move on other stored values lend a
+ * copy of the record with their number of blanks.
+ *
  * VALUES lie in -2,147,483,647 to 2,147,483,647; LUKHANDRO_BLANK is no value.
  *
  * REFUSALS. Number 0 is accepted. Any other number is a refusal: the call has changed no byte that it was lent, and
- * place is the smallest row, variable, pair, asked index or byte that offends. Numbers are the specification's, 1 to 16:
+ * place is the smallest row, variable, pair, asked index or byte that offends. Numbers are the specification's, 1 to 16
+ * and 19:
  *    1 a count outside its bound or a short buffer     8 numbers, order or readers that build does not give
  *    2 no such kind                                    9 no such route
  *    3 variable, input count or part of a row         10 a pair names a made variable or none
@@ -56,7 +61,9 @@
  *      than 64 or than the record's number kept, a
  *      move of more than 64 pairs, a made variable,
  *      one not below n, one twice in a move, or a blank
- * Checks run in ascending number, but 8 comes before 7, and 16 before 15.
+ *   19 the record's blanks is not how many of the n stored values are blank, place 0: lend the record and the stored
+ *      values that the calls left, together
+ * Checks run in ascending number, but 8 and then 19 come before 7, and 16 before 15.
  *
  * STACK. On the deepest models, chains of 4,095 rows, a program that makes this call and no other needs a stack of
  *     lukhandro_build                          480 KiB
@@ -84,11 +91,12 @@ extern "C" {
 #define LUKHANDRO_LOG_SIZES 65
 #define LUKHANDRO_LOG_PLACES 4096
 
-/* The session record. Build sets 0 and m, a trial its evaluations, keep and taking back both. Kept stops at
- * 4,294,967,295, and does not fall from there. */
+/* The session record. Build sets 0, m and the number of blanks, a trial its evaluations, keep and taking back all three.
+ * Kept stops at 4,294,967,295, and does not fall from there. */
 typedef struct {
     uint32_t kept;        /* moves kept and not taken back */
     uint32_t evaluations; /* evaluations of the last accepted call */
+    uint32_t blanks;      /* how many of the n stored values are blank */
 } lukhandro_session;
 
 typedef struct {
@@ -123,7 +131,7 @@ lukhandro_outcome lukhandro_build(
     uint16_t *reader_places, size_t reader_places_length, uint16_t *log_sizes, size_t log_sizes_length);
 
 /* Tries a move by a route (1 input to output, 2 output to input, 3 mark-guided) on what the calls left, and fills
- * results, trial and flags; stored values stay. Refusals 1 to 13 without 6, 8 before 7. */
+ * results, trial and flags; stored values stay. Refusals 1 to 13 without 6, and 19; 8 and then 19 before 7. */
 lukhandro_outcome lukhandro_trial(
     lukhandro_session *session, size_t n, size_t m, size_t e,
     const uint16_t *kinds, size_t kinds_length, const uint16_t *makes, size_t makes_length,
@@ -140,7 +148,7 @@ lukhandro_outcome lukhandro_trial(
     uint8_t *flags, size_t flags_length);
 
 /* Keeps a move by route 1: changes stored, fills flags, and notes the move in the log. Refusals 1 to 12 without 6 and 9,
- * 8 before 7, then 16. */
+ * 8 and then 19 before 7, then 16. */
 lukhandro_outcome lukhandro_keep(
     lukhandro_session *session, size_t n, size_t m, size_t e,
     const uint16_t *kinds, size_t kinds_length, const uint16_t *makes, size_t makes_length,
@@ -157,7 +165,8 @@ lukhandro_outcome lukhandro_keep(
 
 /* Takes the latest kept move back by route 1: its variables get the values that they had before it. Changes stored, fills
  * flags, and takes the move off the log (it writes log_sizes[0]); what keep then notes takes its room. Over values and a
- * log that the calls left, stored is exactly what it was before that move. Refusals 1 to 5, 8, 7, 16 and 15. */
+ * log that the calls left, stored is exactly what it was before that move. Refusals 1 to 5, 8, 19, 7, 16 and
+ * 15. */
 lukhandro_outcome lukhandro_take_back(
     lukhandro_session *session, size_t n, size_t m, size_t e,
     const uint16_t *kinds, size_t kinds_length, const uint16_t *makes, size_t makes_length,

@@ -178,7 +178,7 @@ def built(starts, lines, entries):
 
 # ── build, trial, keep and taking back, over what they are lent ──
 def build_left(counts, columns, starts, record, numbered, order, stored, reader_starts, reader_places, log_sizes):
-    """What a build leaves: answer (number, place, evaluations), record (moves kept, evaluations), numbers, order, stored values, the starts and
+    """What a build leaves: answer (number, place, evaluations), record (moves kept, evaluations, blanks), numbers, order, stored values, the starts and
     the places of the index of readers, and the sizes of the log. The columns of the tables are lent one by one, each of its own length: kinds, made variables, parameters,
     firsts, counts; entry variables, coefficients."""
     n, m, e = counts
@@ -193,7 +193,7 @@ def build_left(counts, columns, starts, record, numbered, order, stored, reader_
         return (bad + (0,),) + before
     known, values = built(*model)
     first, rows = index(n, *model[1:])
-    return ((0, 0, m), (0, m), filled(known, numbered), filled(in_order(known, model[1]), order), filled(values, stored), filled(first, reader_starts),
+    return ((0, 0, m), (0, m, values.count(BLANK)), filled(known, numbered), filled(in_order(known, model[1]), order), filled(values, stored), filled(first, reader_starts),
             filled(rows, reader_places), filled([0], log_sizes))
 
 
@@ -246,8 +246,13 @@ def rightly_indexed(lent):
     return lent.starts[:lent.n + 1] == starts and lent.places[:len(places)] == places
 
 
-def lent_refusal(lent, pairs, move_vars, move_values, asked=0, asked_vars=(), route=1, rooms=()):
-    """Checks 1 to 5, 8, 7 and 9 to 13. A keep asks nothing, by route 1, and a taking back moves nothing either. `rooms` has (length, least length) of the rows to be filled."""
+def blank_values(lent):
+    """How many of the stored values of a model are blank."""
+    return lent.stored[:lent.n].count(BLANK)
+
+
+def lent_refusal(lent, record, pairs, move_vars, move_values, asked=0, asked_vars=(), route=1, rooms=()):
+    """Checks 1 to 5, 8, 19, 7 and 9 to 13. A keep asks nothing, by route 1, and a taking back moves nothing either. `rooms` has (length, least length) of the rows to be filled."""
     n, m, e = lent.n, lent.m, lent.e
     if not (1 <= n <= 4096 and m <= n and e <= 16384 and pairs <= 64 and asked <= 32):
         return 1, 0
@@ -262,6 +267,8 @@ def lent_refusal(lent, pairs, move_vars, move_values, asked=0, asked_vars=(), ro
         return bad
     if not (rightly_numbered(lent) and rightly_indexed(lent)):
         return 8, 0
+    if record[2] != blank_values(lent):
+        return 19, 0
     made = {line[1] for line in lent.lines}
     for v in range(n):
         if v not in made and lent.stored[v] == BLANK:
@@ -335,8 +342,8 @@ def filled(front, row):
 
 
 def tried(lent, record, pairs, move_vars, move_values, asked, asked_vars, route, results, trial, flags):
-    """What a trial leaves: answer (number, place, evaluations), record (moves kept, evaluations), results, trial row, flags."""
-    bad = lent_refusal(lent, pairs, move_vars, move_values, asked, asked_vars, route,
+    """What a trial leaves: answer (number, place, evaluations), record (moves kept, evaluations, blanks), results, trial row, flags."""
+    bad = lent_refusal(lent, record, pairs, move_vars, move_values, asked, asked_vars, route,
                        [(len(results), asked), (len(trial), lent.n), (len(flags), lent.n)])
     if bad:
         return bad + (0,), record, results, trial, flags
@@ -344,7 +351,7 @@ def tried(lent, record, pairs, move_vars, move_values, asked, asked_vars, route,
     row, evaluated = routed(lent, route, move, wanted)
     count, old = len(evaluated), lent.stored
     left = [row[v] if v in move or v in evaluated else old[v] for v in range(lent.n)]
-    return ((0, 0, count), (record[0], count), filled([row[v] for v in wanted], results), filled(left, trial),
+    return ((0, 0, count), (record[0], count, record[2]), filled([row[v] for v in wanted], results), filled(left, trial),
             filled([int(v in evaluated) for v in range(lent.n)], flags))
 
 
@@ -390,12 +397,12 @@ def changed(lent, kept, move, flags, log):
     """What a move leaves by route 1, with that number kept and that log: answer, record, stored values, flags, log."""
     row, evaluated = routed(lent, 1, move, [])
     count = len(evaluated)
-    return (0, 0, count), (kept, count), filled(row, lent.stored), filled([int(v in evaluated) for v in range(lent.n)], flags), log
+    return (0, 0, count), (kept, count, row.count(BLANK)), filled(row, lent.stored), filled([int(v in evaluated) for v in range(lent.n)], flags), log
 
 
 def kept_move(lent, record, pairs, move_vars, move_values, flags, log):
     """What a keep leaves: answer, record, stored values, flags, log."""
-    bad = lent_refusal(lent, pairs, move_vars, move_values, rooms=[(len(flags), lent.n)] + log.rooms())
+    bad = lent_refusal(lent, record, pairs, move_vars, move_values, rooms=[(len(flags), lent.n)] + log.rooms())
     if not bad and log.unfit(lent, record[0]):
         bad = 16, 0
     if bad:
@@ -406,7 +413,7 @@ def kept_move(lent, record, pairs, move_vars, move_values, flags, log):
 
 def taken_back(lent, record, flags, log):
     """What taking back the latest kept move leaves: answer, record, stored values, flags, log."""
-    bad = lent_refusal(lent, 0, [], [], rooms=[(len(flags), lent.n)] + log.rooms())
+    bad = lent_refusal(lent, record, 0, [], [], rooms=[(len(flags), lent.n)] + log.rooms())
     if not bad and log.unfit(lent, record[0]):
         bad = 16, 0
     if not bad and log.sizes[0] == 0:
@@ -424,20 +431,20 @@ def moves_of(move_pairs, move_vars, move_values):
     return [(pairs, move_vars[end - pairs:end], move_values[end - pairs:end]) for pairs, end in zip(move_pairs, ends)]
 
 
-def figured(lent, moves, move_pairs, move_vars, move_values, asked, by_number):
-    """The figures of a batch, None if it is refused, and the row of counts by number that is left. The figures are blank results; least, greatest and
+def figured(lent, record, moves, move_pairs, move_vars, move_values, asked, by_number):
+    """The figures of a batch over a record, None if it is refused, and the row of counts by number that is left. The figures are blank results; least, greatest and
     sum of those that have a value; evaluations by each route."""
-    if moves > 1000 or len(move_pairs) < moves or len(by_number) < 14:
+    if moves > 1000 or len(move_pairs) < moves or len(by_number) < 20:
         return None, by_number
     answers, results = [], []
     for move in moves_of(move_pairs[:moves], move_vars, move_values):
-        left = [tried(lent, (0, 0), *move, 1, [asked], route, [0], [0] * lent.n, [0] * lent.n) for route in (1, 2, 3)]
+        left = [tried(lent, record, *move, 1, [asked], route, [0], [0] * lent.n, [0] * lent.n) for route in (1, 2, 3)]
         answers.append([answer for answer, *_ in left])
         results += left[0][2] if left[0][0][0] == 0 else []
     values, numbers = [x for x in results if x != BLANK], [first[0] for first, *_ in answers]
     figures = (len(results) - len(values), min(values, default=BLANK), max(values, default=BLANK), sum(values),
                *[sum(by_route[i][2] for by_route in answers) for i in range(3)])
-    return figures, filled([numbers.count(k) for k in range(14)], by_number)
+    return figures, filled([numbers.count(k) for k in range(20)], by_number)
 
 
 # ── what `values` prints ──

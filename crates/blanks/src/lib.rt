@@ -1,9 +1,11 @@
-// Blank, the number that is no value, and exact arithmetic, whose result is blank where it leaves the range.
-ghost use Prim.Native.Nat.{_+_, _<_};
+// Blank, the number that is no value, how many values are blank, and exact arithmetic, whose result is blank where it leaves the range.
+ghost use Prim.Native.Nat.{_+_, _≤_, _<_};
 ghost use mathlib.Core.Path.{_≡_};
-ghost use lib.IntN.{_+ℤ_, _-ℤ_, _*ℤ_};
+ghost use lib.IntN.{pos, _+ℤ_, _-ℤ_, _*ℤ_};
+ghost use lib.ListN.{length, getD};
 ghost use Rattle.integers.specs.Integers.{away, eqZ};
 ghost use Rattle.paper.specs.Formula.{blank, fit};
+ghost use Rattle.paper.specs.Calls.{blanksAmong};
 
 // No value.
 pub const BLANK: i32 = -2147483648;
@@ -13,6 +15,20 @@ pub fn is_blank(value: i32) -> bool
     ensures { λ r. ⌜ r ≡ eqZ value blank ⌝ }
 {
     value == BLANK
+}
+
+// How many of the first n values are blank.
+pub fn blanks_among(n: usize, values: &[i32]) -> u32
+    requires { ⌜ (n ≤ length (now values)) × (n ≤ 4096) ⌝ }
+    ensures { λ r. ⌜ r ≡ blanksAmong n (λ v. getD (now (values .entry)) v (pos 0)) ⌝ }
+{
+    let mut count: u32 = 0;
+    for v in 0..n {
+        if is_blank(values[v]) {
+            count += 1;
+        }
+    }
+    count
 }
 
 // The exact result, or blank where it leaves the range.

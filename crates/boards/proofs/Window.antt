@@ -19,7 +19,7 @@ module _ (s e h : ℤ) where
   -- what build is lent
   abbrev pub oneWindow : BuildLent
   oneWindow = record {
-    session = record { kept = 0; evaluations = 0 };
+    session = record { kept = 0; evaluations = 0; blanks = 0 };
     tables = lent 4 1 3 (8 ∷ []) (3 ∷ []) (pos 0 ∷ []) (0 ∷ []) (3 ∷ []) (0 ∷ 1 ∷ 2 ∷ []) (pos 1 ∷ pos 1 ∷ pos 1 ∷ []);
     starts = s ∷ e ∷ h ∷ pos 0 ∷ [];
     numbers = replicate 4 0;

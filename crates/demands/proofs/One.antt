@@ -28,14 +28,14 @@ use Rattle.demands.proofs.Judged.{judged, judged-then, lineNumber, work
 pub build-numbers : (l : BuildLent) → map lineNumber (buildTable l) ≡ 1 ∷ 2 ∷ 3 ∷ 3 ∷ 4 ∷ 5 ∷ 6 ∷ 7 ∷ []
 build-numbers l = refl
 
-pub trial-numbers : (w : Model) (c : Tried) → map lineNumber (trialTable w c) ≡ 1 ∷ 2 ∷ 3 ∷ 3 ∷ 4 ∷ 5 ∷ 8 ∷ 8 ∷ 7 ∷ 9 ∷ 10 ∷ 11 ∷ 12 ∷ 13 ∷ []
-trial-numbers w c = refl
+pub trial-numbers : (s : Session) (w : Model) (c : Tried) → map lineNumber (trialTable s w c) ≡ 1 ∷ 2 ∷ 3 ∷ 3 ∷ 4 ∷ 5 ∷ 8 ∷ 8 ∷ 19 ∷ 7 ∷ 9 ∷ 10 ∷ 11 ∷ 12 ∷ 13 ∷ []
+trial-numbers s w c = refl
 
 module _ (s : Session) (g : Log) (w : Model) where
-  pub keep-numbers : (c : Kept) → map lineNumber (keepTable s g w c) ≡ 1 ∷ 2 ∷ 3 ∷ 3 ∷ 4 ∷ 5 ∷ 8 ∷ 8 ∷ 7 ∷ 10 ∷ 11 ∷ 12 ∷ 16 ∷ []
+  pub keep-numbers : (c : Kept) → map lineNumber (keepTable s g w c) ≡ 1 ∷ 2 ∷ 3 ∷ 3 ∷ 4 ∷ 5 ∷ 8 ∷ 8 ∷ 19 ∷ 7 ∷ 10 ∷ 11 ∷ 12 ∷ 16 ∷ []
   keep-numbers c = refl
 
-  pub take-numbers : (flags : List ℕ) → map lineNumber (takeTable s g w flags) ≡ 1 ∷ 2 ∷ 3 ∷ 3 ∷ 4 ∷ 5 ∷ 8 ∷ 8 ∷ 7 ∷ 16 ∷ 15 ∷ []
+  pub take-numbers : (flags : List ℕ) → map lineNumber (takeTable s g w flags) ≡ 1 ∷ 2 ∷ 3 ∷ 3 ∷ 4 ∷ 5 ∷ 8 ∷ 8 ∷ 19 ∷ 7 ∷ 16 ∷ 15 ∷ []
   take-numbers flags = refl
 
 -- ── each verdict is its table's ──
@@ -43,9 +43,9 @@ build-table : (l : BuildLent) → buildVerdict l ≡ judged (buildTable l)
 unfolding buildVerdict
 build-table l = refl
 
-trial-table : (w : Model) (c : Tried) → trialVerdict w c ≡ judged (trialTable w c)
+trial-table : (s : Session) (w : Model) (c : Tried) → trialVerdict s w c ≡ judged (trialTable s w c)
 unfolding trialVerdict
-trial-table w c = refl
+trial-table s w c = refl
 
 module _ (s : Session) (g : Log) (w : Model) where
   keep-table : (c : Kept) → keepVerdict s g w c ≡ judged (keepTable s g w c)
@@ -69,7 +69,7 @@ pub build-works : (l : BuildLent) (o : BuildOutcome l) → BuildWorks l (leftBui
 build-works l o = call-works (buildTable l) (leftBuilt o) _ (build-judged l) refl (build-table l) refl (o .stated)
 
 pub trial-works : (s : Session) (w : Model) (c : Tried) (o : TrialOutcome s w c) → TrialWorks s w c (leftTried o)
-trial-works s w c o = call-works (trialTable w c) (leftTried o) _ (trial-judged s w c) refl (trial-table w c) refl (o .stated)
+trial-works s w c o = call-works (trialTable s w c) (leftTried o) _ (trial-judged s w c) refl (trial-table s w c) refl (o .stated)
 
 module _ (s : Session) (g : Log) (w : Model) where
   pub keep-works : (c : Kept) (o : KeepOutcome s g w c) → KeepWorks s g w c (leftKept o)

@@ -8,19 +8,19 @@ use mathlib.Core.Path.{_≡_, refl, ap, sym, _∙_, subst⁻¹}
 use lib.IntN.{ℤ}
 use Rattle.paper.specs.Lists.{over}
 use Rattle.paper.specs.Net.{Values, afresh, moved}
-use Rattle.paper.specs.Tables.{net}
+use Rattle.paper.specs.Tables.{net, valuesIn}
 use Rattle.paper.specs.Checks.{accepted, Move, movePairs}
 use Rattle.paper.specs.Log.{logFits, logGood, noted}
-use Rattle.paper.specs.Calls.{numberOf, BuildLent, startValues, Model, storedValues, Kept, KeepLeft, keepVerdict, keepLeaves}
+use Rattle.paper.specs.Calls.{blanksAmong, numberOf, BuildLent, startValues, Model, storedValues, Kept, KeepLeft, keepVerdict, keepLeaves}
 use Rattle.paper.specs.Demands.{own, Call, keeps, State, modelOf, applied, history}
-use Rattle.paper.proofs.Known.{ModelKnown, MoveKnown, fits-long, long-fits, KeepKnown, keep-known}
+use Rattle.paper.proofs.Known.{ModelKnown, BlanksKnown, MoveKnown, fits-long, long-fits, KeepKnown, keep-known}
 use Rattle.paper.proofs.Outcomes.{keep-judged}
 use Rattle.paper.specs.Moves.{Apart, AllPairs}
 use Rattle.demands.specs.Stated.{BuildOutcome, leftBuilt, leftKept}
 use Rattle.demands.specs.Runs.{ownOf, Run, then-keep}
 use Rattle.demands.specs.Demands.{RunRight}
 use Rattle.demands.specs.Planners.{Accepts, handsOn, Keeping, Room, EitherOrder, TwoPlanners}
-use Rattle.paper.proofs.Moves.{either-order, as-one, one-known, joined-all, keep-accepts, keep-leaves-known}
+use Rattle.paper.proofs.Moves.{either-order, as-one, one-known, joined-all, keep-accepts, kept-blanks, keep-leaves-known}
 use Rattle.demands.proofs.Three.{own-is, demand3}
 use Rattle.demands.proofs.Logs.{noted-long}
 
@@ -39,10 +39,10 @@ module _ {b : BuildLent} (start : BuildOutcome b) (room : List ℕ × List ℤ) 
     known : Accepts o → KeepKnown (now .session) (now .log) (lentTo now) (callOf mv flags)
     known z = keep-known (now .session) (now .log) (lentTo now) (callOf mv flags) (verdict-of z)
 
-    passes : ModelKnown (lentTo now) → MoveKnown (b .tables) mv → Room start room flags → logFits (now .log) ≡ true → logGood (now .log) (b .tables) (now .session .kept) ≡ true → Accepts o
-    passes model move long fits good =
+    passes : ModelKnown (lentTo now) → BlanksKnown (now .session .blanks) (lentTo now) → MoveKnown (b .tables) mv → Room start room flags → logFits (now .log) ≡ true → logGood (now .log) (b .tables) (now .session .kept) ≡ true → Accepts o
+    passes model blanks move long fits good =
         ap (λ (x : KeepLeft). numberOf (x .answer)) (o .stated)
-        ∙ keep-judged (now .session) (now .log) (lentTo now) (callOf mv flags) .zero (keep-accepts (now .session) (now .log) (lentTo now) (callOf mv flags) model move long fits good)
+        ∙ keep-judged (now .session) (now .log) (lentTo now) (callOf mv flags) .zero (keep-accepts (now .session) (now .log) (lentTo now) (callOf mv flags) model blanks move long fits good)
 
     -- what it leaves passes the checks of the model, and its log has the room that it had
     left-is : Accepts o → leftKept o ≡ keepLeaves (now .session) (now .log) (lentTo now) (callOf mv flags) accepted
@@ -52,6 +52,10 @@ module _ {b : BuildLent} (start : BuildOutcome b) (room : List ℕ × List ℤ) 
     next-known z =
         subst⁻¹ (λ (x : KeepLeft). ModelKnown (record { tables = b .tables; numbers = start .numbers; order = start .order; stored = x .stored; index = start .index })) (left-is z)
         (keep-leaves-known (lentTo now) (callOf mv flags) (known z .model) (known z .move))
+
+    next-blanks : Accepts o → BlanksKnown (handsOn start room now o .session .blanks) (lentTo (handsOn start room now o))
+    next-blanks z =
+        subst⁻¹ (λ (x : KeepLeft). x .session .blanks ≡ blanksAmong (b .tables .n) (valuesIn (b .tables) (x .stored))) (left-is z) (kept-blanks (lentTo now) (callOf mv flags))
 
     next-fits : Accepts o → logFits (handsOn start room now o .log) ≡ true
     next-fits z =
@@ -83,7 +87,7 @@ module _ {b : BuildLent} (start : BuildOutcome b) (room : List ℕ × List ℤ) 
     module _ (mv mv′ : Move) (flags flags′ : List ℕ) (o : Keeping start room now mv flags) (q : Keeping start room (handsOn start room now o) mv′ flags′) (z : Accepts o) where
       -- the keep that comes next is accepted if its move passes the checks of a move
       next-accepted : MoveKnown (b .tables) mv′ → Room start room flags′ → Accepts q
-      next-accepted move long = passes (handsOn start room now o) mv′ flags′ q (next-known now mv flags o z) move long (next-fits now mv flags o z) (next-right mv flags o .log-good)
+      next-accepted move long = passes (handsOn start room now o) mv′ flags′ q (next-known now mv flags o z) (next-blanks now mv flags o z) move long (next-fits now mv flags o z) (next-right mv flags o .log-good)
 
       twice-kept : Accepts q → q .stored ≡ rowFrom (moved (movePairs mv′) (moved (movePairs mv) searched))
       twice-kept y =
@@ -107,7 +111,7 @@ module _ {b : BuildLent} (start : BuildOutcome b) (room : List ℕ × List ℤ) 
 
       as-one-accepted : (one : Move) → AllPairs first second one → (flags : List ℕ) → Room start room flags → (j : Keeping start room now one flags) → Accepts j
       as-one-accepted one all flags long j = let has = known now first f o z in
-          passes now one flags j (has .model) (one-known (b .tables) first second move₁ move₂ apart one all) long (has .log .fits) (right .log-good)
+          passes now one flags j (has .model) (has .blanks) (one-known (b .tables) first second move₁ move₂ apart one all) long (has .log .fits) (right .log-good)
 
       both-orders : EitherOrder start room now first second f g o p
       both-orders = record {

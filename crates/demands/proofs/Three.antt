@@ -74,6 +74,7 @@ module _ {b : BuildLent} (start : BuildOutcome b) (room : List ℕ × List ℤ) 
     is = e;
     stored = ap (λ (s : State). s .stored) e ∙ d .stored;
     moves = λ few. ap (λ (s : State). s .session .kept) e ∙ d .counted few;
+    blanks = ap (λ (s : State). s .session .blanks) e ∙ d .blanks;
     log-good = ap (λ (s : State). logGood (s .log) (b .tables) (s .session .kept)) e ∙ d .log-good;
     trial-accepted = λ c o z.
         let q = trial-is cs now e mine c o ∙ ap (λ l. tried b room cs l c) own-is in

@@ -5,11 +5,13 @@ use mathlib.Core.Bool.{cond}
 use mathlib.Core.Path.{_≡_, ap, sym, _∙_, subst⁻¹}
 use lib.IntN.{pos}
 use lib.ListN.{getD, take}
+use Rattle.integers.specs.Integers.{eqZ}
 use Rattle.paper.specs.Lists.{nat, greatest}
+use Rattle.paper.specs.Formula.{blank}
 use Rattle.paper.specs.Net.{Values, number, afresh}
 use Rattle.paper.specs.Tables.{Tables, net, isMade, inputsOf, valuesIn}
 use Rattle.paper.specs.Checks.{accepted, Sound}
-use Rattle.paper.specs.Calls.{numberOf, BuildLent, BuildLeft, startValues, build}
+use Rattle.paper.specs.Calls.{Session, numberOf, BuildLent, BuildLeft, startValues, build}
 use Rattle.paper.specs.File.{endsAt, counted, write, read}
 use Rattle.paper.specs.Demands.{BuildRight, cut}
 use Rattle.paper.proofs.Lists.{map-same}
@@ -17,6 +19,7 @@ use Rattle.paper.proofs.Buffers.{getD-below, over-at, over-front}
 use Rattle.paper.proofs.Accept.{inputs-below}
 use Rattle.paper.proofs.Lawful.{lawful}
 use Rattle.paper.proofs.Known.{build-known}
+use Rattle.paper.proofs.Count.{size-same}
 use Rattle.paper.proofs.Outcomes.{build-judged}
 use Rattle.paper.proofs.Demands as paper
 use Rattle.demands.specs.Stated.{BuildOutcome, leftBuilt}
@@ -41,6 +44,9 @@ module _ {l : BuildLent} (o : BuildOutcome l) where
         value-at v low ∙ right .stored-meet v
         ∙ ap (λ x. cond (isMade t v) x (startValues l v))
         (lawful t .looks v values (valuesIn t (o .stored)) (λ i m. sym (value-at i (inputs-below t sound v i (lawful t .asks-in v values i m)))));
+    blanks =
+        ap (λ (x : BuildLeft). x .session .blanks) (o .stated) ∙ ap (λ (s : Session). s .blanks) (right .session)
+        ∙ size-same _ _ (t .n) (λ v low. ap (λ z. eqZ z blank) (sym (value-at v low)));
   }
     where
       zero-is : numberOf (build l .answer) ≡ 0

@@ -11,7 +11,7 @@ use Rattle.paper.specs.Net.{valuation, numbering, input-to-output}
 use Rattle.paper.specs.Tables.{Tables, net, valuesIn, order, index}
 use Rattle.paper.specs.Checks.{Verdict, accepted}
 use Rattle.paper.specs.Log.{Log, logGood}
-use Rattle.paper.specs.Calls.{Session, Answer, Accepted, Refused, numberOf, placeOf, evaluationsOf, answered, BuildLent, BuildLeft, startValues, Model, Tried, TrialLeft, Kept, KeepLeft, latest}
+use Rattle.paper.specs.Calls.{Session, blanksAmong, Answer, Accepted, Refused, numberOf, placeOf, evaluationsOf, answered, BuildLent, BuildLeft, startValues, Model, Tried, TrialLeft, Kept, KeepLeft, latest}
 use Rattle.paper.specs.File.{endsAt, held, counted}
 use Rattle.paper.specs.Demands.{buildAsWas, trialAsWas, keepAsWas, Circular, FivePassed, LeastUnnumbered, Fitting, cut, Lent, own, Lends, Call, keeps, takes, State, lentOf, modelOf, passedOn, ownModel, after, history, old, renewed, restored, evaluatedBy, Told, tried, triedSet, TrialRight, kept, KeepRight, taken, TakeRight}
 use Rattle.demands.specs.Stated.{BuildOutcome, leftBuilt, TrialOutcome, leftTried, KeepOutcome, leftKept, TakeOutcome, leftTaken, WriteOutcome, leftWritten, ReadOutcome, leftRead}
@@ -34,7 +34,7 @@ abbrev pub BuildWorks : (l : BuildLent) → BuildLeft → Type 0
 BuildWorks l = Works (buildTable l) (λ x. x .answer) (λ x. buildAsWas l (x .answer))
 
 abbrev pub TrialWorks : Session → (w : Model) (c : Tried) → TrialLeft → Type 0
-TrialWorks s w c = Works (trialTable w c) (λ x. x .answer) (λ x. trialAsWas s c (x .answer))
+TrialWorks s w c = Works (trialTable s w c) (λ x. x .answer) (λ x. trialAsWas s c (x .answer))
 
 abbrev pub KeepWorks : (s : Session) (g : Log) (w : Model) (c : Kept) → KeepLeft → Type 0
 KeepWorks s g w c = Works (keepTable s g w c) (λ x. x .answer) (λ x. keepAsWas s g w (c .flags) (x .answer))
@@ -78,6 +78,8 @@ pub record BuiltRight {l : BuildLent} (o : BuildOutcome l) : Type 0 where
   pub empty : o .logSizes ≡ set (l .logSizes) 0 0
   -- each value is the start value at a search variable, and what the formula gives of the inputs' values at a made one
   pub stored : (v : ℕ) → v < l .tables .n → valuesIn (l .tables) (o .stored) v ≡ valuation (net (l .tables)) (startValues l) (valuesIn (l .tables) (o .stored)) v
+  -- and the record has the number of the blank ones
+  pub blanks : leftBuilt o .session .blanks ≡ blanksAmong (l .tables .n) (valuesIn (l .tables) (o .stored))
 
 -- circular exactly if some variable depends on itself, at the least variable that can have no topological number
 pub record CircularExactly (l : BuildLent) (a : Answer) : Type 0 where
@@ -129,6 +131,8 @@ module _ {b : BuildLent} (start : BuildOutcome b) (room : List ℕ × List ℤ) 
     pub is : now ≡ after b room cs
     pub stored : now .stored ≡ over (b .tables .n) (old b room cs) (b .stored)
     pub moves : length cs < 4294967295 → now .session .kept ≡ length (history b room cs)
+    -- the record has the number of the blank values among them
+    pub blanks : now .session .blanks ≡ blanksAmong (b .tables .n) (old b room cs)
     pub log-good : logGood (now .log) (b .tables) (now .session .kept) ≡ true
     -- the next call, if it is accepted and was lent the model's own
     pub trial-accepted : (c : Tried) (o : TrialOutcome (now .session) (modelOf now (ownOf start room)) c) → numberOf (leftTried o .answer) ≡ 0 → TrialFresh c o

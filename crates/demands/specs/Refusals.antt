@@ -11,7 +11,7 @@ use Rattle.paper.specs.Lists.{between, total, nat}
 use Rattle.paper.specs.Tables.{Tables, ends}
 use Rattle.paper.specs.Checks.{Verdict, accepted, refused, kindGood, shapeGood, numberGood, madeOnce, startGood, storedGood, numbered, indexed, Move, movable, namedOnce, hasValue}
 use Rattle.paper.specs.Log.{Log, logged, logGood}
-use Rattle.paper.specs.Calls.{Session, BuildLent, buildFits, startValues, Model, storedValues, Tried, trialFits, Kept, keepFits, takeFits}
+use Rattle.paper.specs.Calls.{Session, blanksAmong, BuildLent, buildFits, startValues, Model, storedValues, Tried, trialFits, Kept, keepFits, takeFits}
 use Rattle.paper.specs.File.{field, rowsAt, entriesAt, endsAt, held, counted, nIn, mIn, eIn}
 
 -- a number with a test of each place below a bound, or with one test and a fixed place
@@ -30,10 +30,14 @@ tableLines t =
     ∷ places 5 (t .m) (madeOnce t)
     ∷ []
 
--- 8 of the numbers and order, 8 of the index, and then 7, of the model lent to trial, keep and taking back
-abbrev pub modelLines : Model → List Line
-modelLines w = let t = w .tables in
-    whole 8 0 (numbered t (w .numbers) (w .order)) ∷ whole 8 0 (indexed t (w .index)) ∷ places 7 (t .n) (storedGood t (storedValues w)) ∷ []
+-- 8 of the numbers and order, 8 of the index, 19 of the record, and then 7, of the model lent to trial, keep and taking back
+abbrev pub modelLines : Session → Model → List Line
+modelLines s w = let t = w .tables in
+    whole 8 0 (numbered t (w .numbers) (w .order))
+    ∷ whole 8 0 (indexed t (w .index))
+    ∷ whole 19 0 (eqb (s .blanks) (blanksAmong (t .n) (storedValues w)))
+    ∷ places 7 (t .n) (storedGood t (storedValues w))
+    ∷ []
 
 -- 10 to 12, of the move
 abbrev pub moveLines : Tables → Move → List Line
@@ -43,9 +47,9 @@ abbrev pub buildTable : BuildLent → List Line
 buildTable l = let t = l .tables in
     whole 1 0 (buildFits l) ∷ (tableLines t ++ (places 6 (t .n) (ends t) ∷ places 7 (t .n) (startGood t (startValues l)) ∷ []))
 
-abbrev pub trialTable : Model → Tried → List Line
-trialTable w c = let t = w .tables in
-    whole 1 0 (trialFits w c) ∷ (tableLines t ++ modelLines w ++ (whole 9 0 (between 1 (c .route) 3) ∷ [])
+abbrev pub trialTable : Session → Model → Tried → List Line
+trialTable s w c = let t = w .tables in
+    whole 1 0 (trialFits w c) ∷ (tableLines t ++ modelLines s w ++ (whole 9 0 (between 1 (c .route) 3) ∷ [])
     ++ moveLines t (c .move) ++ (places 13 (c .asked) (λ i. ltb (nat (c .askedVars) i) (t .n)) ∷ []))
 
 -- 16, of the log
@@ -53,10 +57,10 @@ abbrev pub logLines : Session → Log → Tables → List Line
 logLines s g t = whole 16 0 (logGood g t (s .kept)) ∷ []
 
 abbrev pub keepTable : Session → Log → Model → Kept → List Line
-keepTable s g w c = whole 1 0 (keepFits g w c) ∷ (tableLines (w .tables) ++ modelLines w ++ moveLines (w .tables) (c .move) ++ logLines s g (w .tables))
+keepTable s g w c = whole 1 0 (keepFits g w c) ∷ (tableLines (w .tables) ++ modelLines s w ++ moveLines (w .tables) (c .move) ++ logLines s g (w .tables))
 
 abbrev pub takeTable : Session → Log → Model → List ℕ → List Line
-takeTable s g w flags = whole 1 0 (takeFits g w flags) ∷ (tableLines (w .tables) ++ modelLines w ++ logLines s g (w .tables) ++ (whole 15 0 (ltb 0 (logged g)) ∷ []))
+takeTable s g w flags = whole 1 0 (takeFits g w flags) ∷ (tableLines (w .tables) ++ modelLines s w ++ logLines s g (w .tables) ++ (whole 15 0 (ltb 0 (logged g)) ∷ []))
 
 abbrev pub writeTable : Tables → List ℤ → List ℕ → List Line
 writeTable t starts bytes = whole 1 0 (held t starts && leb (endsAt (t .n) (t .m) (t .e)) (length bytes)) ∷ []

@@ -2,6 +2,7 @@
 // pairs each move has in the row of asked variables, and how many places are lent for the counts by number where those for the results do.
 use crate::cases::count;
 use crate::cases::name;
+use crate::cases::record;
 use crate::cases::values_of;
 use crate::print;
 use figures::figures;
@@ -23,6 +24,7 @@ fn count_filling(
     by_number: &mut [u32],
 ) {
     let counted = figures(
+        record(case),
         count(case, 8),
         count(case, 10),
         count(case, 12),
@@ -52,10 +54,10 @@ fn count_filling(
 // Counts the batch of a case.
 pub fn count_case(case: &[u8], plan: &[u16], pool: &[u16], coefs: &[i16], values: &[i32]) {
     let mut stored = [0i32; 4097];
-    let mut by_number = [77u32; 16];
+    let mut by_number = [77u32; 22];
     fill_signed32(&mut stored, values_of(case));
     let s = least(count(case, 74), 4097);
-    let k = least(count(case, 76), 16);
+    let k = least(count(case, 76), 22);
     count_filling(
         case,
         plan,

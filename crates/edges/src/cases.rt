@@ -1,4 +1,4 @@
-// A case is a call with all that it is lent. Its numbers have two bytes each, but for moves kept and route, which have four:
+// A case is a call with all that it is lent. Its numbers have two bytes each, but for moves kept, route and blanks, which have four:
 //
 //  0  length of the case, length of its name, length of its values: all in bytes
 //  6  which call: 1 a trial, 2 a keep, 3 a build, 4 the figures of a batch, 5 a taking back
@@ -8,9 +8,9 @@
 // 74  how many stored values, results, trial values and flags are lent; of a build, start values, numbers, rows of the order, stored values, reader
 //     starts and reader places
 // 86  how many results are shown, of a build how many reader starts and how many reader places, and how many of each other row
-// 90  moves kept, route
-// 98  how many sizes, variables and values of the log are lent; the length of its sizes and of its pairs in bytes; how many sizes are shown
-// 110 the name; the stored values, zeros past the end, of a build its start values; the log's sizes, zeros past the end; its pairs, each with place,
+// 90  moves kept, route, and the record's number of blanks
+// 102 how many sizes, variables and values of the log are lent; the length of its sizes and of its pairs in bytes; how many sizes are shown
+// 114 the name; the stored values, zeros past the end, of a build its start values; the log's sizes, zeros past the end; its pairs, each with place,
 //     variable and value, the value of four bytes
 use crate::batches::count_case;
 use crate::kept::change_case;
@@ -39,12 +39,12 @@ pub fn count(case: &[u8], at: usize) -> usize {
 
 // The name of the case.
 pub fn name(case: &[u8]) -> &[u8] {
-    part(case, 110, count(case, 2))
+    part(case, 114, count(case, 2))
 }
 
 // The bytes of the stored values.
 pub fn values_of(case: &[u8]) -> &[u8] {
-    part(case, after(110, count(case, 2)), count(case, 4))
+    part(case, after(114, count(case, 2)), count(case, 4))
 }
 
 // The record before the call.
@@ -52,6 +52,7 @@ pub fn record(case: &[u8]) -> Session {
     Session {
         kept: word(case, 90),
         evaluations: 9,
+        blanks: word(case, 98),
     }
 }
 
@@ -135,7 +136,7 @@ fn print_built(
     print::values(b"; stored", count(case, 88), stored);
     numbers(b"; reader starts", count(case, 86), reader_starts);
     numbers(b"; reader places", count(case, 86), reader_places);
-    numbers(b"; log", count(case, 108), log_sizes);
+    numbers(b"; log", count(case, 112), log_sizes);
 }
 
 // Builds the model of a case with the rows to fill that are lent, and prints what comes back and what is left.
@@ -198,7 +199,7 @@ fn build_case(case: &[u8], plan: &[u16], pool: &[u16], coefs: &[i16], values: &[
     let t = least(count(case, 80), 4097);
     let r = least(count(case, 82), 4098);
     let p = least(count(case, 84), 16385);
-    let l = least(count(case, 98), 66);
+    let l = least(count(case, 102), 66);
     build_filling(
         case,
         plan,

@@ -24,8 +24,8 @@ use pools::rows::row16;
 fn sizes_of(case: &[u8]) -> &[u8] {
     part(
         case,
-        after(after(110, count(case, 2)), count(case, 4)),
-        count(case, 104),
+        after(after(114, count(case, 2)), count(case, 4)),
+        count(case, 108),
     )
 }
 
@@ -34,10 +34,10 @@ fn pairs_of(case: &[u8]) -> &[u8] {
     part(
         case,
         after(
-            after(after(110, count(case, 2)), count(case, 4)),
-            count(case, 104),
+            after(after(114, count(case, 2)), count(case, 4)),
+            count(case, 108),
         ),
-        count(case, 106),
+        count(case, 114),
     )
 }
 
@@ -63,7 +63,7 @@ fn print_left(
 ) {
     print::values(b"; stored", count(case, 88), stored);
     print::flags(count(case, 88), flags);
-    numbers(b"; log", count(case, 108), log_sizes);
+    numbers(b"; log", count(case, 112), log_sizes);
     print::pairs(log_vars, log_values);
 }
 
@@ -187,9 +187,9 @@ pub fn change_case(case: &[u8], plan: &[u16], pool: &[u16], coefs: &[i16], value
     put_pairs(pairs_of(case), &mut log_vars, &mut log_values);
     let s = least(count(case, 74), 4097);
     let f = least(count(case, 80), 4097);
-    let a = least(count(case, 98), 66);
-    let b = least(count(case, 100), 4097);
-    let c = least(count(case, 102), 4097);
+    let a = least(count(case, 102), 66);
+    let b = least(count(case, 104), 4097);
+    let c = least(count(case, 106), 4097);
     change_filling(
         case,
         plan,

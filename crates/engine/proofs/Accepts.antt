@@ -11,14 +11,18 @@ use lib.IntN.{ℤ, pos}
 use lib.ListN.{length, getD, set, take, drop, length-drop}
 use lib.Seq.{getD-take, take-all}
 use borrow.Author.Tests.{leb-true, lt-ltb}
-use Rattle.paper.specs.Lists.{all, nat}
+use Rattle.integers.specs.Integers.{eqZ}
+use Rattle.paper.specs.Lists.{all, nat, over}
+use Rattle.paper.specs.Formula.{blank}
+use Rattle.paper.specs.Net.{Values}
 use Rattle.paper.specs.Checks.{accepted, Move}
 use Rattle.paper.specs.Log.{Log, logIn, laidAt, logged, back, roomMade, noted, dropped}
-use Rattle.paper.specs.Calls.{Session, Accepted, Model, storedValues, Tried, trialFits, trialVerdict, trial, Kept, KeepLeft, keepFits, keepVerdict, keep, latest, takeFits, takeVerdict, takeBack}
+use Rattle.paper.specs.Calls.{Session, blanksAmong, Accepted, Model, storedValues, Tried, trialFits, trialVerdict, trial, Kept, keptCount, keptBlanks, KeepLeft, keepFits, keepVerdict, keep, latest, takeFits, takeVerdict, takeBack}
 use Rattle.paper.proofs.Lists.{each}
 use Rattle.paper.proofs.Verdicts.{require-held}
 use Rattle.paper.proofs.Outcomes.{trial-meets, keep-meets, take-meets}
-use Rattle.paper.proofs.Buffers.{over-same}
+use Rattle.paper.proofs.Buffers.{over-same, over-front, over-length, getD-below}
+use Rattle.paper.proofs.Count.{size-same}
 use Rattle.paper.proofs.Known.{ModelKnown, MoveKnown, trial-known, keep-known, take-known, latest-known}
 use Rattle.readers.proofs.Known.{laid-of, indexed-known}
 use Rattle.logs.specs.Noting.{Named}
@@ -62,12 +66,12 @@ latest-is g flags at pairs e p =
     ∙ ap (λ k. record { move = back g k; flags = flags }) e
 
 module _ (s : Session) (g : Log) (w : Model) where
-  -- of the record only the number kept plays a part
-  pub keep-by-kept : (c : Kept) → keepVerdict s g w c ≡ keepVerdict (record { kept = s .kept; evaluations = 0 }) g w c
+  -- of the record the evaluations play no part
+  pub keep-by-kept : (c : Kept) → keepVerdict s g w c ≡ keepVerdict (record { kept = s .kept; evaluations = 0; blanks = s .blanks }) g w c
   unfolding keepVerdict
   keep-by-kept c = refl
 
-  pub take-by-kept : (flags : List ℕ) → takeVerdict s g w flags ≡ takeVerdict (record { kept = s .kept; evaluations = 0 }) g w flags
+  pub take-by-kept : (flags : List ℕ) → takeVerdict s g w flags ≡ takeVerdict (record { kept = s .kept; evaluations = 0; blanks = s .blanks }) g w flags
   unfolding takeVerdict
   take-by-kept flags = refl
 
@@ -95,10 +99,15 @@ module _ (s : Session) (g : Log) (w : Model) where
         let k = take-known s g w flags e in let fits = each _ (require-held 1 0 (takeFits g w flags) _ e) in
         subst (Keeping (w .tables) (w .order) (w .index) (w .stored)) (sym is) (keeping w (latest g flags) (k .model) (latest-known s g w flags k) (leb-true _ _ (fits .1 .0)))
 
-pub trying-of : (w : Model) (c : Tried) → trialVerdict w c ≡ accepted → Trying (w .tables) (w .order) (w .index) (w .stored) c
+-- of the record only the number of blanks plays a part
+pub trial-by-blanks : (s : Session) (w : Model) (c : Tried) → trialVerdict s w c ≡ trialVerdict (record { kept = 0; evaluations = 0; blanks = s .blanks }) w c
 unfolding trialVerdict
-trying-of w c e =
-    let k = trial-known w c e in let fits = each _ (require-held 1 0 (trialFits w c) _ e) .1 .1 .1 in let long = leb-true (c .asked) (length (c .askedVars)) (fits .0) in
+trial-by-blanks s w c = refl
+
+pub trying-of : (s : Session) (w : Model) (c : Tried) → trialVerdict s w c ≡ accepted → Trying (w .tables) (w .order) (w .index) (w .stored) c
+unfolding trialVerdict
+trying-of s w c e =
+    let k = trial-known s w c e in let fits = each _ (require-held 1 0 (trialFits w c) _ e) .1 .1 .1 in let long = leb-true (c .asked) (length (c .askedVars)) (fits .0) in
     record {
       keeping = keeping w (record { move = c .move; flags = c .flags }) (k .model) (k .move) (leb-true _ _ (fits .1 .1 .1 .0));
       in-trial = leb-true _ _ (fits .1 .1 .0);
@@ -108,11 +117,11 @@ trying-of w c e =
     }
 
 -- ── the call's equation ──
-pub trial-met : (s : Session) (w : Model) (c : Tried) (count : ℕ) (results trial′ : List ℤ) (flags : List ℕ) → trialVerdict w c ≡ accepted
+pub trial-met : (s : Session) (w : Model) (c : Tried) (count : ℕ) (results trial′ : List ℤ) (flags : List ℕ) → trialVerdict s w c ≡ accepted
     → TrialFilled (w .tables) (w .stored) c count results trial′ flags
-    → record { answer = Accepted count; session = record { kept = s .kept; evaluations = count }; results = results; trial = trial′; flags = flags } ≡ trial s w c
+    → record { answer = Accepted count; session = record { kept = s .kept; evaluations = count; blanks = s .blanks }; results = results; trial = trial′; flags = flags } ≡ trial s w c
 trial-met s w c count results trial′ flags v f =
-    trial-meets s w c _ accepted v (ap Accepted (f .count-is)) (ap (λ n. record { kept = s .kept; evaluations = n }) (f .count-is))
+    trial-meets s w c _ accepted v (ap Accepted (f .count-is)) (ap (λ n. record { kept = s .kept; evaluations = n; blanks = s .blanks }) (f .count-is))
     (f .results-are) (f .trial-is) (f .flags-are)
 
 -- a move is noted over the row of stored values as over the values that it holds
@@ -122,19 +131,33 @@ noted-row g w mv low = let k = min (logged g) 63 in
     (over-same (λ i. getD (w .stored) (nat (mv .vars) i) (pos 0)) (mv .pairs) (drop (64 * k) (roomMade g .values)) (λ i. storedValues w (nat (mv .vars) i))
     (λ i l. sym (getD-take (w .tables .n) (w .stored) (nat (mv .vars) i) (pos 0) (low i l))))
 
-module _ (s : Session) (g : Log) (w : Model) (count kept : ℕ) (stored : List ℤ) (flags : List ℕ) (log : Log) where
+-- a row that was filled is as long as it was
+pub filled-long : (n : ℕ) (f : Values) (before row : List ℤ) → row ≡ over n f before → n ≤ length before → n ≤ length row
+filled-long n f before row e h = let same = over-length f n before h in let is = ap length e in omega arith
+
+-- the blank values of a row that was filled
+pub blanks-over : (n : ℕ) (f : Values) (before row : List ℤ) → row ≡ over n f before → blanksAmong n (λ v. getD row v (pos 0)) ≡ blanksAmong n f
+blanks-over n f before row e =
+    size-same _ _ n (λ v l. ap (λ z. eqZ z blank) (sym (getD-take n row v (pos 0) l) ∙ ap (λ r. getD (take n r) v (pos 0)) e ∙ ap (λ r. getD r v (pos 0)) (over-front f n before) ∙ getD-below f n v (pos 0) l))
+
+module _ (s : Session) (g : Log) (w : Model) (count kept blanks : ℕ) (stored : List ℤ) (flags : List ℕ) (log : Log) where
   abbrev left : KeepLeft
-  left = record { answer = Accepted count; session = record { kept = kept; evaluations = count }; stored = stored; flags = flags; log = log }
+  left = record { answer = Accepted count; session = record { kept = kept; evaluations = count; blanks = blanks }; stored = stored; flags = flags; log = log }
+
+  -- the record as it is left, by the move that was made
+  recorded : (c : Kept) (after : ℕ) → KeepFilled (w .tables) (w .stored) c count stored flags → kept ≡ after → blanks ≡ blanksAmong (w .tables .n) (λ v. getD stored v (pos 0))
+      → left .session ≡ record { kept = after; evaluations = keptCount (w .tables) (w .stored) c; blanks = keptBlanks (w .tables) (w .stored) c }
+  recorded c after f e b = λ i. record { kept = e i; evaluations = f .count-is i; blanks = (b ∙ blanks-over (w .tables .n) _ (w .stored) stored (f .stored-is)) i }
 
   pub keep-met : (c : Kept) → keepVerdict s g w c ≡ accepted → KeepFilled (w .tables) (w .stored) c count stored flags → kept ≡ min (suc (s .kept)) 4294967295
-      → log ≡ noted g (λ v. getD (w .stored) v (pos 0)) (c .move) → left ≡ keep s g w c
-  keep-met c v f e noting =
-      keep-meets s g w left accepted c v (ap Accepted (f .count-is)) (ap₂ (λ n k. record { kept = k; evaluations = n }) (f .count-is) e)
+      → blanks ≡ blanksAmong (w .tables .n) (λ v. getD stored v (pos 0)) → log ≡ noted g (λ v. getD (w .stored) v (pos 0)) (c .move) → left ≡ keep s g w c
+  keep-met c v f e b noting =
+      keep-meets s g w left accepted c v (ap Accepted (f .count-is)) (recorded c _ f e b)
       (f .stored-is) (f .flags-are) (noting ∙ noted-row g w (c .move) (keep-known s g w c v .move .low))
 
   pub take-met : (lentFlags : List ℕ) (c : Kept) → c ≡ latest g lentFlags → takeVerdict s g w lentFlags ≡ accepted → KeepFilled (w .tables) (w .stored) c count stored flags
-      → kept ≡ cond (ltb (s .kept) 4294967295) (pred (s .kept)) (s .kept) → log ≡ dropped g → left ≡ takeBack s g w lentFlags
-  take-met lentFlags c is v filled e dropping =
+      → kept ≡ cond (ltb (s .kept) 4294967295) (pred (s .kept)) (s .kept) → blanks ≡ blanksAmong (w .tables .n) (λ v. getD stored v (pos 0)) → log ≡ dropped g → left ≡ takeBack s g w lentFlags
+  take-met lentFlags c is v filled e b dropping =
       let f = subst (λ z. KeepFilled (w .tables) (w .stored) z count stored flags) is filled in
-      take-meets s g w left accepted lentFlags v (ap Accepted (f .count-is)) (ap₂ (λ n k. record { kept = k; evaluations = n }) (f .count-is) e)
+      take-meets s g w left accepted lentFlags v (ap Accepted (f .count-is)) (recorded (latest g lentFlags) _ f e b)
       (f .stored-is) (f .flags-are) dropping

@@ -41,13 +41,14 @@ module _ {M : Type 1} (𝓤 : URA M) (H : Heap 𝓤) (A : Atoms 𝓤) (memory : 
   -- the record x, lent for κ with the share q, to be set to s
   module _ (κ : Lft) (q : Share) (x : RefT Session) (s : Session) where
     abbrev pub to-set : Setting .Ghost
-    to-set = (((κ, tt), (q, tt), tt, (x, (s .kept, (s .evaluations, tt))), (ptr-vals x, (vint w32 (s .kept) ∷ [], (vint w32 (s .evaluations) ∷ [], tt)))), tt)
+    to-set = (((κ, tt), (q, tt), tt, (x, (s .kept, (s .evaluations, (s .blanks, tt)))), (ptr-vals x, (vint w32 (s .kept) ∷ [], (vint w32 (s .evaluations) ∷ [], (vint w32 (s .blanks) ∷ [], tt))))), tt)
 
     module _ {K : Type 0} {W : Given 𝓤 H A} {Γ : List (Item 𝓤)} {G : Goal 𝓤 H} where
       pub gives-record : K → Is S.the-row s (svals s)
           → Step K W (raw (Setting .pre to-set) ∷ Γ) G (‵ (fobs (name x) (S.the-row .coded .code (now x))) ∷ ‵ (fbor κ (Body (mem S.the-row) (ptr x .0) (ptr x .1) (name x))) ∷ ‵ (flft κ q) ∷ Γ) G
       gives-record t is = step (λ z.
-          feqI t (List Val) (ptr-vals x) (ptr-vals x) refl $ fjoin3 t $ nothing t $ owned t u32 (Is u32) (uint-makes 𝓤 H A W w32) (s .evaluations) _ (LL.owed S.the-type S′.the-laws s _ is .1 .0) $ fjoin t $
+          feqI t (List Val) (ptr-vals x) (ptr-vals x) refl $ fjoin3 t $ nothing t $ owned t u32 (Is u32) (uint-makes 𝓤 H A W w32) (s .blanks) _ (LL.owed S.the-type S′.the-laws s _ is .1 .1 .0) $ fjoin t $
+          owned t u32 (Is u32) (uint-makes 𝓤 H A W w32) (s .evaluations) _ (LL.owed S.the-type S′.the-laws s _ is .1 .0) $ fjoin t $
           owned t u32 (Is u32) (uint-makes 𝓤 H A W w32) (s .kept) _ (LL.owed S.the-type S′.the-laws s _ is .0) $ fjoin t $ move t (1 ∷ 0 ∷ []) $ fjoin t $ nothing t $ move t (2 ∷ 0 ∷ []) $ join t $
           use2 W (raw (Setting .pre to-set)) (qed W ((‵ (flft κ q) ⊛ ‵ ftrue) ∷ ‵ (owns (typesAt (set.signature .params) (κ, tt)) (to-set .0 .3) (to-set .0 .4)) ∷ []) ∵ join ! $ frame ! $ done !) $ z)
 

@@ -17,7 +17,7 @@ answerIn (code.Refused number place) = Refused number place
 
 -- the session record of the code as the paper's
 abbrev pub recordIn : code-session.Session → Session
-recordIn s = record { kept = s .kept; evaluations = s .evaluations }
+recordIn s = record { kept = s .kept; evaluations = s .evaluations; blanks = s .blanks }
 
 -- by build: the answer, the record, the three rows, the index of readers, and the sizes of the log
 abbrev pub leftByBuild : Done → List ℕ → List ℕ → List ℤ → List ℕ → List ℕ → List ℕ → BuildLeft

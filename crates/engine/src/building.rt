@@ -2,9 +2,10 @@
 ghost use mathlib.Core.Path.{_≡_};
 ghost use Rattle.paper.specs.Calls.{build};
 ghost use Rattle.judges.specs.Lent.{toBuild};
-ghost use Rattle.engine.specs.Left.{leftByBuild};
+ghost use Rattle.engine.specs.Left.{recordIn, leftByBuild};
 use crate::Done;
 use crate::Session;
+use blanks::blanks_among;
 use fills::fill_model;
 use judges::judge_build;
 use tables::Answer;
@@ -30,7 +31,7 @@ pub fn build_core(
     reader_places: &mut [u16],
     log_sizes: &mut [u16],
 ) -> Done
-    ensures { λ r. ⌜ leftByBuild r (now (numbers .exit)) (now (order .exit)) (now (stored .exit)) (now («reader_starts» .exit)) (now («reader_places» .exit)) (now («log_sizes» .exit)) ≡ build (toBuild (session .kept) (session .evaluations) n m e (now (kinds .entry)) (now (makes .entry)) (now (params .entry)) (now (firsts .entry)) (now (counts .entry)) (now (vars .entry)) (now (coefs .entry)) (now (starts .entry)) (now (numbers .entry)) (now (order .entry)) (now (stored .entry)) (now («reader_starts» .entry)) (now («reader_places» .entry)) (now («log_sizes» .entry))) ⌝ }
+    ensures { λ r. ⌜ leftByBuild r (now (numbers .exit)) (now (order .exit)) (now (stored .exit)) (now («reader_starts» .exit)) (now («reader_places» .exit)) (now («log_sizes» .exit)) ≡ build (toBuild (recordIn session) n m e (now (kinds .entry)) (now (makes .entry)) (now (params .entry)) (now (firsts .entry)) (now (counts .entry)) (now (vars .entry)) (now (coefs .entry)) (now (starts .entry)) (now (numbers .entry)) (now (order .entry)) (now (stored .entry)) (now («reader_starts» .entry)) (now («reader_places» .entry)) (now («log_sizes» .entry))) ⌝ }
 {
     let mut state = [0u16; 4096];
     let judged = judge_build(
@@ -80,11 +81,13 @@ pub fn build_core(
         log_sizes,
     );
     let evaluations = m as u32;
+    let blanks = blanks_among(n, stored);
     Done {
         answer: Answer::Accepted { evaluations },
         session: Session {
             kept: 0,
             evaluations,
+            blanks,
         },
     }
 }

@@ -3,7 +3,7 @@ ghost use mathlib.Core.Path.{_≡_};
 ghost use lib.ListN.{replicate};
 ghost use Rattle.paper.specs.Log.{logIn};
 ghost use Rattle.paper.specs.Calls.{build as built, trial as tried, keep as kept, takeBack};
-ghost use Rattle.judges.specs.Lent.{toBuild, toModel, toTry, toKeep};
+ghost use Rattle.judges.specs.Lent.{noRecord, toBuild, toModel, toTry, toKeep};
 ghost use Rattle.engine.specs.Left.{recordIn, leftByBuild, leftByTrial, leftByKeep};
 use crate::Done;
 use crate::Session;
@@ -35,7 +35,7 @@ pub fn build(
     reader_places: &mut [u16],
     log_sizes: &mut [u16],
 ) -> Answer
-    ensures { λ r. ⌜ leftByBuild (record { answer = r; session = now (session .exit) }) (now (numbers .exit)) (now (order .exit)) (now (stored .exit)) (now («reader_starts» .exit)) (now («reader_places» .exit)) (now («log_sizes» .exit)) ≡ built (toBuild (now (session .entry) .kept) (now (session .entry) .evaluations) n m e (now (kinds .entry)) (now (makes .entry)) (now (params .entry)) (now (firsts .entry)) (now (counts .entry)) (now (vars .entry)) (now (coefs .entry)) (now (starts .entry)) (now (numbers .entry)) (now (order .entry)) (now (stored .entry)) (now («reader_starts» .entry)) (now («reader_places» .entry)) (now («log_sizes» .entry))) ⌝ }
+    ensures { λ r. ⌜ leftByBuild (record { answer = r; session = now (session .exit) }) (now (numbers .exit)) (now (order .exit)) (now (stored .exit)) (now («reader_starts» .exit)) (now («reader_places» .exit)) (now («log_sizes» .exit)) ≡ built (toBuild (recordIn (now (session .entry))) n m e (now (kinds .entry)) (now (makes .entry)) (now (params .entry)) (now (firsts .entry)) (now (counts .entry)) (now (vars .entry)) (now (coefs .entry)) (now (starts .entry)) (now (numbers .entry)) (now (order .entry)) (now (stored .entry)) (now («reader_starts» .entry)) (now («reader_places» .entry)) (now («log_sizes» .entry))) ⌝ }
 {
     let done = build_core(
         *session,
@@ -57,7 +57,12 @@ pub fn build(
         reader_places,
         log_sizes,
     );
-    set_counts(session, done.session.kept, done.session.evaluations);
+    set_counts(
+        session,
+        done.session.kept,
+        done.session.evaluations,
+        done.session.blanks,
+    );
     done.answer
 }
 
@@ -80,13 +85,14 @@ pub fn build_new(
     reader_starts: &mut [u16],
     reader_places: &mut [u16],
 ) -> Done
-    ensures { λ r. ⌜ leftByBuild r (now (numbers .exit)) (now (order .exit)) (now (stored .exit)) (now («reader_starts» .exit)) (now («reader_places» .exit)) (replicate 65 0) ≡ built (toBuild 0 0 n m e (now (kinds .entry)) (now (makes .entry)) (now (params .entry)) (now (firsts .entry)) (now (counts .entry)) (now (vars .entry)) (now (coefs .entry)) (now (starts .entry)) (now (numbers .entry)) (now (order .entry)) (now (stored .entry)) (now («reader_starts» .entry)) (now («reader_places» .entry)) (replicate 65 0)) ⌝ }
+    ensures { λ r. ⌜ leftByBuild r (now (numbers .exit)) (now (order .exit)) (now (stored .exit)) (now («reader_starts» .exit)) (now («reader_places» .exit)) (replicate 65 0) ≡ built (toBuild noRecord n m e (now (kinds .entry)) (now (makes .entry)) (now (params .entry)) (now (firsts .entry)) (now (counts .entry)) (now (vars .entry)) (now (coefs .entry)) (now (starts .entry)) (now (numbers .entry)) (now (order .entry)) (now (stored .entry)) (now («reader_starts» .entry)) (now («reader_places» .entry)) (replicate 65 0)) ⌝ }
 {
     let mut log_sizes = [0u16; 65];
     build_core(
         Session {
             kept: 0,
             evaluations: 0,
+            blanks: 0,
         },
         n,
         m,
@@ -165,7 +171,12 @@ pub fn trial(
         trial,
         flags,
     );
-    set_counts(session, done.session.kept, done.session.evaluations);
+    set_counts(
+        session,
+        done.session.kept,
+        done.session.evaluations,
+        done.session.blanks,
+    );
     done.answer
 }
 
@@ -222,7 +233,12 @@ pub fn keep(
         log_vars,
         log_values,
     );
-    set_counts(session, done.session.kept, done.session.evaluations);
+    set_counts(
+        session,
+        done.session.kept,
+        done.session.evaluations,
+        done.session.blanks,
+    );
     done.answer
 }
 
@@ -273,6 +289,11 @@ pub fn take_back(
         log_vars,
         log_values,
     );
-    set_counts(session, done.session.kept, done.session.evaluations);
+    set_counts(
+        session,
+        done.session.kept,
+        done.session.evaluations,
+        done.session.blanks,
+    );
     done.answer
 }

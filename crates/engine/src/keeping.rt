@@ -6,6 +6,7 @@ ghost use Rattle.judges.specs.Lent.{toModel, toKeep};
 ghost use Rattle.engine.specs.Left.{recordIn, leftByKeep};
 use crate::Done;
 use crate::Session;
+use blanks::blanks_among;
 use fills::fill_keep;
 use judges::judge_keep;
 use logs::note_move;
@@ -42,6 +43,7 @@ pub fn keep_core(
 {
     let judged = judge_keep(
         session.kept,
+        session.blanks,
         n,
         m,
         e,
@@ -92,11 +94,13 @@ pub fn keep_core(
         move_values,
         flags,
     );
+    let blanks = blanks_among(n, stored);
     Done {
         answer: Answer::Accepted { evaluations },
         session: Session {
             kept: kept_once_more(session.kept),
             evaluations,
+            blanks,
         },
     }
 }

@@ -18,11 +18,12 @@ pub use keeping::keep_core;
 pub use taking::take_back_core;
 pub use trying::trial_core;
 
-// The session record: moves kept, and evaluations of the last accepted call.
+// The session record: moves kept, evaluations of the last accepted call, and how many stored values are blank.
 #[repr(C)]
 pub struct Session {
     pub kept: u32,
     pub evaluations: u32,
+    pub blanks: u32,
 }
 
 // What a call comes to: its answer, and the session record after it.

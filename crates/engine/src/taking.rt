@@ -6,6 +6,7 @@ ghost use Rattle.judges.specs.Lent.{toModel};
 ghost use Rattle.engine.specs.Left.{recordIn, leftByKeep};
 use crate::Done;
 use crate::Session;
+use blanks::blanks_among;
 use fills::fill_keep;
 use integers::wide;
 use judges::judge_take_back;
@@ -41,6 +42,7 @@ pub fn take_back_core(
 {
     let judged = judge_take_back(
         session.kept,
+        session.blanks,
         n,
         m,
         e,
@@ -89,11 +91,13 @@ pub fn take_back_core(
         flags,
     );
     drop_move(log_sizes);
+    let blanks = blanks_among(n, stored);
     Done {
         answer: Answer::Accepted { evaluations },
         session: Session {
             kept: kept_once_less(session.kept),
             evaluations,
+            blanks,
         },
     }
 }

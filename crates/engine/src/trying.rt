@@ -40,6 +40,7 @@ pub fn trial_core(
     ensures { λ r. ⌜ leftByTrial r (now (results .exit)) (now (trial .exit)) (now (flags .exit)) ≡ tried (recordIn session) (toModel n m e (now (kinds .entry)) (now (makes .entry)) (now (params .entry)) (now (firsts .entry)) (now (counts .entry)) (now (vars .entry)) (now (coefs .entry)) (now (numbers .entry)) (now (order .entry)) (now (stored .entry)) (now («reader_starts» .entry)) (now («reader_places» .entry))) (toTry pairs (now («move_vars» .entry)) (now («move_values» .entry)) asked (now («asked_vars» .entry)) route (now (results .entry)) (now (trial .entry)) (now (flags .entry))) ⌝ }
 {
     let judged = judge_trial(
+        session.blanks,
         n,
         m,
         e,
@@ -101,6 +102,7 @@ pub fn trial_core(
         session: Session {
             kept: session.kept,
             evaluations,
+            blanks: session.blanks,
         },
     }
 }

@@ -9,7 +9,7 @@ use lib.IntN.{ℤ}
 use lib.ListN.{length, drop, length-map}
 use lib.Seq.{take-at, drop-at, take-all}
 use Rattle.paper.specs.Checks.{Move}
-use Rattle.paper.specs.Calls.{Model}
+use Rattle.paper.specs.Calls.{Session, Model}
 use Rattle.paper.proofs.Buffers.{over-same}
 use Rattle.outcomes.specs.Outcomes.{outcome}
 use Rattle.outcomes.specs.declared.Outcome.{Outcome}
@@ -70,17 +70,17 @@ moves-again moves =
     ap (λ ks. unpacked ks (joined (λ p. p .0) moves) (joined (λ p. p .1) moves)) (take-all (length moves) (map length moves) (let h = length-map moves length in omega arith))
     ∙ unpacked-again moves
 
-outcomes-kept : (w : Model) (asked : ℕ) (moves moves′ : List (List (ℕ × ℤ))) → Rearranged moves moves′ → Rearranged (outcomes w asked (packed moves)) (outcomes w asked (packed moves′))
-outcomes-kept w asked moves moves′ r = rw (moves-again moves, moves-again moves′) (map-kept (outcome w asked) (map-kept moveIn r))
+outcomes-kept : (s : Session) (w : Model) (asked : ℕ) (moves moves′ : List (List (ℕ × ℤ))) → Rearranged moves moves′ → Rearranged (outcomes s w asked (packed moves)) (outcomes s w asked (packed moves′))
+outcomes-kept s w asked moves moves′ r = rw (moves-again moves, moves-again moves′) (map-kept (outcome s w asked) (map-kept moveIn r))
 
 -- ── the call ──
 pub order-changes-nothing : OrderChangesNothing
-order-changes-nothing w asked moves moves′ r row =
-    let os = outcomes-kept w asked moves moves′ r in
-    ap₂ (λ k l. answer ((leb k 1000 && leb k l) && leb 14 (length row)) (totals (outcomes w asked (packed moves))) (tallies (outcomes w asked (packed moves)) row))
+order-changes-nothing s w asked moves moves′ r row =
+    let os = outcomes-kept s w asked moves moves′ r in
+    ap₂ (λ k l. answer ((leb k 1000 && leb k l) && leb 20 (length row)) (totals (outcomes s w asked (packed moves))) (tallies (outcomes s w asked (packed moves)) row))
     (length-kept r) (length-kept (map-kept length r))
-    ∙ ap₂ (answer ((leb (length moves′) 1000 && leb (length moves′) (length (map length moves′))) && leb 14 (length row))) (totals-kept os)
-    (over-same (λ k. having k (outcomes w asked (packed moves))) 14 row (λ k. having k (outcomes w asked (packed moves′))) (λ k l. having-kept k os))
+    ∙ ap₂ (answer ((leb (length moves′) 1000 && leb (length moves′) (length (map length moves′))) && leb 20 (length row))) (totals-kept os)
+    (over-same (λ k. having k (outcomes s w asked (packed moves))) 20 row (λ k. having k (outcomes s w asked (packed moves′))) (λ k l. having-kept k os))
   where
     answer : Bool → Totals → List ℕ → Counted × List ℕ
     answer b t left = cond b (Accepted t, left) (Refused 1 0, row)

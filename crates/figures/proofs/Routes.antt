@@ -16,38 +16,31 @@ use Rattle.outcomes.specs.Outcomes.{tried, asking}
 use Rattle.figures.specs.Laws.{SameNumber, SameResult}
 
 -- ── any trial ──
--- the record that it is lent says nothing of its answer and results
-trial-alike : (s s′ : Session) (w : Model) (c : Tried) → (trial s w c .answer ≡ trial s′ w c .answer) × (trial s w c .results ≡ trial s′ w c .results)
-unfolding trial
-trial-alike s s′ w c = (refl, refl)
-
 -- its number is the verdict's
 abbrev verdictNumber : Verdict → ℕ
 verdictNumber v = numberOf (answered v 0)
 
-number-is : (s : Session) (w : Model) (c : Tried) → numberOf (trial s w c .answer) ≡ verdictNumber (trialVerdict w c)
-number-is s w c = go (trialVerdict w c) refl
+number-is : (s : Session) (w : Model) (c : Tried) → numberOf (trial s w c .answer) ≡ verdictNumber (trialVerdict s w c)
+number-is s w c = go (trialVerdict s w c) refl
   where
-    go : (v : Verdict) → trialVerdict w c ≡ v → numberOf (trial s w c .answer) ≡ verdictNumber (trialVerdict w c)
+    go : (v : Verdict) → trialVerdict s w c ≡ v → numberOf (trial s w c .answer) ≡ verdictNumber (trialVerdict s w c)
     go accepted e = ap (λ (x : TrialLeft). numberOf (x .answer)) (trial-judged s w c .is accepted e) ∙ ap verdictNumber (sym e)
     go (refused number place) e = ap (λ (x : TrialLeft). numberOf (x .answer)) (trial-judged s w c .is (refused number place) e) ∙ ap verdictNumber (sym e)
 
 -- ── of one move ──
-verdict-alike : (w : Model) (asked : ℕ) (mv : Move) (r : ℕ) → between 1 r 3 ≡ true → trialVerdict w (asking w asked r mv) ≡ trialVerdict w (asking w asked 1 mv)
+verdict-alike : (s : Session) (w : Model) (asked : ℕ) (mv : Move) (r : ℕ) → between 1 r 3 ≡ true → trialVerdict s w (asking s w asked r mv) ≡ trialVerdict s w (asking s w asked 1 mv)
 unfolding trialVerdict
-verdict-alike w asked mv r e =
-    ap (λ b. require 1 0 (trialFits w (asking w asked 1 mv)) (modelChecks w (require 9 0 b
+verdict-alike s w asked mv r e =
+    ap (λ b. require 1 0 (trialFits w (asking s w asked 1 mv)) (modelChecks w (s .blanks) (require 9 0 b
     (moveChecks mv (w .tables) (check 13 1 (λ i. ltb (nat (asked ∷ []) i) (w .tables .n)) accepted))))) e
 
 pub same-number : SameNumber
 unfolding tried
-same-number w asked mv r e =
-    number-is _ w (asking w asked r mv) ∙ ap verdictNumber (verdict-alike w asked mv r e) ∙ sym (number-is _ w (asking w asked 1 mv))
+same-number s w asked mv r e =
+    number-is s w (asking s w asked r mv) ∙ ap verdictNumber (verdict-alike s w asked mv r e) ∙ sym (number-is s w (asking s w asked 1 mv))
 
 pub same-result : SameResult
 unfolding tried
 same-result b ok room cs proper asked mv r z =
-    let w = modelOf (after b room cs) (ownModel b room) in let c = asking w asked r mv in
-    let alike = trial-alike (record { kept = 0; evaluations = 0 }) (after b room cs .session) w c in
-    ap (λ (l : List ℤ). getD l 0 (pos 0))
-    (alike .1 ∙ demand3 b ok room cs proper .trial-accepted c (sym (ap numberOf (alike .0)) ∙ z) .results)
+    let now = after b room cs in let w = modelOf now (ownModel b room) in
+    ap (λ (l : List ℤ). getD l 0 (pos 0)) (demand3 b ok room cs proper .trial-accepted (asking (now .session) w asked r mv) z .results)

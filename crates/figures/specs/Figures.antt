@@ -10,7 +10,7 @@ use Rattle.integers.specs.Integers.{eqZ}
 use Rattle.paper.specs.Lists.{total, tally, over}
 use Rattle.paper.specs.Formula.{blank, lesser, greater}
 use Rattle.paper.specs.Checks.{Move}
-use Rattle.paper.specs.Calls.{Model}
+use Rattle.paper.specs.Calls.{Session, Model}
 use Rattle.outcomes.specs.Outcomes.{outcome}
 use Rattle.outcomes.specs.declared.Outcome.{Outcome}
 use Rattle.figures.specs.declared.Totals.{Totals}
@@ -35,8 +35,8 @@ unpacked (k ∷ ks) vars values = record { pairs = k; vars = take k vars; values
 abbrev pub movesOf : Batch → List Move
 movesOf b = unpacked (take (b .moves) (b .pairs)) (b .vars) (b .values)
 
-abbrev pub outcomes : Model → ℕ → Batch → List Outcome
-outcomes w asked b = map (outcome w asked) (movesOf b)
+abbrev pub outcomes : Session → Model → ℕ → Batch → List Outcome
+outcomes s w asked b = map (outcome s w asked) (movesOf b)
 
 -- ── the figures of a list of outcomes ──
 -- how many have a number
@@ -73,16 +73,16 @@ totals os = record {
   third = total (map (λ (o : Outcome). o .third) os);
 }
 
--- the moves accepted, and those refused by each of the numbers 1 to 13
+-- the moves accepted, and those refused by each of the numbers 1 to 19
 abbrev pub tallies : List Outcome → List ℕ → List ℕ
-tallies os = over 14 (λ k. having k os)
+tallies os = over 20 (λ k. having k os)
 
 -- ── the call ──
--- at most 1,000 moves, a number of pairs for each, and 14 places for the tallies
+-- at most 1,000 moves, a number of pairs for each, and 20 places for the tallies
 abbrev pub fits : Batch → List ℕ → Bool
-fits b byNumber = (leb (b .moves) 1000 && leb (b .moves) (length (b .pairs))) && leb 14 (length byNumber)
+fits b byNumber = (leb (b .moves) 1000 && leb (b .moves) (length (b .pairs))) && leb 20 (length byNumber)
 
-abbrev pub figures : Model → ℕ → Batch → List ℕ → Counted × List ℕ
-figures w asked b byNumber =
-    let os = outcomes w asked b in
+abbrev pub figures : Session → Model → ℕ → Batch → List ℕ → Counted × List ℕ
+figures s w asked b byNumber =
+    let os = outcomes s w asked b in
     cond (fits b byNumber) (Accepted (totals os), tallies os byNumber) (Refused 1 0, byNumber)

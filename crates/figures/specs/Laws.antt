@@ -8,7 +8,7 @@ use lib.IntN.{ℤ}
 use lib.ListN.{length}
 use Rattle.paper.specs.Lists.{between}
 use Rattle.paper.specs.Checks.{Move}
-use Rattle.paper.specs.Calls.{numberOf, BuildLent, build, Model}
+use Rattle.paper.specs.Calls.{Session, numberOf, BuildLent, build, Model}
 use Rattle.paper.specs.Demands.{Call, modelOf, ownModel, after, Proper, renewed}
 use Rattle.outcomes.specs.Outcomes.{tried}
 use Rattle.figures.specs.Figures.{Batch, figures}
@@ -31,17 +31,17 @@ packed moves = record { moves = length moves; pairs = map length moves; vars = j
 
 abbrev pub OrderChangesNothing : Type 0
 OrderChangesNothing =
-    (w : Model) (asked : ℕ) (moves moves′ : List (List (ℕ × ℤ))) → Rearranged moves moves′
-    → (byNumber : List ℕ) → figures w asked (packed moves) byNumber ≡ figures w asked (packed moves′) byNumber
+    (s : Session) (w : Model) (asked : ℕ) (moves moves′ : List (List (ℕ × ℤ))) → Rearranged moves moves′
+    → (byNumber : List ℕ) → figures s w asked (packed moves) byNumber ≡ figures s w asked (packed moves′) byNumber
 
 -- ── the routes ──
 -- each route gives a move the same number, whatever is lent
 abbrev pub SameNumber : Type 0
-SameNumber = (w : Model) (asked : ℕ) (mv : Move) (r : ℕ) → between 1 r 3 ≡ true → tried w asked r mv .number ≡ tried w asked 1 mv .number
+SameNumber = (s : Session) (w : Model) (asked : ℕ) (mv : Move) (r : ℕ) → between 1 r 3 ≡ true → tried s w asked r mv .number ≡ tried s w asked 1 mv .number
 
 -- and over stored values that the calls left the same result: the fresh value of the asked variable. `room` are the rows for the pairs of the log
 abbrev pub SameResult : Type 0
 SameResult =
     (b : BuildLent) → numberOf (build b .answer) ≡ 0 → (room : List ℕ × List ℤ) (cs : List Call) → Proper b room cs
-    → (asked : ℕ) (mv : Move) (r : ℕ) → tried (modelOf (after b room cs) (ownModel b room)) asked r mv .number ≡ 0
-    → tried (modelOf (after b room cs) (ownModel b room)) asked r mv .result ≡ renewed b room cs mv asked
+    → (asked : ℕ) (mv : Move) (r : ℕ) → let now = after b room cs in tried (now .session) (modelOf now (ownModel b room)) asked r mv .number ≡ 0
+    → tried (now .session) (modelOf now (ownModel b room)) asked r mv .result ≡ renewed b room cs mv asked

@@ -5,11 +5,13 @@ ghost use Prim.Native.Nat.{suc, _+_, min, _≤_, _<_};
 ghost use lib.ListN.{length, take, drop, set};
 ghost use Rattle.paper.specs.Lists.{nat, over};
 ghost use Rattle.judges.specs.Lent.{toModel};
+ghost use Rattle.engine.specs.Left.{recordIn};
 ghost use Rattle.figures.specs.Figures.{outcomes, totals, tallies, batchOf, figures as counted};
 use crate::Counted;
 use crate::Totals;
 use crate::add::add;
 use blanks::BLANK;
+use engine::Session;
 use integers::wide;
 use outcomes::try_move;
 
@@ -58,12 +60,12 @@ fn part_of_values<'a>(at: usize, pairs: usize, rows: &'a [i32]) -> &'a [i32]
     &rows[start..end]
 }
 
-// Puts 0 at the 14 places of a row of tallies.
+// Puts 0 at the 20 places of a row of tallies.
 fn clear(by_number: &mut [u32])
-    requires { ⌜ 14 ≤ length (now «by_number») ⌝ }
-    ensures { λ _. ⌜ now («by_number» .exit) ≡ over 14 (λ k. 0) (now («by_number» .entry)) ⌝ }
+    requires { ⌜ 20 ≤ length (now «by_number») ⌝ }
+    ensures { λ _. ⌜ now («by_number» .exit) ≡ over 20 (λ k. 0) (now («by_number» .entry)) ⌝ }
 {
-    for k in 0..14usize {
+    for k in 0..20usize {
         by_number[k] = 0;
     }
 }
@@ -80,6 +82,7 @@ fn count(by_number: &mut [u32], number: u32)
 
 // Tries the moves one after another, counts each under its number, and answers the figures of all.
 fn try_all(
+    session: Session,
     n: usize,
     m: usize,
     e: usize,
@@ -102,8 +105,8 @@ fn try_all(
     asked: u16,
     by_number: &mut [u32],
 ) -> Totals
-    requires { ⌜ (moves ≤ 1000) × (moves ≤ length (now «move_pairs»)) × (14 ≤ length (now «by_number»)) ⌝ }
-    ensures { λ r. ⌜ (r ≡ totals (outcomes (toModel n m e (now (kinds .entry)) (now (makes .entry)) (now (params .entry)) (now (firsts .entry)) (now (counts .entry)) (now (vars .entry)) (now (coefs .entry)) (now (numbers .entry)) (now (order .entry)) (now (stored .entry)) (now («reader_starts» .entry)) (now («reader_places» .entry))) asked (batchOf moves (now («move_pairs» .entry)) (now («move_vars» .entry)) (now («move_values» .entry))))) × (now («by_number» .exit) ≡ tallies (outcomes (toModel n m e (now (kinds .entry)) (now (makes .entry)) (now (params .entry)) (now (firsts .entry)) (now (counts .entry)) (now (vars .entry)) (now (coefs .entry)) (now (numbers .entry)) (now (order .entry)) (now (stored .entry)) (now («reader_starts» .entry)) (now («reader_places» .entry))) asked (batchOf moves (now («move_pairs» .entry)) (now («move_vars» .entry)) (now («move_values» .entry)))) (now («by_number» .entry))) ⌝ }
+    requires { ⌜ (moves ≤ 1000) × (moves ≤ length (now «move_pairs»)) × (20 ≤ length (now «by_number»)) ⌝ }
+    ensures { λ r. ⌜ (r ≡ totals (outcomes (recordIn session) (toModel n m e (now (kinds .entry)) (now (makes .entry)) (now (params .entry)) (now (firsts .entry)) (now (counts .entry)) (now (vars .entry)) (now (coefs .entry)) (now (numbers .entry)) (now (order .entry)) (now (stored .entry)) (now («reader_starts» .entry)) (now («reader_places» .entry))) asked (batchOf moves (now («move_pairs» .entry)) (now («move_vars» .entry)) (now («move_values» .entry))))) × (now («by_number» .exit) ≡ tallies (outcomes (recordIn session) (toModel n m e (now (kinds .entry)) (now (makes .entry)) (now (params .entry)) (now (firsts .entry)) (now (counts .entry)) (now (vars .entry)) (now (coefs .entry)) (now (numbers .entry)) (now (order .entry)) (now (stored .entry)) (now («reader_starts» .entry)) (now («reader_places» .entry))) asked (batchOf moves (now («move_pairs» .entry)) (now («move_vars» .entry)) (now («move_values» .entry)))) (now («by_number» .entry))) ⌝ }
 {
     let mut totals = none();
     let mut at: usize = 0;
@@ -111,6 +114,7 @@ fn try_all(
     for i in 0..moves {
         let pairs = wide(move_pairs[i]);
         let outcome = try_move(
+            session,
             n,
             m,
             e,
@@ -138,9 +142,10 @@ fn try_all(
     totals
 }
 
-// The figures of up to 1,000 moves, each tried on the stored values with one variable asked. Move i has as many pairs as `move_pairs` says at place
+// The figures of up to 1,000 moves, each tried on the stored values and a copy of the record with one variable asked. Move i has as many pairs as `move_pairs` says at place
 // i; they stand behind those of the moves before it. Place 0 of `by_number` is left with the moves accepted, place k with those refused by number k.
 pub fn figures(
+    session: Session,
     n: usize,
     m: usize,
     e: usize,
@@ -163,9 +168,9 @@ pub fn figures(
     asked: u16,
     by_number: &mut [u32],
 ) -> Counted
-    ensures { λ r. ⌜ (r, now («by_number» .exit)) ≡ counted (toModel n m e (now (kinds .entry)) (now (makes .entry)) (now (params .entry)) (now (firsts .entry)) (now (counts .entry)) (now (vars .entry)) (now (coefs .entry)) (now (numbers .entry)) (now (order .entry)) (now (stored .entry)) (now («reader_starts» .entry)) (now («reader_places» .entry))) asked (batchOf moves (now («move_pairs» .entry)) (now («move_vars» .entry)) (now («move_values» .entry))) (now («by_number» .entry)) ⌝ }
+    ensures { λ r. ⌜ (r, now («by_number» .exit)) ≡ counted (recordIn session) (toModel n m e (now (kinds .entry)) (now (makes .entry)) (now (params .entry)) (now (firsts .entry)) (now (counts .entry)) (now (vars .entry)) (now (coefs .entry)) (now (numbers .entry)) (now (order .entry)) (now (stored .entry)) (now («reader_starts» .entry)) (now («reader_places» .entry))) asked (batchOf moves (now («move_pairs» .entry)) (now («move_vars» .entry)) (now («move_values» .entry))) (now («by_number» .entry)) ⌝ }
 {
-    let fits = (moves <= 1000) & (moves <= move_pairs.len()) & (14 <= by_number.len());
+    let fits = (moves <= 1000) & (moves <= move_pairs.len()) & (20 <= by_number.len());
     if !fits {
         return Counted::Refused {
             number: 1,
@@ -173,6 +178,7 @@ pub fn figures(
         };
     }
     let totals = try_all(
+        session,
         n,
         m,
         e,

@@ -43,7 +43,7 @@ module _ (t : Tables) (ord : List ℕ) (x : Index) (stored : List ℤ) where
 module _ (t : Tables) (stored : List ℤ) where
   -- what an accepted trial leaves
   abbrev pub trialLeft : Tried → TrialLeft
-  trialLeft c = trialLeaves (record { tables = t; numbers = []; order = []; stored = stored; index = indexIn [] [] }) c (record { kept = 0; evaluations = 0 }) accepted
+  trialLeft c = trialLeaves (record { tables = t; numbers = []; order = []; stored = stored; index = indexIn [] [] }) c (record { kept = 0; evaluations = 0; blanks = 0 }) accepted
 
   -- the count and the rows are what it leaves
   pub record TrialFilled (c : Tried) (count : ℕ) (results trial : List ℤ) (flags : List ℕ) : Type 0 where

@@ -3,7 +3,7 @@ ghost use mathlib.Core.Path.{_≡_};
 ghost use Rattle.paper.specs.Tables.{indexIn};
 ghost use Rattle.paper.specs.Checks.{accepted};
 ghost use Rattle.paper.specs.Calls.{buildLeaves};
-ghost use Rattle.judges.specs.Lent.{toBuild};
+ghost use Rattle.judges.specs.Lent.{noRecord, toBuild};
 ghost use Rattle.fills.specs.Accepted.{Buildable};
 use copies::copy_values;
 use order::write_numbers;
@@ -32,12 +32,12 @@ pub fn fill_model(
     reader_places: &mut [u16],
     log_sizes: &mut [u16],
 )
-    requires { ⌜ Buildable (toBuild 0 0 n m e (now kinds) (now makes) (now params) (now firsts) (now counts) (now vars) (now coefs) (now starts) (now numbers) (now order) (now stored) (now «reader_starts») (now «reader_places») (now «log_sizes»)) (now state) ⌝ }
-    ensures { λ _. ⌜ now (numbers .exit) ≡ buildLeaves (toBuild 0 0 n m e (now (kinds .entry)) (now (makes .entry)) (now (params .entry)) (now (firsts .entry)) (now (counts .entry)) (now (vars .entry)) (now (coefs .entry)) (now (starts .entry)) (now (numbers .entry)) (now (order .entry)) (now (stored .entry)) (now («reader_starts» .entry)) (now («reader_places» .entry)) (now («log_sizes» .entry))) accepted .numbers ⌝ }
-    ensures { λ _. ⌜ now (order .exit) ≡ buildLeaves (toBuild 0 0 n m e (now (kinds .entry)) (now (makes .entry)) (now (params .entry)) (now (firsts .entry)) (now (counts .entry)) (now (vars .entry)) (now (coefs .entry)) (now (starts .entry)) (now (numbers .entry)) (now (order .entry)) (now (stored .entry)) (now («reader_starts» .entry)) (now («reader_places» .entry)) (now («log_sizes» .entry))) accepted .order ⌝ }
-    ensures { λ _. ⌜ now (stored .exit) ≡ buildLeaves (toBuild 0 0 n m e (now (kinds .entry)) (now (makes .entry)) (now (params .entry)) (now (firsts .entry)) (now (counts .entry)) (now (vars .entry)) (now (coefs .entry)) (now (starts .entry)) (now (numbers .entry)) (now (order .entry)) (now (stored .entry)) (now («reader_starts» .entry)) (now («reader_places» .entry)) (now («log_sizes» .entry))) accepted .stored ⌝ }
-    ensures { λ _. ⌜ indexIn (now («reader_starts» .exit)) (now («reader_places» .exit)) ≡ buildLeaves (toBuild 0 0 n m e (now (kinds .entry)) (now (makes .entry)) (now (params .entry)) (now (firsts .entry)) (now (counts .entry)) (now (vars .entry)) (now (coefs .entry)) (now (starts .entry)) (now (numbers .entry)) (now (order .entry)) (now (stored .entry)) (now («reader_starts» .entry)) (now («reader_places» .entry)) (now («log_sizes» .entry))) accepted .index ⌝ }
-    ensures { λ _. ⌜ now («log_sizes» .exit) ≡ buildLeaves (toBuild 0 0 n m e (now (kinds .entry)) (now (makes .entry)) (now (params .entry)) (now (firsts .entry)) (now (counts .entry)) (now (vars .entry)) (now (coefs .entry)) (now (starts .entry)) (now (numbers .entry)) (now (order .entry)) (now (stored .entry)) (now («reader_starts» .entry)) (now («reader_places» .entry)) (now («log_sizes» .entry))) accepted .logSizes ⌝ }
+    requires { ⌜ Buildable (toBuild noRecord n m e (now kinds) (now makes) (now params) (now firsts) (now counts) (now vars) (now coefs) (now starts) (now numbers) (now order) (now stored) (now «reader_starts») (now «reader_places») (now «log_sizes»)) (now state) ⌝ }
+    ensures { λ _. ⌜ now (numbers .exit) ≡ buildLeaves (toBuild noRecord n m e (now (kinds .entry)) (now (makes .entry)) (now (params .entry)) (now (firsts .entry)) (now (counts .entry)) (now (vars .entry)) (now (coefs .entry)) (now (starts .entry)) (now (numbers .entry)) (now (order .entry)) (now (stored .entry)) (now («reader_starts» .entry)) (now («reader_places» .entry)) (now («log_sizes» .entry))) accepted .numbers ⌝ }
+    ensures { λ _. ⌜ now (order .exit) ≡ buildLeaves (toBuild noRecord n m e (now (kinds .entry)) (now (makes .entry)) (now (params .entry)) (now (firsts .entry)) (now (counts .entry)) (now (vars .entry)) (now (coefs .entry)) (now (starts .entry)) (now (numbers .entry)) (now (order .entry)) (now (stored .entry)) (now («reader_starts» .entry)) (now («reader_places» .entry)) (now («log_sizes» .entry))) accepted .order ⌝ }
+    ensures { λ _. ⌜ now (stored .exit) ≡ buildLeaves (toBuild noRecord n m e (now (kinds .entry)) (now (makes .entry)) (now (params .entry)) (now (firsts .entry)) (now (counts .entry)) (now (vars .entry)) (now (coefs .entry)) (now (starts .entry)) (now (numbers .entry)) (now (order .entry)) (now (stored .entry)) (now («reader_starts» .entry)) (now («reader_places» .entry)) (now («log_sizes» .entry))) accepted .stored ⌝ }
+    ensures { λ _. ⌜ indexIn (now («reader_starts» .exit)) (now («reader_places» .exit)) ≡ buildLeaves (toBuild noRecord n m e (now (kinds .entry)) (now (makes .entry)) (now (params .entry)) (now (firsts .entry)) (now (counts .entry)) (now (vars .entry)) (now (coefs .entry)) (now (starts .entry)) (now (numbers .entry)) (now (order .entry)) (now (stored .entry)) (now («reader_starts» .entry)) (now («reader_places» .entry)) (now («log_sizes» .entry))) accepted .index ⌝ }
+    ensures { λ _. ⌜ now («log_sizes» .exit) ≡ buildLeaves (toBuild noRecord n m e (now (kinds .entry)) (now (makes .entry)) (now (params .entry)) (now (firsts .entry)) (now (counts .entry)) (now (vars .entry)) (now (coefs .entry)) (now (starts .entry)) (now (numbers .entry)) (now (order .entry)) (now (stored .entry)) (now («reader_starts» .entry)) (now («reader_places» .entry)) (now («log_sizes» .entry))) accepted .logSizes ⌝ }
 {
     write_numbers(n, m, makes, firsts, counts, vars, state, numbers);
     write_order(n, m, makes, firsts, counts, vars, state, order);

@@ -8,11 +8,11 @@ use lib.Dec.{ltb}
 use lib.ListN.{length}
 use borrow.Author.Tests.{leb-true}
 use Rattle.paper.proofs.Lists.{and-left, and-right, each}
-use Rattle.paper.specs.Lists.{nat, between, firstFail}
+use Rattle.paper.specs.Lists.{nat, between}
 use Rattle.paper.specs.Tables.{Tables}
-use Rattle.paper.specs.Checks.{Verdict, accepted, refused, check, require, sized, tableChecks, numbered, indexed, storedGood, moveFits, moveChecks, Move, Sound}
-use Rattle.paper.specs.Calls.{Model, Tried, modelFits, storedValues, modelChecks}
-use Rattle.paper.proofs.Verdicts.{andThen, Chain, chain-after, check-then, require-then, refused-not, require-stops, require-next, check-stops, check-passes, Past}
+use Rattle.paper.specs.Checks.{Verdict, accepted, refused, check, require, sized, tableChecks, numbered, indexed, moveFits, moveChecks, Move, Sound}
+use Rattle.paper.specs.Calls.{Model, Tried, modelFits, modelChecks}
+use Rattle.paper.proofs.Verdicts.{andThen, Chain, chain-after, require-then, refused-not, require-stops, require-next}
 use Rattle.paper.proofs.Accept.{tables-next, tables-then}
 use Rattle.paper.proofs.Sizes.{Sized, sized-facts}
 use Rattle.tables.specs.Answers.{answerOf}
@@ -20,8 +20,8 @@ use Rattle.tables.specs.Makers.{Makers}
 use Rattle.tables.specs.declared.Answer.{Answer}
 use Rattle.tables.specs.declared.Answer.the-variants.{Accepted, Refused}
 use Rattle.tables.proofs.Judged.{accepted-is, refused-is}
-use Rattle.moves.specs.Moves.{OfMakers}
-use Rattle.moves.proofs.Judged.{move-then}
+use Rattle.moves.specs.Moves.{OfMakers, storedChecks}
+use Rattle.moves.proofs.Judged.{stored-then, move-then}
 use Rattle.judges.proofs.Lengths.{index-long}
 use Rattle.judges.specs.Judged.{ModelJudged, askChecks}
 
@@ -38,22 +38,19 @@ module _ (v : Verdict) (r : Answer) (said : r ≡ answerOf 0 v) where
   pub answer-accepts : (j : ℕ) → r ≡ Accepted j → r ≡ answerOf 0 accepted
   answer-accepts j e = said ∙ ap (answerOf 0) (accepted-is 0 j v (sym said ∙ e))
 
--- ── the model: checks 2 to 5, 8, 7 ──
-module _ (w : Model) where
+-- ── the model: checks 2 to 5, 8, 19, 7 ──
+module _ (w : Model) (blanks : ℕ) where
   abbrev t : Tables
   t = w .tables
 
   abbrev eight : Bool
   eight = numbered t (w .numbers) (w .order)
 
-  abbrev seven : ℕ → Bool
-  seven = storedGood t (storedValues w)
-
   abbrev eightToo : Bool
   eightToo = indexed t (w .index)
 
   abbrev fromEight : Verdict → Verdict
-  fromEight next = require 8 0 eight (require 8 0 eightToo (check 7 (t .n) seven next))
+  fromEight next = require 8 0 eight (require 8 0 eightToo (storedChecks blanks (w .stored) t next))
 
   -- the buffers, as check 1 leaves them
   pub record ModelFitting : Type 0 where
@@ -76,39 +73,34 @@ module _ (w : Model) where
         places = index-long t (w .index) (long .1 .1 .1 .0) .1;
       }
 
-  pub model-refused : (by : List ℕ) (r : Answer) (number place : ℕ) → r ≡ Refused number place → modelChecks w accepted ≡ refused number place → ModelJudged w by r
+  pub model-refused : (by : List ℕ) (r : Answer) (number place : ℕ) → r ≡ Refused number place → modelChecks w blanks accepted ≡ refused number place → ModelJudged w blanks by r
   model-refused by r number place e h = record { verdict = e ∙ ap (answerOf 0) (sym h); makers = λ a. refused-not (sym h ∙ a) }
 
   -- 2 to 5
-  pub stops-tables : (number place : ℕ) → tableChecks t accepted ≡ refused number place → modelChecks w accepted ≡ refused number place
+  pub stops-tables : (number place : ℕ) → tableChecks t accepted ≡ refused number place → modelChecks w blanks accepted ≡ refused number place
   stops-tables number place h = tables-then t (fromEight accepted) ∙ ap (λ v. andThen v (fromEight accepted)) h
 
   module _ (s : Sound t) where
-    pub stops-8 : eight ≡ false → modelChecks w accepted ≡ refused 8 0
+    pub stops-8 : eight ≡ false → modelChecks w blanks accepted ≡ refused 8 0
     stops-8 h = tables-next t s _ ∙ require-stops 8 0 eight _ h
 
     module _ (past₈ : eight ≡ true) where
-      pub stops-index : eightToo ≡ false → modelChecks w accepted ≡ refused 8 0
+      pub stops-index : eightToo ≡ false → modelChecks w blanks accepted ≡ refused 8 0
       stops-index h = tables-next t s _ ∙ require-next 8 0 eight _ past₈ ∙ require-stops 8 0 eightToo _ h
 
       module _ (indexed₈ : eightToo ≡ true) where
-        late : modelChecks w accepted ≡ check 7 (t .n) seven accepted
-        late = tables-next t s _ ∙ require-next 8 0 eight _ past₈ ∙ require-next 8 0 eightToo _ indexed₈
+        -- 19 and 7 decide
+        pub from-stored : modelChecks w blanks accepted ≡ storedChecks blanks (w .stored) t accepted
+        from-stored = tables-next t s _ ∙ require-next 8 0 eight _ past₈ ∙ require-next 8 0 eightToo _ indexed₈
 
-        pub stops-7 : (v : ℕ) → v ≡ firstFail seven (t .n) → v < t .n → modelChecks w accepted ≡ refused 7 v
-        stops-7 v e h = late ∙ check-stops 7 (t .n) seven accepted v e h
-
-        pub passes : (v : ℕ) → Past seven (t .n) v → modelChecks w accepted ≡ accepted
-        passes v p = late ∙ check-passes 7 (t .n) seven accepted v p
-
-  model-then : Chain (modelChecks w)
-  model-then = chain-after (tableChecks t) fromEight (tables-then t) (chain-after (require 8 0 eight) (λ next. require 8 0 eightToo (check 7 (t .n) seven next)) (require-then 8 0 eight)
-      (chain-after (require 8 0 eightToo) (check 7 (t .n) seven) (require-then 8 0 eightToo) (check-then 7 (t .n) seven)))
+  model-then : Chain (modelChecks w blanks)
+  model-then = chain-after (tableChecks t) fromEight (tables-then t) (chain-after (require 8 0 eight) (λ next. require 8 0 eightToo (storedChecks blanks (w .stored) t next)) (require-then 8 0 eight)
+      (chain-after (require 8 0 eightToo) (storedChecks blanks (w .stored) t) (require-then 8 0 eightToo) (stored-then blanks (w .stored) t)))
 
   -- accepted: the row holds the makers
-  module _ (by : List ℕ) (r : Answer) (judged : ModelJudged w by r) (j : ℕ) (e : r ≡ Accepted j) where
+  module _ (by : List ℕ) (r : Answer) (judged : ModelJudged w blanks by r) (j : ℕ) (e : r ≡ Accepted j) where
     pub model-makers : Makers t by
-    model-makers = judged .makers (accepted-is 0 j (modelChecks w accepted) (sym (judged .verdict) ∙ e))
+    model-makers = judged .makers (accepted-is 0 j (modelChecks w blanks accepted) (sym (judged .verdict) ∙ e))
 
     -- with check 1 all that the checks of a move ask
     pub move-ready : (mv : Move) → moveFits mv ≡ true
@@ -118,21 +110,21 @@ module _ (w : Model) where
   -- ── a call: check 1, the model, and what comes next ──
   module _ (fits : Bool) (next : Tables → Verdict) where
     abbrev pub callVerdict : Verdict
-    callVerdict = require 1 0 fits (modelChecks w (next t))
+    callVerdict = require 1 0 fits (modelChecks w blanks (next t))
 
     pub call-stops-1 : (r : Answer) → r ≡ Refused 1 0 → fits ≡ false → r ≡ answerOf 0 callVerdict
     call-stops-1 r e h = e ∙ ap (answerOf 0) (sym (require-stops 1 0 fits _ h))
 
-    module _ (fit : fits ≡ true) (by : List ℕ) (r : Answer) (judged : ModelJudged w by r) where
-      after : callVerdict ≡ andThen (modelChecks w accepted) (next t)
+    module _ (fit : fits ≡ true) (by : List ℕ) (r : Answer) (judged : ModelJudged w blanks by r) where
+      after : callVerdict ≡ andThen (modelChecks w blanks accepted) (next t)
       after = require-next 1 0 fits _ fit ∙ model-then (next t)
 
       pub call-stops : (number place : ℕ) → r ≡ Refused number place → r ≡ answerOf 0 callVerdict
-      call-stops number place e = answer-stops (modelChecks w accepted) r (judged .verdict) (next t) number place e ∙ ap (answerOf 0) (sym after)
+      call-stops number place e = answer-stops (modelChecks w blanks accepted) r (judged .verdict) (next t) number place e ∙ ap (answerOf 0) (sym after)
 
       pub call-next : (j : ℕ) → r ≡ Accepted j → (a : Answer) → OfMakers (t .n) by (λ u. a ≡ answerOf 0 (next u)) → a ≡ answerOf 0 callVerdict
       call-next j e a h =
-          h .of t refl (model-makers by r judged j e) ∙ ap (answerOf 0) (sym (after ∙ answer-next (modelChecks w accepted) r (judged .verdict) (next t) j e))
+          h .of t refl (model-makers by r judged j e) ∙ ap (answerOf 0) (sym (after ∙ answer-next (modelChecks w blanks accepted) r (judged .verdict) (next t) j e))
 
 -- ── what is asked: checks 9 to 13 ──
 module _ (c : Tried) (t : Tables) where

@@ -20,9 +20,9 @@ pub record BuildJudged (l : BuildLent) (state : List ℕ) (r : Answer) : Type 0 
   pub numbered : buildVerdict l ≡ accepted → let t = l .tables in Numbered (bare (t .n) (t .m) (t .makes) (t .firsts) (t .counts) (t .vars)) state
 
 -- the answer is that of the model's checks, and if that is acceptance the row holds the makers
-pub record ModelJudged (w : Model) (by : List ℕ) (r : Answer) : Type 0 where
-  pub verdict : r ≡ answerOf 0 (modelChecks w accepted)
-  pub makers : modelChecks w accepted ≡ accepted → Makers (w .tables) by
+pub record ModelJudged (w : Model) (blanks : ℕ) (by : List ℕ) (r : Answer) : Type 0 where
+  pub verdict : r ≡ answerOf 0 (modelChecks w blanks accepted)
+  pub makers : modelChecks w blanks accepted ≡ accepted → Makers (w .tables) by
 
 -- checks 9 to 13 of a trial
 abbrev pub askChecks : Tried → Tables → Verdict

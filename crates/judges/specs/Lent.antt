@@ -3,12 +3,16 @@ use Prim.Native.Nat.{ℕ}
 use mathlib.Core.List.{List}
 use lib.IntN.{ℤ}
 use Rattle.paper.specs.Tables.{lent, indexIn}
-use Rattle.paper.specs.Calls.{BuildLent, Model, Tried, Kept}
+use Rattle.paper.specs.Calls.{Session, BuildLent, Model, Tried, Kept}
 
--- to build: the record's two counters, the tables, start values, the rows to fill, and the sizes of the log
-abbrev pub toBuild : ℕ → ℕ → ℕ → ℕ → ℕ → List ℕ → List ℕ → List ℤ → List ℕ → List ℕ → List ℕ → List ℤ → List ℤ → List ℕ → List ℕ → List ℤ → List ℕ → List ℕ → List ℕ → BuildLent
-toBuild kept evaluations n m e kinds makes params firsts counts vars coefs starts numbers order stored readerStarts readerPlaces logSizes = record {
-  session = record { kept = kept; evaluations = evaluations };
+-- a record that nobody holds
+abbrev pub noRecord : Session
+noRecord = record { kept = 0; evaluations = 0; blanks = 0 }
+
+-- to build: the record, the tables, start values, the rows to fill, and the sizes of the log
+abbrev pub toBuild : Session → ℕ → ℕ → ℕ → List ℕ → List ℕ → List ℤ → List ℕ → List ℕ → List ℕ → List ℤ → List ℤ → List ℕ → List ℕ → List ℤ → List ℕ → List ℕ → List ℕ → BuildLent
+toBuild session n m e kinds makes params firsts counts vars coefs starts numbers order stored readerStarts readerPlaces logSizes = record {
+  session = session;
   tables = lent n m e kinds makes params firsts counts vars coefs;
   starts = starts;
   numbers = numbers;

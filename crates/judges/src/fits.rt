@@ -6,7 +6,7 @@ ghost use lib.Dec.{leb};
 ghost use lib.ListN.{length};
 ghost use Rattle.paper.specs.Log.{logIn, logFits};
 ghost use Rattle.paper.specs.Calls.{buildFits, modelFits, trialFits, keepFits, takeFits};
-ghost use Rattle.judges.specs.Lent.{toBuild, toModel, toTry, toKeep};
+ghost use Rattle.judges.specs.Lent.{noRecord, toBuild, toModel, toTry, toKeep};
 use moves::move_sizes;
 use tables::sizes;
 
@@ -37,7 +37,7 @@ pub fn build_fits(
     reader_places: &[u16],
     log_sizes: &[u16],
 ) -> bool
-    ensures { λ r. ⌜ r ≡ buildFits (toBuild 0 0 n m e (now (kinds .entry)) (now (makes .entry)) (now (params .entry)) (now (firsts .entry)) (now (counts .entry)) (now (vars .entry)) (now (coefs .entry)) (now (starts .entry)) (now (numbers .entry)) (now (order .entry)) (now (stored .entry)) (now («reader_starts» .entry)) (now («reader_places» .entry)) (now («log_sizes» .entry))) ⌝ }
+    ensures { λ r. ⌜ r ≡ buildFits (toBuild noRecord n m e (now (kinds .entry)) (now (makes .entry)) (now (params .entry)) (now (firsts .entry)) (now (counts .entry)) (now (vars .entry)) (now (coefs .entry)) (now (starts .entry)) (now (numbers .entry)) (now (order .entry)) (now (stored .entry)) (now («reader_starts» .entry)) (now («reader_places» .entry)) (now («log_sizes» .entry))) ⌝ }
 {
     sizes(
         n,

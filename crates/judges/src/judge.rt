@@ -1,6 +1,6 @@
 // The verdict of build, before anything lent is written.
 ghost use Rattle.order.specs.Numbering.{Clean};
-ghost use Rattle.judges.specs.Lent.{toBuild};
+ghost use Rattle.judges.specs.Lent.{noRecord, toBuild};
 ghost use Rattle.judges.specs.Judged.{BuildJudged};
 use crate::fits::build_fits;
 use moves::first_bad_value;
@@ -32,7 +32,7 @@ pub fn judge_build(
     state: &mut [u16; 4096],
 ) -> Answer
     requires { ⌜ Clean 4096 (now state) ⌝ }
-    ensures { λ r. ⌜ BuildJudged (toBuild 0 0 n m e (now (kinds .entry)) (now (makes .entry)) (now (params .entry)) (now (firsts .entry)) (now (counts .entry)) (now (vars .entry)) (now (coefs .entry)) (now (starts .entry)) (now (numbers .entry)) (now (order .entry)) (now (stored .entry)) (now («reader_starts» .entry)) (now («reader_places» .entry)) (now («log_sizes» .entry))) (now (state .exit)) r ⌝ }
+    ensures { λ r. ⌜ BuildJudged (toBuild noRecord n m e (now (kinds .entry)) (now (makes .entry)) (now (params .entry)) (now (firsts .entry)) (now (counts .entry)) (now (vars .entry)) (now (coefs .entry)) (now (starts .entry)) (now (numbers .entry)) (now (order .entry)) (now (stored .entry)) (now («reader_starts» .entry)) (now («reader_places» .entry)) (now («log_sizes» .entry))) (now (state .exit)) r ⌝ }
 {
     if !build_fits(
         n,

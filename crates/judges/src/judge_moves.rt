@@ -99,8 +99,9 @@ fn take_checks(
     Answer::Accepted { evaluations: 0 }
 }
 
-// The verdict of trial: checks 1 to 13 without 6, and 8 before 7.
+// The verdict of trial: checks 1 to 13 without 6, and 8 and 19 before 7. `blanks` is the record's number of blanks, here and below.
 pub fn judge_trial(
+    blanks: u32,
     n: usize,
     m: usize,
     e: usize,
@@ -126,7 +127,7 @@ pub fn judge_trial(
     trial: &[i32],
     flags: &[u8],
 ) -> Answer
-    ensures { λ r. ⌜ r ≡ answerOf 0 (trialVerdict (toModel n m e (now (kinds .entry)) (now (makes .entry)) (now (params .entry)) (now (firsts .entry)) (now (counts .entry)) (now (vars .entry)) (now (coefs .entry)) (now (numbers .entry)) (now (order .entry)) (now (stored .entry)) (now («reader_starts» .entry)) (now («reader_places» .entry))) (toTry pairs (now («move_vars» .entry)) (now («move_values» .entry)) asked (now («asked_vars» .entry)) route (now (results .entry)) (now (trial .entry)) (now (flags .entry)))) ⌝ }
+    ensures { λ r. ⌜ r ≡ answerOf 0 (trialVerdict (record { kept = 0; evaluations = 0; blanks = blanks }) (toModel n m e (now (kinds .entry)) (now (makes .entry)) (now (params .entry)) (now (firsts .entry)) (now (counts .entry)) (now (vars .entry)) (now (coefs .entry)) (now (numbers .entry)) (now (order .entry)) (now (stored .entry)) (now («reader_starts» .entry)) (now («reader_places» .entry))) (toTry pairs (now («move_vars» .entry)) (now («move_values» .entry)) asked (now («asked_vars» .entry)) route (now (results .entry)) (now (trial .entry)) (now (flags .entry)))) ⌝ }
 {
     if !trial_fits(
         n,
@@ -158,6 +159,7 @@ pub fn judge_trial(
     }
     let mut by = [0u16; 4096];
     let checked = model_checks(
+        blanks,
         n,
         m,
         e,
@@ -193,6 +195,7 @@ pub fn judge_trial(
 // The verdict of keep: those of trial without 9 and 13, and then 16.
 pub fn judge_keep(
     kept: u32,
+    blanks: u32,
     n: usize,
     m: usize,
     e: usize,
@@ -216,7 +219,7 @@ pub fn judge_keep(
     log_vars: &[u16],
     log_values: &[i32],
 ) -> Answer
-    ensures { λ r. ⌜ r ≡ answerOf 0 (keepVerdict (record { kept = kept; evaluations = 0 }) (logIn (now («log_sizes» .entry)) (now («log_vars» .entry)) (now («log_values» .entry))) (toModel n m e (now (kinds .entry)) (now (makes .entry)) (now (params .entry)) (now (firsts .entry)) (now (counts .entry)) (now (vars .entry)) (now (coefs .entry)) (now (numbers .entry)) (now (order .entry)) (now (stored .entry)) (now («reader_starts» .entry)) (now («reader_places» .entry))) (toKeep pairs (now («move_vars» .entry)) (now («move_values» .entry)) (now (flags .entry)))) ⌝ }
+    ensures { λ r. ⌜ r ≡ answerOf 0 (keepVerdict (record { kept = kept; evaluations = 0; blanks = blanks }) (logIn (now («log_sizes» .entry)) (now («log_vars» .entry)) (now («log_values» .entry))) (toModel n m e (now (kinds .entry)) (now (makes .entry)) (now (params .entry)) (now (firsts .entry)) (now (counts .entry)) (now (vars .entry)) (now (coefs .entry)) (now (numbers .entry)) (now (order .entry)) (now (stored .entry)) (now («reader_starts» .entry)) (now («reader_places» .entry))) (toKeep pairs (now («move_vars» .entry)) (now («move_values» .entry)) (now (flags .entry)))) ⌝ }
 {
     if !keep_fits(
         n,
@@ -246,6 +249,7 @@ pub fn judge_keep(
     }
     let mut by = [0u16; 4096];
     let checked = model_checks(
+        blanks,
         n,
         m,
         e,
@@ -282,6 +286,7 @@ pub fn judge_keep(
 // The verdict of taking back: the model's checks, the log's, and then whether it holds a move.
 pub fn judge_take_back(
     kept: u32,
+    blanks: u32,
     n: usize,
     m: usize,
     e: usize,
@@ -302,7 +307,7 @@ pub fn judge_take_back(
     log_vars: &[u16],
     log_values: &[i32],
 ) -> Answer
-    ensures { λ r. ⌜ r ≡ answerOf 0 (takeVerdict (record { kept = kept; evaluations = 0 }) (logIn (now («log_sizes» .entry)) (now («log_vars» .entry)) (now («log_values» .entry))) (toModel n m e (now (kinds .entry)) (now (makes .entry)) (now (params .entry)) (now (firsts .entry)) (now (counts .entry)) (now (vars .entry)) (now (coefs .entry)) (now (numbers .entry)) (now (order .entry)) (now (stored .entry)) (now («reader_starts» .entry)) (now («reader_places» .entry))) (now (flags .entry))) ⌝ }
+    ensures { λ r. ⌜ r ≡ answerOf 0 (takeVerdict (record { kept = kept; evaluations = 0; blanks = blanks }) (logIn (now («log_sizes» .entry)) (now («log_vars» .entry)) (now («log_values» .entry))) (toModel n m e (now (kinds .entry)) (now (makes .entry)) (now (params .entry)) (now (firsts .entry)) (now (counts .entry)) (now (vars .entry)) (now (coefs .entry)) (now (numbers .entry)) (now (order .entry)) (now (stored .entry)) (now («reader_starts» .entry)) (now («reader_places» .entry))) (now (flags .entry))) ⌝ }
 {
     if !take_fits(
         n,
@@ -329,6 +334,7 @@ pub fn judge_take_back(
     }
     let mut by = [0u16; 4096];
     let checked = model_checks(
+        blanks,
         n,
         m,
         e,

@@ -1,4 +1,4 @@
-// The checks of the model, the same for trial and keep.
+// The checks of the model, the same for trial, keep and taking back.
 ghost use mathlib.Core.Bool.{true};
 ghost use mathlib.Core.Path.{_≡_};
 ghost use Prim.Native.Nat.{_≤_};
@@ -6,7 +6,7 @@ ghost use lib.ListN.{length};
 ghost use Rattle.paper.specs.Calls.{modelFits};
 ghost use Rattle.judges.specs.Lent.{toModel};
 ghost use Rattle.judges.specs.Judged.{ModelJudged};
-use moves::first_bad_value;
+use moves::stored_checks;
 use order::numbered_right;
 use readers::readers_right;
 use sound::table_checks;
@@ -14,8 +14,9 @@ use tables::Answer;
 use tables::makers;
 use tables::refused;
 
-// Checks 2 to 5, 8 and then 7; if all are passed, `by` holds the makers.
+// Checks 2 to 5, 8, 19 and then 7; if all are passed, `by` holds the makers. `blanks` is the record's number of blanks.
 pub fn model_checks(
+    blanks: u32,
     n: usize,
     m: usize,
     e: usize,
@@ -35,7 +36,7 @@ pub fn model_checks(
 ) -> Answer
     requires { ⌜ modelFits (toModel n m e (now kinds) (now makes) (now params) (now firsts) (now counts) (now vars) (now coefs) (now numbers) (now order) (now stored) (now «reader_starts») (now «reader_places»)) ≡ true ⌝ }
     requires { ⌜ n ≤ length (now by) ⌝ }
-    ensures { λ r. ⌜ ModelJudged (toModel n m e (now (kinds .entry)) (now (makes .entry)) (now (params .entry)) (now (firsts .entry)) (now (counts .entry)) (now (vars .entry)) (now (coefs .entry)) (now (numbers .entry)) (now (order .entry)) (now (stored .entry)) (now («reader_starts» .entry)) (now («reader_places» .entry))) (now (by .exit)) r ⌝ }
+    ensures { λ r. ⌜ ModelJudged (toModel n m e (now (kinds .entry)) (now (makes .entry)) (now (params .entry)) (now (firsts .entry)) (now (counts .entry)) (now (vars .entry)) (now (coefs .entry)) (now (numbers .entry)) (now (order .entry)) (now (stored .entry)) (now («reader_starts» .entry)) (now («reader_places» .entry))) blanks (now (by .exit)) r ⌝ }
 {
     let checked = table_checks(n, m, e, kinds, makes, params, firsts, counts, vars, coefs);
     let Answer::Accepted { .. } = checked else {
@@ -48,9 +49,5 @@ pub fn model_checks(
     if !readers_right(n, m, e, firsts, counts, vars, reader_starts, reader_places) {
         return refused(8, 0);
     }
-    let bad = first_bad_value(false, n, by, stored);
-    if bad < n {
-        return refused(7, bad);
-    }
-    checked
+    stored_checks(blanks, n, by, stored)
 }

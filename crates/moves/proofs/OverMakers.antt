@@ -11,9 +11,17 @@ use borrow.Author.Tests.{lt-ltb, le-ltb}
 use Rattle.paper.specs.Lists.{nat}
 use Rattle.paper.specs.Tables.{Tables, isMade, valuesIn}
 use Rattle.paper.specs.Checks.{startGood, storedGood, Move, movable}
+use Rattle.paper.specs.Formula.{blank}
+use Rattle.paper.specs.Calls.{blanksAmong}
+use Rattle.paper.proofs.Count.{size-same}
+use Rattle.integers.specs.Integers.{eqZ}
 use Rattle.tables.specs.Makers.{Makers}
 use Rattle.tables.proofs.Made.{maker-zero}
 use Rattle.moves.specs.Moves.{valueGood}
+
+-- 19: the values in a lent row
+pub blanks-same : (t : Tables) (values : List ℤ) → blanksAmong (t .n) (λ v. getD values v (pos 0)) ≡ blanksAmong (t .n) (valuesIn t values)
+blanks-same t values = size-same _ _ (t .n) (λ v l. ap (λ z. eqZ z blank) (sym (getD-take (t .n) values v (pos 0) l)))
 
 module _ (t : Tables) (by : List ℕ) (k : Makers t by) where
   -- 7

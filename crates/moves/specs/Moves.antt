@@ -4,10 +4,12 @@ use mathlib.Core.Bool.{Bool, cond, not, _||_}
 use mathlib.Core.List.{List}
 use mathlib.Core.Path.{_≡_}
 use lib.IntN.{ℤ, pos}
+use lib.Dec.{eqb}
 use Rattle.integers.specs.Integers.{eqZ}
 use Rattle.paper.specs.Formula.{blank}
-use Rattle.paper.specs.Tables.{Tables}
-use Rattle.paper.specs.Checks.{Move}
+use Rattle.paper.specs.Tables.{Tables, valuesIn}
+use Rattle.paper.specs.Checks.{Verdict, check, require, storedGood, Move}
+use Rattle.paper.specs.Calls.{blanksAmong}
 use Rattle.tables.specs.Makers.{Makers}
 
 -- it holds for any tables of n variables whose makers stand in `by`: of the tables a check is lent that row alone
@@ -17,6 +19,10 @@ pub record OfMakers (n : ℕ) (by : List ℕ) (holds : Tables → Type 0) : Type
 -- 7, of one variable: a search variable is not blank, and a made one is 0 where a model is built
 abbrev pub valueGood : Bool → Bool → ℤ → Bool
 valueGood building made value = cond made (not building || eqZ value (pos 0)) (not (eqZ value blank))
+
+-- checks 19 and 7 of stored values, and then what is next
+abbrev pub storedChecks : ℕ → List ℤ → Tables → Verdict → Verdict
+storedChecks blanks stored t next = require 19 0 (eqb blanks (blanksAmong (t .n) (valuesIn t stored))) (check 7 (t .n) (storedGood t (valuesIn t stored)) next)
 
 -- the lent rows of a move
 abbrev pub moveOf : ℕ → List ℕ → List ℤ → Move

@@ -1,4 +1,4 @@
-// Moves. What is checked of them and of the values that they change: check 7, check 1 of a move, and checks 10 to 12 one by one and as a chain.
+// Moves. What is checked of them and of the values that they change: checks 19 and 7, check 1 of a move, and checks 10 to 12 one by one and as a chain.
 // Made variables are told from search variables by the row of makers. Check 13 is `tables::first_unknown` over the asked variables.
 // An accepted one is counted.
 mod kept;
@@ -12,3 +12,4 @@ pub use pair::first_unmovable;
 pub use pair::move_checks;
 pub use pair::move_sizes;
 pub use value::first_bad_value;
+pub use value::stored_checks;

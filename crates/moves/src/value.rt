@@ -1,13 +1,17 @@
-// Check 7: start values and stored values.
+// Check 7, of start values and of stored values, and check 19 before it.
 ghost use mathlib.Core.Bool.{cond};
 ghost use mathlib.Core.Path.{_≡_};
 ghost use Prim.Native.Nat.{_≤_};
 ghost use lib.ListN.{length};
 ghost use Rattle.paper.specs.Lists.{firstFail};
 ghost use Rattle.paper.specs.Tables.{valuesIn};
-ghost use Rattle.paper.specs.Checks.{startGood, storedGood};
-ghost use Rattle.moves.specs.Moves.{OfMakers, valueGood};
+ghost use Rattle.paper.specs.Checks.{accepted, startGood, storedGood};
+ghost use Rattle.tables.specs.Answers.{answerOf};
+ghost use Rattle.moves.specs.Moves.{OfMakers, valueGood, storedChecks};
+use blanks::blanks_among;
 use blanks::is_blank;
+use tables::Answer;
+use tables::refused;
 
 // A variable may have the value: a search variable any but blank; a made one any, and 0 where a model is built.
 fn value_good(building: bool, made: bool, value: i32) -> bool
@@ -30,4 +34,19 @@ pub fn first_bad_value(building: bool, n: usize, by: &[u16], values: &[i32]) -> 
         }
     }
     n
+}
+
+// Checks 19 and 7 of stored values: `blanks` is how many of them are blank, and no search variable is.
+pub fn stored_checks(blanks: u32, n: usize, by: &[u16], stored: &[i32]) -> Answer
+    requires { ⌜ (n ≤ length (now by)) × (n ≤ length (now stored)) × (n ≤ 4096) ⌝ }
+    ensures { λ r. ⌜ OfMakers n (now (by .entry)) (λ t. r ≡ answerOf 0 (storedChecks blanks (now (stored .entry)) t accepted)) ⌝ }
+{
+    if blanks != blanks_among(n, stored) {
+        return refused(19, 0);
+    }
+    let bad = first_bad_value(false, n, by, stored);
+    if bad < n {
+        return refused(7, bad);
+    }
+    Answer::Accepted { evaluations: 0 }
 }

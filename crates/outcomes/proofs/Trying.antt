@@ -1,10 +1,12 @@
--- What a trial of one move comes to: the engine's number, which is below 14, and evaluations of at most all variables. Assumes nothing.
+-- What a trial of one move comes to: the engine's number, which is below 20, and evaluations of at most all variables. Assumes nothing.
 use Prim.Native.Nat.{ℕ, _≤_, _<_}
 use native.Mathlib.Omega.{arith}
 use mathlib.Core.Path.{_≡_, refl, ap, _∙_}
 use lib.IntN.{pos}
 use lib.ListN.{getD}
-use borrow.Author.Tests.{leb-true}
+use mathlib.Core.Bool.{Bool, true, false, not, _&&_, _||_}
+use lib.Dec.{eqb, leb}
+use borrow.Author.Tests.{leb-true, eqb-true}
 use Rattle.paper.specs.Checks.{Verdict, accepted, refused, Move, movePairs}
 use Rattle.paper.specs.Calls.{Session, numberOf, evaluationsOf, evaluates, Model, storedValues, Tried, askedList, routeOf, TrialLeft, trialVerdict, trial}
 use Rattle.paper.proofs.Lists.{and-left}
@@ -17,35 +19,40 @@ use Rattle.outcomes.specs.declared.Tried as code
 
 -- ── any trial ──
 module _ (s : Session) (w : Model) (c : Tried) where
-  number-low : numberOf (trial s w c .answer) < 14
-  number-low = let h = leb-true (numberOf (trial s w c .answer)) 13 (and-left _ _ (trial-judged s w c .given)) in omega arith
+  number-low : numberOf (trial s w c .answer) < 20
+  number-low = go (leb (numberOf (trial s w c .answer)) 13 && not (eqb (numberOf (trial s w c .answer)) 6)) refl (trial-judged s w c .given)
+    where
+      go : (b : Bool) → (leb (numberOf (trial s w c .answer)) 13 && not (eqb (numberOf (trial s w c .answer)) 6)) ≡ b → (b || eqb (numberOf (trial s w c .answer)) 19) ≡ true
+          → numberOf (trial s w c .answer) < 20
+      go true e h = let k = leb-true (numberOf (trial s w c .answer)) 13 (and-left _ _ e) in omega arith
+      go false e h = let k = eqb-true (numberOf (trial s w c .answer)) 19 h in omega arith
 
   evaluations-low : evaluationsOf (trial s w c .answer) ≤ 4096
-  evaluations-low = go (trialVerdict w c) refl
+  evaluations-low = go (trialVerdict s w c) refl
     where
-      go : (v : Verdict) → trialVerdict w c ≡ v → evaluationsOf (trial s w c .answer) ≤ 4096
+      go : (v : Verdict) → trialVerdict s w c ≡ v → evaluationsOf (trial s w c .answer) ≤ 4096
       go accepted e =
-          let n = sized-facts (w .tables) (trial-known w c e .model .sound .sized) .n-most in
+          let n = sized-facts (w .tables) (trial-known s w c e .model .sound .sized) .n-most in
           let is = ap (λ (x : TrialLeft). evaluationsOf (x .answer)) (trial-judged s w c .is accepted e) in
           let most = size-le (evaluates (w .tables) (storedValues w) (routeOf (c .route)) (movePairs (c .move)) (askedList c)) (w .tables .n) in
           omega arith
       go (refused number place) e = let is = ap (λ (x : TrialLeft). evaluationsOf (x .answer)) (trial-judged s w c .is (refused number place) e) in omega arith
 
 -- ── of one move ──
-module _ (w : Model) (asked route : ℕ) (mv : Move) where
-  pub tried-low : (tried w asked route mv .number < 14) × (tried w asked route mv .evaluations ≤ 4096)
+module _ (s : Session) (w : Model) (asked route : ℕ) (mv : Move) where
+  pub tried-low : (tried s w asked route mv .number < 20) × (tried s w asked route mv .evaluations ≤ 4096)
   unfolding tried
-  tried-low = (number-low _ w _, evaluations-low _ w _)
+  tried-low = (number-low s w _, evaluations-low s w _)
 
-  pub tried-is : (x : TrialLeft) (r : code.Tried) → x ≡ left w asked route mv → r .number ≡ numberOf (x .answer) → r .evaluations ≡ evaluationsOf (x .answer)
-      → r .result ≡ getD (x .results) 0 (pos 0) → r ≡ tried w asked route mv
+  pub tried-is : (x : TrialLeft) (r : code.Tried) → x ≡ left s w asked route mv → r .number ≡ numberOf (x .answer) → r .evaluations ≡ evaluationsOf (x .answer)
+      → r .result ≡ getD (x .results) 0 (pos 0) → r ≡ tried s w asked route mv
   unfolding tried
   tried-is x r e p q y =
       (λ i. record { number = p i; evaluations = q i; result = y i })
       ∙ ap (λ (z : TrialLeft). record { number = numberOf (z .answer); evaluations = evaluationsOf (z .answer); result = getD (z .results) 0 (pos 0) }) e
 
 -- ── by each route ──
-pub outcome-is : (w : Model) (asked : ℕ) (mv : Move) (a b c : code.Tried) → a ≡ tried w asked 1 mv → b ≡ tried w asked 2 mv → c ≡ tried w asked 3 mv
-    → record { number = a .number; result = a .result; first = a .evaluations; second = b .evaluations; third = c .evaluations } ≡ outcome w asked mv
-outcome-is w asked mv a b c p q r =
+pub outcome-is : (s : Session) (w : Model) (asked : ℕ) (mv : Move) (a b c : code.Tried) → a ≡ tried s w asked 1 mv → b ≡ tried s w asked 2 mv → c ≡ tried s w asked 3 mv
+    → record { number = a .number; result = a .result; first = a .evaluations; second = b .evaluations; third = c .evaluations } ≡ outcome s w asked mv
+outcome-is s w asked mv a b c p q r =
     λ i. record { number = p i .number; result = p i .result; first = p i .evaluations; second = q i .evaluations; third = r i .evaluations }

@@ -5,12 +5,12 @@ use lib.IntN.{pos}
 use lib.ListN.{getD, replicate}
 use Rattle.integers.specs.Integers.{away}
 use Rattle.paper.specs.Checks.{Move}
-use Rattle.paper.specs.Calls.{Model, TrialLeft, trial, numberOf, evaluationsOf}
+use Rattle.paper.specs.Calls.{Session, Model, TrialLeft, trial, numberOf, evaluationsOf}
 use Rattle.paper.specs.Calls as calls
 use Rattle.outcomes.specs.declared.Tried.{Tried}
 use Rattle.outcomes.specs.declared.Outcome.{Outcome}
 
-module _ (w : Model) (asked : ℕ) where
+module _ (s : Session) (w : Model) (asked : ℕ) where
   -- as it is asked of the engine: one variable, a route, and rows of its own
   abbrev pub asking : ℕ → Move → calls.Tried
   asking route mv = record {
@@ -23,9 +23,9 @@ module _ (w : Model) (asked : ℕ) where
     flags = replicate 4096 0;
   }
 
-  -- what the engine then leaves, over a record that nobody else holds
+  -- what the engine then leaves, over a copy of the record
   abbrev pub left : ℕ → Move → TrialLeft
-  left route mv = trial (record { kept = 0; evaluations = 0 }) w (asking route mv)
+  left route mv = trial s w (asking route mv)
 
   -- its number, 0 if accepted, its evaluations, and the value of the asked variable
   unfoldable pub tried : ℕ → Move → Tried
@@ -43,7 +43,7 @@ module _ (w : Model) (asked : ℕ) where
 
 -- a number that the engine gives, a result of 32 bits, and evaluations of at most all variables
 pub record Small (o : Outcome) : Type 0 where
-  pub number : o .number < 14
+  pub number : o .number < 20
   pub result : away (o .result) ≤ 2147483648
   pub first : o .first ≤ 4096
   pub second : o .second ≤ 4096

@@ -5,7 +5,7 @@ ghost use Rattle.integers.specs.Integers.{away};
 ghost use Rattle.paper.specs.Calls.{numberOf, evaluationsOf};
 ghost use Rattle.judges.specs.Lent.{toModel};
 ghost use Rattle.moves.specs.Moves.{moveOf};
-ghost use Rattle.engine.specs.Left.{answerIn};
+ghost use Rattle.engine.specs.Left.{answerIn, recordIn};
 ghost use Rattle.outcomes.specs.Outcomes.{tried, outcome, Small};
 use engine::Session;
 use tables::Answer;
@@ -46,8 +46,9 @@ fn evaluations_of(answer: Answer) -> u32
     }
 }
 
-// Tries a move by a route, with one variable asked, over a record and rows of its own.
+// Tries a move by a route, with one variable asked, over a copy of the record and rows of its own.
 fn try_by(
+    session: Session,
     n: usize,
     m: usize,
     e: usize,
@@ -69,12 +70,8 @@ fn try_by(
     asked: u16,
     route: u32,
 ) -> Tried
-    ensures { λ r. ⌜ (r ≡ tried (toModel n m e (now (kinds .entry)) (now (makes .entry)) (now (params .entry)) (now (firsts .entry)) (now (counts .entry)) (now (vars .entry)) (now (coefs .entry)) (now (numbers .entry)) (now (order .entry)) (now (stored .entry)) (now («reader_starts» .entry)) (now («reader_places» .entry))) asked route (moveOf pairs (now («move_vars» .entry)) (now («move_values» .entry)))) × (r .number < 14) × (r .evaluations ≤ 4096) × (away (r .result) ≤ 2147483648) ⌝ }
+    ensures { λ r. ⌜ (r ≡ tried (recordIn session) (toModel n m e (now (kinds .entry)) (now (makes .entry)) (now (params .entry)) (now (firsts .entry)) (now (counts .entry)) (now (vars .entry)) (now (coefs .entry)) (now (numbers .entry)) (now (order .entry)) (now (stored .entry)) (now («reader_starts» .entry)) (now («reader_places» .entry))) asked route (moveOf pairs (now («move_vars» .entry)) (now («move_values» .entry)))) × (r .number < 20) × (r .evaluations ≤ 4096) × (away (r .result) ≤ 2147483648) ⌝ }
 {
-    let session = Session {
-        kept: 0,
-        evaluations: 0,
-    };
     let asked_vars = [asked; 1];
     let mut results = [0i32; 1];
     let mut trial = [0i32; 4096];
@@ -116,6 +113,7 @@ fn try_by(
 
 // Tries a move by each route; the number and the result are those of the first.
 pub fn try_move(
+    session: Session,
     n: usize,
     m: usize,
     e: usize,
@@ -136,9 +134,10 @@ pub fn try_move(
     move_values: &[i32],
     asked: u16,
 ) -> Outcome
-    ensures { λ r. ⌜ (r ≡ outcome (toModel n m e (now (kinds .entry)) (now (makes .entry)) (now (params .entry)) (now (firsts .entry)) (now (counts .entry)) (now (vars .entry)) (now (coefs .entry)) (now (numbers .entry)) (now (order .entry)) (now (stored .entry)) (now («reader_starts» .entry)) (now («reader_places» .entry))) asked (moveOf pairs (now («move_vars» .entry)) (now («move_values» .entry)))) × Small r ⌝ }
+    ensures { λ r. ⌜ (r ≡ outcome (recordIn session) (toModel n m e (now (kinds .entry)) (now (makes .entry)) (now (params .entry)) (now (firsts .entry)) (now (counts .entry)) (now (vars .entry)) (now (coefs .entry)) (now (numbers .entry)) (now (order .entry)) (now (stored .entry)) (now («reader_starts» .entry)) (now («reader_places» .entry))) asked (moveOf pairs (now («move_vars» .entry)) (now («move_values» .entry)))) × Small r ⌝ }
 {
     let first = try_by(
+        session,
         n,
         m,
         e,
@@ -161,6 +160,7 @@ pub fn try_move(
         1,
     );
     let second = try_by(
+        session,
         n,
         m,
         e,
@@ -183,6 +183,7 @@ pub fn try_move(
         2,
     );
     let third = try_by(
+        session,
         n,
         m,
         e,

@@ -15,7 +15,7 @@ use Rattle.paper.specs.Net.{able, number, names}
 use Rattle.paper.specs.Tables.{Tables, net, isMade, inputsOf, ends, order}
 use Rattle.paper.specs.Checks.{Verdict, accepted, sized, startGood, storedGood, numbered, indexed, Move, movePairs, moveFits, movable, namedOnce, hasValue, moveChecks, Sound}
 use Rattle.paper.specs.Log.{Log, moveGood, logged, back, logFits, logGood}
-use Rattle.paper.specs.Calls.{Session, BuildLent, indexFits, buildFits, startValues, buildVerdict, Model, modelFits, storedValues, modelChecks, Tried, trialFits, trialVerdict, Kept, keepFits, keepVerdict, latest, takeFits, takeVerdict}
+use Rattle.paper.specs.Calls.{Session, blanksAmong, BuildLent, indexFits, buildFits, startValues, buildVerdict, Model, modelFits, storedValues, modelChecks, Tried, trialFits, trialVerdict, Kept, keepFits, keepVerdict, latest, takeFits, takeVerdict}
 use Rattle.paper.proofs.Lists.{and-left, and-right, each, all-yes}
 use Rattle.paper.proofs.Least.{allBelow-at}
 use Rattle.paper.proofs.Verdicts.{check-rest, check-held, require-rest, require-held}
@@ -50,7 +50,7 @@ build-known b e =
       starts = check-held 7 (t .n) (startGood t (startValues b)) accepted (check-rest 6 (t .n) (ends t) _ (p .1));
     }
 
--- ── the model of a trial, keep or taking back: checks 1 to 5, 8 and 7 ──
+-- ── the model of a trial, keep or taking back: checks 1 to 5, 8, 19 and 7 ──
 pub record ModelKnown (w : Model) : Type 0 where
   pub sound : Sound (w .tables)
   pub numbers-long : w .tables .n ≤ length (w .numbers)
@@ -63,13 +63,19 @@ pub record ModelKnown (w : Model) : Type 0 where
   pub index-is : indexed (w .tables) (w .index) ≡ true
   pub stored : (v : ℕ) → v < w .tables .n → storedGood (w .tables) (storedValues w) v ≡ true
 
-pub model-known : (w : Model) (next : Verdict) → modelFits w ≡ true → modelChecks w next ≡ accepted → ModelKnown w × (next ≡ accepted)
-model-known w next fits e =
+-- the record has the number of its blank values
+abbrev pub BlanksKnown : ℕ → Model → Type 0
+BlanksKnown blanks w = blanks ≡ blanksAmong (w .tables .n) (storedValues w)
+
+pub model-known : (w : Model) (blanks : ℕ) (next : Verdict) → modelFits w ≡ true → modelChecks w blanks next ≡ accepted → ModelKnown w × BlanksKnown blanks w × (next ≡ accepted)
+model-known w blanks next fits e =
     let t = w .tables in
     let p = tables-passed t (and-left (sized t) _ fits) _ e in
     let eight = require-held 8 0 (numbered t (w .numbers) (w .order)) _ (p .1) in
     let more = require-rest 8 0 (numbered t (w .numbers) (w .order)) _ (p .1) in
-    let seven = require-rest 8 0 (indexed t (w .index)) _ more in
+    let count = require-rest 8 0 (indexed t (w .index)) _ more in
+    let right = eqb blanks (blanksAmong (t .n) (storedValues w)) in
+    let seven = require-rest 19 0 right _ count in
     let long = each _ (and-right (sized t) _ fits) in (
       record {
         sound = p .0;
@@ -83,6 +89,7 @@ model-known w next fits e =
         index-is = require-held 8 0 (indexed t (w .index)) _ more;
         stored = check-held 7 (t .n) (storedGood t (storedValues w)) next seven;
       },
+      eqb-true blanks (blanksAmong (t .n) (storedValues w)) (require-held 19 0 right _ count),
       check-rest 7 (t .n) (storedGood t (storedValues w)) next seven,
     )
 
@@ -142,16 +149,16 @@ pub record TrialKnown (w : Model) (c : Tried) : Type 0 where
   pub few : c .asked ≤ 32
   pub asked : (i : ℕ) → i < c .asked → nat (c .askedVars) i < w .tables .n
 
-pub trial-known : (w : Model) (c : Tried) → trialVerdict w c ≡ accepted → TrialKnown w c
+pub trial-known : (s : Session) (w : Model) (c : Tried) → trialVerdict s w c ≡ accepted → TrialKnown w c
 unfolding trialVerdict
-trial-known w c e =
+trial-known s w c e =
     let n = w .tables .n in
     let fits = each _ (require-held 1 0 (trialFits w c) _ e) in
-    let a = model-known w _ (fits .0) (require-rest 1 0 (trialFits w c) _ e) in
-    let m = move-known (w .tables) (c .move) _ (fits .1 .0) (require-rest 9 0 (between 1 (c .route) 3) _ (a .1)) in
+    let a = model-known w (s .blanks) _ (fits .0) (require-rest 1 0 (trialFits w c) _ e) in
+    let m = move-known (w .tables) (c .move) _ (fits .1 .0) (require-rest 9 0 (between 1 (c .route) 3) _ (a .2)) in
     record {
       model = a .0;
-      route = require-held 9 0 (between 1 (c .route) 3) _ (a .1);
+      route = require-held 9 0 (between 1 (c .route) 3) _ (a .2);
       move = m .0;
       few = leb-true (c .asked) 32 (fits .1 .1 .0);
       asked = λ i k. ltb-true (nat (c .askedVars) i) n (check-held 13 (c .asked) (λ j. ltb (nat (c .askedVars) j) n) accepted (m .1) i k);
@@ -211,6 +218,7 @@ log-known l t kept fits good =
 
 pub record KeepKnown (s : Session) (l : Log) (w : Model) (c : Kept) : Type 0 where
   pub model : ModelKnown w
+  pub blanks : BlanksKnown (s .blanks) w
   pub move : MoveKnown (w .tables) (c .move)
   pub log : LogKnown l (w .tables) (s .kept)
 
@@ -218,9 +226,9 @@ pub keep-known : (s : Session) (l : Log) (w : Model) (c : Kept) → keepVerdict 
 unfolding keepVerdict
 keep-known s l w c e =
     let fits = each _ (require-held 1 0 (keepFits l w c) _ e) in
-    let a = model-known w _ (fits .0) (require-rest 1 0 (keepFits l w c) _ e) in
-    let b = move-known (w .tables) (c .move) _ (fits .1 .0) (a .1) in
-    record { model = a .0; move = b .0; log = log-known l (w .tables) (s .kept) (fits .1 .1 .1 .0) (require-held 16 0 (logGood l (w .tables) (s .kept)) accepted (b .1)) }
+    let a = model-known w (s .blanks) _ (fits .0) (require-rest 1 0 (keepFits l w c) _ e) in
+    let b = move-known (w .tables) (c .move) _ (fits .1 .0) (a .2) in
+    record { model = a .0; blanks = a .1; move = b .0; log = log-known l (w .tables) (s .kept) (fits .1 .1 .1 .0) (require-held 16 0 (logGood l (w .tables) (s .kept)) accepted (b .1)) }
 
 pub record TakeKnown (s : Session) (l : Log) (w : Model) (flags : List ℕ) : Type 0 where
   pub model : ModelKnown w
@@ -231,12 +239,12 @@ pub take-known : (s : Session) (l : Log) (w : Model) (flags : List ℕ) → take
 unfolding takeVerdict
 take-known s l w flags e =
     let fits = each _ (require-held 1 0 (takeFits l w flags) _ e) in
-    let a = model-known w _ (fits .0) (require-rest 1 0 (takeFits l w flags) _ e) in
+    let a = model-known w (s .blanks) _ (fits .0) (require-rest 1 0 (takeFits l w flags) _ e) in
     let good = logGood l (w .tables) (s .kept) in
     record {
       model = a .0;
-      log = log-known l (w .tables) (s .kept) (fits .1 .1 .0) (require-held 16 0 good _ (a .1));
-      some = ltb-true 0 (logged l) (require-held 15 0 (ltb 0 (logged l)) accepted (require-rest 16 0 good _ (a .1)));
+      log = log-known l (w .tables) (s .kept) (fits .1 .1 .0) (require-held 16 0 good _ (a .2));
+      some = ltb-true 0 (logged l) (require-held 15 0 (ltb 0 (logged l)) accepted (require-rest 16 0 good _ (a .2)));
     }
 
 -- the move that takes the latest back passes the checks of a move

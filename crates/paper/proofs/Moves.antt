@@ -18,7 +18,7 @@ use Rattle.paper.specs.Net.{Net, Values, Route, input-to-output, able, n
 use Rattle.paper.specs.Tables.{Tables, net, isMade, valuesIn}
 use Rattle.paper.specs.Checks.{accepted, numbered, indexed, storedGood, Move, movePairs, moveFits, movable, namedOnce, hasValue}
 use Rattle.paper.specs.Log.{Log, logFits, logGood}
-use Rattle.paper.specs.Calls.{Session, newValues, Model, modelFits, storedValues, Kept, keptStored, keepFits, keepVerdict}
+use Rattle.paper.specs.Calls.{Session, blanksAmong, newValues, Model, modelFits, storedValues, Kept, keptBlanks, keptStored, keepFits, keepVerdict}
 use Rattle.paper.proofs.Lists.{clash, eqb-self, all-yes, any-at}
 use Rattle.paper.proofs.Buffers.{length-below, getD-below, over-length, over-front}
 use Rattle.paper.proofs.Scan.{any-append}
@@ -28,7 +28,8 @@ use Rattle.paper.proofs.Lawful.{Lawful, lawful}
 use Rattle.paper.proofs.Eight.{numbered-of}
 use Rattle.paper.proofs.Fresh.{unnamed}
 use Rattle.paper.proofs.Routes.{new-equation}
-use Rattle.paper.proofs.Known.{ModelKnown, MoveKnown}
+use Rattle.paper.proofs.Count.{size-same}
+use Rattle.paper.proofs.Known.{ModelKnown, BlanksKnown, MoveKnown}
 use Rattle.paper.specs.Moves.{pairAt, Has, Apart, AllPairs, joined}
 
 -- ── tests and pairs ──
@@ -268,13 +269,14 @@ module _ (t : Tables) (a b : Move) (known-a : MoveKnown t a) (known-b : MoveKnow
 
 -- ── what is accepted ──
 -- a keep whose model, move and log pass their checks
-pub keep-accepts : (s : Session) (g : Log) (w : Model) (c : Kept) → ModelKnown w → MoveKnown (w .tables) (c .move) → w .tables .n ≤ length (c .flags)
+pub keep-accepts : (s : Session) (g : Log) (w : Model) (c : Kept) → ModelKnown w → BlanksKnown (s .blanks) w → MoveKnown (w .tables) (c .move) → w .tables .n ≤ length (c .flags)
     → logFits g ≡ true → logGood g (w .tables) (s .kept) ≡ true → keepVerdict s g w c ≡ accepted
 unfolding keepVerdict
-keep-accepts s g w c model move room log-fits log-good = let t = w .tables in let mv = c .move in
+keep-accepts s g w c model blanks move room log-fits log-good = let t = w .tables in let mv = c .move in
     require-next 1 0 (keepFits g w c) _ fits ∙ tables-next t (model .sound) _
     ∙ require-next 8 0 (numbered t (w .numbers) (w .order)) _ (numbered-of t (w .numbers) (w .order) (λ v l. model .chains v) (model .numbers-are) (model .order-is))
     ∙ require-next 8 0 (indexed t (w .index)) _ (model .index-is)
+    ∙ require-next 19 0 (eqb (s .blanks) (blanksAmong (t .n) (storedValues w))) _ (eq-eqb (s .blanks) (blanksAmong (t .n) (storedValues w)) blanks)
     ∙ check-next 7 (t .n) (storedGood t (storedValues w)) _ (model .stored)
     ∙ check-next 10 (mv .pairs) (movable mv t) _ (movable-at t mv move)
     ∙ check-next 11 (mv .pairs) (namedOnce mv) _ (λ i l. ap not (move .once i l))
@@ -293,6 +295,16 @@ keep-accepts s g w c model move room log-fits log-good = let t = w .tables in le
 -- route 1 leaves a search variable with the move's value
 new-search : (N : Net) (L : Lawful N) (k : ℕ) → ((v : ℕ) → able (N .ins) k v ≡ true) → (r : Route) (old s : Values) (v : ℕ) → N .made v ≡ false → new N r old s k v ≡ s v
 new-search N L k ends r old s v e = new-equation N L k ends r old s v ∙ rw e
+
+-- the stored values that an accepted keep leaves
+kept-value : (w : Model) (c : Kept) (v : ℕ) → v < w .tables .n
+    → valuesIn (w .tables) (keptStored (w .tables) (w .stored) c) v ≡ newValues (w .tables) (storedValues w) input-to-output (movePairs (c .move)) [] v
+kept-value w c v l = let f = newValues (w .tables) (storedValues w) input-to-output (movePairs (c .move)) [] in
+    ap (λ (row : List ℤ). getD row v (pos 0)) (over-front f (w .tables .n) (w .stored)) ∙ getD-below f (w .tables .n) v (pos 0) l
+
+-- the record then has the number of blanks among them
+pub kept-blanks : (w : Model) (c : Kept) → keptBlanks (w .tables) (w .stored) c ≡ blanksAmong (w .tables .n) (valuesIn (w .tables) (keptStored (w .tables) (w .stored) c))
+kept-blanks w c = size-same _ _ (w .tables .n) (λ v l. ap (λ z. eqZ z blank) (sym (kept-value w c v l)))
 
 -- the model as an accepted keep leaves it passes the same checks
 pub keep-leaves-known : (w : Model) (c : Kept) → ModelKnown w → MoveKnown (w .tables) (c .move) → ModelKnown (record { tables = w .tables; numbers = w .numbers; order = w .order; stored = keptStored (w .tables) (w .stored) c; index = w .index })
@@ -321,9 +333,6 @@ keep-leaves-known w c m move = record {
     f : Values
     f = newValues (w .tables) (storedValues w) input-to-output (movePairs (c .move)) []
 
-    value-at : (v : ℕ) → v < w .tables .n → valuesIn (w .tables) (keptStored (w .tables) (w .stored) c) v ≡ f v
-    value-at v l = ap (λ (row : List ℤ). getD row v (pos 0)) (over-front f (w .tables .n) (w .stored)) ∙ getD-below f (w .tables .n) v (pos 0) l
-
     rest : (x z : Bool) → x ≡ false → (x || not z) ≡ true → z ≡ false
     rest true z e h = absurd (true≢false e)
     rest false z e h = not-true z h
@@ -336,5 +345,5 @@ keep-leaves-known w c m move = record {
     good : (v : ℕ) → v < w .tables .n → (x : Bool) → isMade (w .tables) v ≡ x → storedGood (w .tables) (valuesIn (w .tables) (keptStored (w .tables) (w .stored) c)) v ≡ true
     good v l true e = ap (λ b. b || not (eqZ (valuesIn t (keptStored (w .tables) (w .stored) c) v) blank)) e
     good v l false e =
-        ap₂ (λ b z. b || not (eqZ z blank)) e (value-at v l ∙ new-search (net t) (lawful t) (t .n) (m .chains) input-to-output old (moved mv old) v e)
+        ap₂ (λ b z. b || not (eqZ z blank)) e (kept-value w c v l ∙ new-search (net t) (lawful t) (t .n) (m .chains) input-to-output old (moved mv old) v e)
         ∙ ap not (full v l e (names mv v) refl)

@@ -11,22 +11,22 @@ use Rattle.paper.specs.Lists.{between, total, nat, firstFail}
 use Rattle.paper.specs.Tables.{Tables, ends}
 use Rattle.paper.specs.Checks.{Verdict, accepted, refused, check, require, kindGood, shapeGood, numberGood, madeOnce, tableChecks, startGood, storedGood, numbered, indexed, Move, movable, namedOnce, hasValue, moveChecks}
 use Rattle.paper.specs.Log.{Log, logged, logGood}
-use Rattle.paper.specs.Calls.{Session, Answer, numberOf, BuildLent, BuildLeft, buildFits, startValues, buildVerdict, buildLeaves, build, Model, storedValues, modelChecks, Tried, TrialLeft, trialFits, trialVerdict, trialLeaves, trial, Kept, KeepLeft, keepFits, keepVerdict, keepLeaves, keep, takeFits, takeVerdict, takeLeaves, takeBack}
+use Rattle.paper.specs.Calls.{Session, blanksAmong, Answer, numberOf, BuildLent, BuildLeft, buildFits, startValues, buildVerdict, buildLeaves, build, Model, storedValues, modelChecks, Tried, TrialLeft, trialFits, trialVerdict, trialLeaves, trial, Kept, KeepLeft, keepFits, keepVerdict, keepLeaves, keep, takeFits, takeVerdict, takeLeaves, takeBack}
 use Rattle.paper.specs.Demands.{buildAsWas, trialAsWas, keepAsWas}
 use Rattle.paper.proofs.Verdicts.{refused-not}
 
--- build gives 1 to 7; trial all of 1 to 13 but 6; keep the same except 9 and 13, and 16; taking back 1 to 8 but 6, 15 and 16
+-- build gives 1 to 7; trial all of 1 to 13 but 6, and 19; keep the same except 9 and 13, and 16; taking back 1 to 8 but 6, 15, 16 and 19
 abbrev pub buildNumber : ℕ → Bool
 buildNumber code = leb code 7
 
 abbrev pub trialNumber : ℕ → Bool
-trialNumber code = leb code 13 && not (eqb code 6)
+trialNumber code = (leb code 13 && not (eqb code 6)) || eqb code 19
 
 abbrev pub keepNumber : ℕ → Bool
-keepNumber code = (leb code 12 && not (eqb code 6) && not (eqb code 9)) || eqb code 16
+keepNumber code = (leb code 12 && not (eqb code 6) && not (eqb code 9)) || eqb code 16 || eqb code 19
 
 abbrev pub takeNumber : ℕ → Bool
-takeNumber code = (leb code 8 && not (eqb code 6)) || eqb code 15 || eqb code 16
+takeNumber code = (leb code 8 && not (eqb code 6)) || eqb code 15 || eqb code 16 || eqb code 19
 
 -- ── which numbers a verdict gives: never 0 if it refuses ──
 data Gives (ok : ℕ → Bool) : Verdict → Type 0 where
@@ -57,29 +57,30 @@ build-gives l = let t = l .tables in let ok = buildNumber in
 
 -- trial, keep and taking back: the same checks of model and move
 module _ (ok : ℕ → Bool) where
-  model-gives : (w : Model) {next : Verdict} → ok 2 ≡ true → ok 3 ≡ true → ok 4 ≡ true → ok 5 ≡ true → ok 8 ≡ true → ok 7 ≡ true → Gives ok next → Gives ok (modelChecks w next)
-  model-gives w o₂ o₃ o₄ o₅ o₈ o₇ h = let t = w .tables in
-      tables-give ok t o₂ o₃ o₄ o₅ (lacks ok 7 0 (numbered t (w .numbers) (w .order)) o₈ (lacks ok 7 0 (indexed t (w .index)) o₈ (fails ok 6 (t .n) (storedGood t (storedValues w)) o₇ h)))
+  model-gives : (w : Model) (blanks : ℕ) {next : Verdict} → ok 2 ≡ true → ok 3 ≡ true → ok 4 ≡ true → ok 5 ≡ true → ok 8 ≡ true → ok 19 ≡ true → ok 7 ≡ true → Gives ok next → Gives ok (modelChecks w blanks next)
+  model-gives w blanks o₂ o₃ o₄ o₅ o₈ o₁₉ o₇ h = let t = w .tables in
+      tables-give ok t o₂ o₃ o₄ o₅ (lacks ok 7 0 (numbered t (w .numbers) (w .order)) o₈ (lacks ok 7 0 (indexed t (w .index)) o₈
+      (lacks ok 18 0 (eqb blanks (blanksAmong (t .n) (storedValues w))) o₁₉ (fails ok 6 (t .n) (storedGood t (storedValues w)) o₇ h))))
 
   move-gives : (t : Tables) (mv : Move) {next : Verdict} → ok 10 ≡ true → ok 11 ≡ true → ok 12 ≡ true → Gives ok next → Gives ok (moveChecks mv t next)
   move-gives t mv o₁₀ o₁₁ o₁₂ h = fails ok 9 (mv .pairs) (movable mv t) o₁₀ (fails ok 10 (mv .pairs) (namedOnce mv) o₁₁ (fails ok 11 (mv .pairs) (hasValue mv) o₁₂ h))
 
-trial-gives : (w : Model) (c : Tried) → Gives trialNumber (trialVerdict w c)
+trial-gives : (s : Session) (w : Model) (c : Tried) → Gives trialNumber (trialVerdict s w c)
 unfolding trialVerdict
-trial-gives w c = let ok = trialNumber in
-    lacks ok 0 0 (trialFits w c) refl (model-gives ok w refl refl refl refl refl refl (lacks ok 8 0 (between 1 (c .route) 3) refl
+trial-gives s w c = let ok = trialNumber in
+    lacks ok 0 0 (trialFits w c) refl (model-gives ok w (s .blanks) refl refl refl refl refl refl refl (lacks ok 8 0 (between 1 (c .route) 3) refl
     (move-gives ok (w .tables) (c .move) refl refl refl (fails ok 12 (c .asked) (λ i. ltb (nat (c .askedVars) i) (w .tables .n)) refl passed))))
 
 keep-gives : (s : Session) (l : Log) (w : Model) (c : Kept) → Gives keepNumber (keepVerdict s l w c)
 unfolding keepVerdict
 keep-gives s l w c = let ok = keepNumber in
-    lacks ok 0 0 (keepFits l w c) refl (model-gives ok w refl refl refl refl refl refl
+    lacks ok 0 0 (keepFits l w c) refl (model-gives ok w (s .blanks) refl refl refl refl refl refl refl
     (move-gives ok (w .tables) (c .move) refl refl refl (lacks ok 15 0 (logGood l (w .tables) (s .kept)) refl passed)))
 
 take-gives : (s : Session) (l : Log) (w : Model) (flags : List ℕ) → Gives takeNumber (takeVerdict s l w flags)
 unfolding takeVerdict
 take-gives s l w flags = let ok = takeNumber in
-    lacks ok 0 0 (takeFits l w flags) refl (model-gives ok w refl refl refl refl refl refl
+    lacks ok 0 0 (takeFits l w flags) refl (model-gives ok w (s .blanks) refl refl refl refl refl refl refl
     (lacks ok 15 0 (logGood l (w .tables) (s .kept)) refl (lacks ok 14 0 (ltb 0 (logged l)) refl passed)))
 
 -- ── what holds of every call: x is what it leaves, by its verdict v ──
@@ -116,9 +117,9 @@ pub build-judged : (l : BuildLent) → Judged (λ (x : BuildLeft). x .answer) (b
 unfolding build
 build-judged l = judge (λ (x : BuildLeft). x .answer) (buildLeaves l) (buildAsWas l) buildNumber (buildVerdict l) refl (build-gives l) refl (λ code place. refl) (λ code place. refl)
 
-pub trial-judged : (s : Session) (w : Model) (c : Tried) → Judged (λ (x : TrialLeft). x .answer) (trialLeaves w c s) (trialAsWas s c) trialNumber (trialVerdict w c) (trial s w c)
+pub trial-judged : (s : Session) (w : Model) (c : Tried) → Judged (λ (x : TrialLeft). x .answer) (trialLeaves w c s) (trialAsWas s c) trialNumber (trialVerdict s w c) (trial s w c)
 unfolding trial
-trial-judged s w c = judge (λ (x : TrialLeft). x .answer) (trialLeaves w c s) (trialAsWas s c) trialNumber (trialVerdict w c) refl (trial-gives w c) refl (λ code place. refl) (λ code place. refl)
+trial-judged s w c = judge (λ (x : TrialLeft). x .answer) (trialLeaves w c s) (trialAsWas s c) trialNumber (trialVerdict s w c) refl (trial-gives s w c) refl (λ code place. refl) (λ code place. refl)
 
 module _ (s : Session) (l : Log) (w : Model) where
   pub keep-judged : (c : Kept) → Judged (λ (x : KeepLeft). x .answer) (keepLeaves s l w c) (keepAsWas s l w (c .flags)) keepNumber (keepVerdict s l w c) (keep s l w c)
@@ -138,7 +139,7 @@ pub build-meets : (l : BuildLent) (x : BuildLeft) (v : Verdict) → buildVerdict
     → x .logSizes ≡ buildLeaves l v .logSizes → x ≡ build l
 build-meets l x v e a s n o w k g = (λ i. record { answer = a i; session = s i; numbers = n i; order = o i; stored = w i; index = k i; logSizes = g i }) ∙ sym (build-judged l .is v e)
 
-pub trial-meets : (s : Session) (w : Model) (c : Tried) (x : TrialLeft) (v : Verdict) → trialVerdict w c ≡ v
+pub trial-meets : (s : Session) (w : Model) (c : Tried) (x : TrialLeft) (v : Verdict) → trialVerdict s w c ≡ v
     → x .answer ≡ trialLeaves w c s v .answer → x .session ≡ trialLeaves w c s v .session → x .results ≡ trialLeaves w c s v .results
     → x .trial ≡ trialLeaves w c s v .trial → x .flags ≡ trialLeaves w c s v .flags → x ≡ trial s w c
 trial-meets s w c x v e a z r t f = (λ i. record { answer = a i; session = z i; results = r i; trial = t i; flags = f i }) ∙ sym (trial-judged s w c .is v e)

@@ -19,7 +19,7 @@ use Rattle.paper.specs.Net.{Net, Values, Route, input-to-output, afresh,
 use Rattle.paper.specs.Tables.{Tables, net, isMade, valuesIn}
 use Rattle.paper.specs.Checks.{Verdict, accepted, refused, leaves, sized, movePairs}
 use Rattle.paper.specs.Log.{Log, logIn, logged, back, logGood, dropped}
-use Rattle.paper.specs.Calls.{Answer, Refused, numberOf, evaluationsOf, newValues, evaluates, BuildLent, BuildLeft, startValues, build, Model, Tried, TrialLeft, askedList, routeOf, trialVerdict, trialLeaves, trial, Kept, KeepLeft, storedValues, keptStored, keepVerdict, keepLeaves, keep, latest, takeVerdict, takeLeaves, takeBack}
+use Rattle.paper.specs.Calls.{Session, blanksAmong, Answer, Refused, numberOf, evaluationsOf, newValues, evaluates, BuildLent, BuildLeft, startValues, build, Model, Tried, TrialLeft, askedList, routeOf, trialVerdict, trialLeaves, trial, Kept, KeepLeft, storedValues, keptBlanks, keptStored, keepVerdict, keepLeaves, keep, latest, takeVerdict, takeLeaves, takeBack}
 use Rattle.paper.specs.Demands.{keepAsWas, evaluatedBy, Lent, own, another, Lends, Call, tries, keeps, takes, State, lentOf, ownAfter, rest, modelOf, verdictOf, lendsOf, logOf, passedOn, step, standing, applied, ownModel, fresh, after, history, Proper, old, renewed, tried, triedSet, TrialRight, kept, KeepRight, taken, TakeRight, Told, Demand3}
 use Rattle.paper.proofs.Lists.{and-right, each}
 use Rattle.paper.proofs.Buffers.{length-below, getD-below, over-front, over-over, ones-below}
@@ -110,23 +110,28 @@ module _ (b : BuildLent) (ok : numberOf (build b .answer) ≡ 0) where
       go v l true q = let k = named-below t (c .move) move v q in absurd (lt-irrefl v (omega arith))
       go v l false q = unnamed (movePairs (c .move)) s v q ∙ h .ended v l
 
+  -- the number of blanks that it leaves
+  move-blanks : (row : List ℤ) (s : Values) → Holds row s → (c : Kept) → keptBlanks t row c ≡ blanksAmong (t .n) (afresh N (moved (movePairs (c .move)) s) (t .n))
+  move-blanks row s h c = ap (blanksAmong (t .n)) (new-fresh row s h input-to-output (movePairs (c .move)))
+
   -- ── what holds after a run of that many calls, with these moves kept and not taken back ──
-  -- the row has the fresh values, the log is good and undoes the latest of the moves, and the number kept is theirs as long as it cannot have
-  -- reached its ceiling
-  record Stands (kept : ℕ) (stored : List ℤ) (log : Log) (moves : List (List (ℕ × ℤ))) (calls : ℕ) : Type 0 where
+  -- the row has the fresh values, the record their number of blanks, the log is good and undoes the latest of the moves, and the number kept is
+  -- theirs as long as it cannot have reached its ceiling
+  record Stands (kept blanks : ℕ) (stored : List ℤ) (log : Log) (moves : List (List (ℕ × ℤ))) (calls : ℕ) : Type 0 where
     holds : Holds stored (applied (startValues b) moves)
+    blank : blanks ≡ blanksAmong (t .n) (afresh N (applied (startValues b) moves) (t .n))
     good : logGood log t kept ≡ true
     undoes : Undoes (startValues b) (back log) (logged log) moves
     counted : calls < 4294967295 → kept ≡ length moves
     within : kept ≤ calls
 
   abbrev Stood : State → List (List (ℕ × ℤ)) → ℕ → Type 0
-  Stood now moves calls = Stands (now .session .kept) (now .stored) (now .log) moves calls
+  Stood now moves calls = Stands (now .session .kept) (now .session .blanks) (now .stored) (now .log) moves calls
 
   -- a call that changes nothing of it
-  idle : {kept : ℕ} {stored : List ℤ} {log : Log} {moves : List (List (ℕ × ℤ))} {calls : ℕ} → Stands kept stored log moves calls → Stands kept stored log moves (suc calls)
-  idle {kept} {stored} {log} {moves} {calls} h = let within = h .within in
-      record { holds = h .holds; good = h .good; undoes = h .undoes; counted = λ l. h .counted (omega arith); within = omega arith }
+  idle : {kept blanks : ℕ} {stored : List ℤ} {log : Log} {moves : List (List (ℕ × ℤ))} {calls : ℕ} → Stands kept blanks stored log moves calls → Stands kept blanks stored log moves (suc calls)
+  idle {kept} {blanks} {stored} {log} {moves} {calls} h = let within = h .within in
+      record { holds = h .holds; blank = h .blank; good = h .good; undoes = h .undoes; counted = λ l. h .counted (omega arith); within = omega arith }
 
   -- ── the calls ──
   module _ (room : List ℕ × List ℤ) where
@@ -139,9 +144,10 @@ module _ (b : BuildLent) (ok : numberOf (build b .answer) ≡ 0) where
       keep-stands : (c : Kept) → keepVerdict (now .session) (now .log) (mine now) c ≡ accepted
           → Stood (step now (keeps (ownModel b room) own c)) (movePairs (c .move) ∷ moves) (suc calls)
       keep-stands c e =
-          subst⁻¹ (λ (x : KeepLeft). Stands (x .session .kept) (x .stored) (x .log) (movePairs (c .move) ∷ moves) (suc calls)) (keep-judged (now .session) (now .log) (mine now) c .is accepted e)
+          subst⁻¹ (λ (x : KeepLeft). Stands (x .session .kept) (x .session .blanks) (x .stored) (x .log) (movePairs (c .move) ∷ moves) (suc calls)) (keep-judged (now .session) (now .log) (mine now) c .is accepted e)
           (let log = has .log in let within = h .within in record {
             holds = move-holds (now .stored) (applied (startValues b) moves) (h .holds) c (has .move);
+            blank = move-blanks (now .stored) (applied (startValues b) moves) (h .holds) c;
             good = noted-good t (now .log) (now .session .kept) (has .log) (storedValues (mine now)) (c .move) (has .move) (min (suc (now .session .kept)) 4294967295) (omega arith) full;
             undoes = noted-undoes t (now .log) (now .session .kept) (has .log) (storedValues (mine now)) (c .move) (has .move) (startValues b) moves same (h .undoes);
             counted = λ l. let k = h .counted (omega arith) in omega arith;
@@ -163,7 +169,7 @@ module _ (b : BuildLent) (ok : numberOf (build b .answer) ≡ 0) where
       take-stands : (flags : List ℕ) → takeVerdict (now .session) (now .log) (mine now) flags ≡ accepted
           → Stood (step now (takes (ownModel b room) own flags)) (rest moves) (suc calls)
       take-stands flags e =
-          subst⁻¹ (λ (x : KeepLeft). Stands (x .session .kept) (x .stored) (x .log) (rest moves) (suc calls)) (take-judged (now .session) (now .log) (mine now) flags .is accepted e)
+          subst⁻¹ (λ (x : KeepLeft). Stands (x .session .kept) (x .session .blanks) (x .stored) (x .log) (rest moves) (suc calls)) (take-judged (now .session) (now .log) (mine now) flags .is accepted e)
           (go (ltb (now .session .kept) 4294967295) refl)
         where
           has : TakeKnown (now .session) (now .log) (mine now) flags
@@ -174,10 +180,11 @@ module _ (b : BuildLent) (ok : numberOf (build b .answer) ≡ 0) where
           undone = undoes-latest (startValues b) (back (now .log)) (logged (now .log)) moves (has .some) (h .undoes)
 
           with-kept : (fewer : ℕ) → pred (logged (now .log)) ≤ fewer → (suc calls < 4294967295 → fewer ≡ length (rest moves)) → fewer ≤ suc calls
-              → Stands fewer (keptStored (b .tables) (now .stored) (latest (now .log) flags)) (dropped (now .log)) (rest moves) (suc calls)
+              → Stands fewer (keptBlanks (b .tables) (now .stored) (latest (now .log) flags)) (keptStored (b .tables) (now .stored) (latest (now .log) flags)) (dropped (now .log)) (rest moves) (suc calls)
           with-kept fewer low counted within = record {
             holds = subst (Holds (keptStored t (now .stored) (latest (now .log) flags))) (undone .0)
                 (move-holds (now .stored) (applied (startValues b) moves) (h .holds) (latest (now .log) flags) (latest-known (now .session) (now .log) (mine now) flags has));
+            blank = move-blanks (now .stored) (applied (startValues b) moves) (h .holds) (latest (now .log) flags) ∙ ap (λ s. blanksAmong (t .n) (afresh N s (t .n))) (undone .0);
             good = dropped-good t (now .log) (now .session .kept) (has .log) fewer low;
             undoes = dropped-undoes t (now .log) (now .session .kept) (has .log) (startValues b) (rest moves) (undone .1);
             counted = counted;
@@ -185,7 +192,7 @@ module _ (b : BuildLent) (ok : numberOf (build b .answer) ≡ 0) where
           }
 
           go : (x : Bool) → ltb (now .session .kept) 4294967295 ≡ x
-              → Stands (cond x (pred (now .session .kept)) (now .session .kept)) (keptStored (b .tables) (now .stored) (latest (now .log) flags)) (dropped (now .log)) (rest moves) (suc calls)
+              → Stands (cond x (pred (now .session .kept)) (now .session .kept)) (keptBlanks (b .tables) (now .stored) (latest (now .log) flags)) (keptStored (b .tables) (now .stored) (latest (now .log) flags)) (dropped (now .log)) (rest moves) (suc calls)
           go true q =
               let log = has .log in let within = h .within in
               with-kept (pred (now .session .kept)) (omega arith) (λ l. let k = h .counted (omega arith) in let z = rest-length moves in omega arith) (omega arith)
@@ -193,13 +200,14 @@ module _ (b : BuildLent) (ok : numberOf (build b .answer) ≡ 0) where
               let log = has .log in let within = h .within in let most = ltb-false (now .session .kept) 4294967295 q in
               with-kept (now .session .kept) (omega arith) (λ l. absurd (lt-irrefl 4294967295 (omega arith))) (omega arith)
 
-      -- any trial leaves the number kept
-      trial-kept : (l : Lends) (c : Tried) → trial (now .session) (modelOf now l) c .session .kept ≡ now .session .kept
-      trial-kept l c = go (trialVerdict (modelOf now l) c) refl
+      -- any trial leaves the number kept and the number of blanks
+      trial-leaves : (l : Lends) (c : Tried) {A : Type 0} (part : Session → A) → ((s : Session) (count : ℕ) → part (record { kept = s .kept; evaluations = count; blanks = s .blanks }) ≡ part s)
+          → part (trial (now .session) (modelOf now l) c .session) ≡ part (now .session)
+      trial-leaves l c part same = go (trialVerdict (now .session) (modelOf now l) c) refl
         where
-          go : (v : Verdict) → trialVerdict (modelOf now l) c ≡ v → trial (now .session) (modelOf now l) c .session .kept ≡ now .session .kept
-          go accepted e = ap (λ (x : TrialLeft). x .session .kept) (trial-judged (now .session) (modelOf now l) c .is accepted e)
-          go (refused number place) e = ap (λ (x : TrialLeft). x .session .kept) (trial-judged (now .session) (modelOf now l) c .is (refused number place) e)
+          go : (v : Verdict) → trialVerdict (now .session) (modelOf now l) c ≡ v → part (trial (now .session) (modelOf now l) c .session) ≡ part (now .session)
+          go accepted e = ap (λ (x : TrialLeft). part (x .session)) (trial-judged (now .session) (modelOf now l) c .is accepted e) ∙ same (now .session) _
+          go (refused number place) e = ap (λ (x : TrialLeft). part (x .session)) (trial-judged (now .session) (modelOf now l) c .is (refused number place) e)
 
       -- a keep or a taking back by its verdict: what it does if it was lent the session's own, and nothing if it is refused
       passes : (verdict : Lends → Lent Log → Verdict) (left : Lends → Lent Log → KeepLeft) (flags : List ℕ) (other : List (List (ℕ × ℤ)))
@@ -218,7 +226,8 @@ module _ (b : BuildLent) (ok : numberOf (build b .answer) ≡ 0) where
               subst⁻¹ (λ z. Stood z moves (suc calls)) (passed-as-was now l g flags (Refused number place) (left l g) (same number place e)) (idle h)
 
       step-stands : (c : Call) → (verdictOf now c ≡ accepted → (lendsOf c ≡ ownModel b room) × (logOf c ≡ own)) → Stood (step now c) (standing now c moves) (suc calls)
-      step-stands (tries l c) proper = subst⁻¹ (λ k. Stands k (now .stored) (now .log) moves (suc calls)) (trial-kept l c) (idle h)
+      step-stands (tries l c) proper =
+          subst⁻¹ (λ (x : ℕ × ℕ). Stands (x .0) (x .1) (now .stored) (now .log) moves (suc calls)) (trial-leaves l c (λ (s : Session). (s .kept, s .blanks)) (λ s count. refl)) (idle h)
       step-stands (keeps l g c) proper =
           passes (λ m k. verdictOf now (keeps m k c)) (λ m k. keep (now .session) (lentOf k (now .log)) (modelOf now m) c) (c .flags) (movePairs (c .move) ∷ moves) (keep-stands c) l g
           (λ number place. keep-judged (now .session) (lentOf g (now .log)) (modelOf now l) c .is (refused number place)) proper
@@ -230,9 +239,10 @@ module _ (b : BuildLent) (ok : numberOf (build b .answer) ≡ 0) where
     -- build leaves an empty log
     stands-first : Stood (after b room []) [] 0
     stands-first =
-        subst⁻¹ (λ (x : BuildLeft). Stands (x .session .kept) (x .stored) (logIn (x .logSizes) (room .0) (room .1)) [] 0) (build-judged b .is accepted (build-judged b .good ok))
+        subst⁻¹ (λ (x : BuildLeft). Stands (x .session .kept) (x .session .blanks) (x .stored) (logIn (x .logSizes) (room .0) (room .1)) [] 0) (build-judged b .is accepted (build-judged b .good ok))
         (record {
           holds = record { row-is = refl; ended = λ v l. List·getD-eq-default (take (t .n) (b .starts)) (pos 0) (simp length-take (omega arith)) };
+          blank = refl;
           good = good-log (logIn (set (b .logSizes) 0 0) (room .0) (room .1)) t 0 (omega (arith, none)) (omega (arith, none)) (λ k l. let z = none in absurd (lt-irrefl 0 (omega arith)));
           undoes = subst⁻¹ (λ n. Undoes (startValues b) (back (logIn (set (b .logSizes) 0 0) (room .0) (room .1))) n []) none tt;
           counted = λ l. refl;
@@ -285,7 +295,8 @@ module _ (b : BuildLent) (ok : numberOf (build b .answer) ≡ 0) where
             ∙ ap (λ (q : ℕ → Bool). over (t .n) (λ v. cond (names mv v || q v) (renewed b room cs (c .move) v) (stored v)) (c .trial)) (set-is r mv asked)
             ∙ ap (λ (f : Values). over (t .n) (λ v. cond (names mv v || triedSet b room cs (ownModel b room) c v) (renewed b room cs (c .move) v) (f v)) (c .trial)) old-is;
         told = told-by (triedSet b room cs (ownModel b room) c) (c .flags) (set-is r mv asked) (ap (λ (x : TrialLeft). evaluationsOf (x .answer)) left) (ap (λ (x : TrialLeft). x .flags) left);
-        session = ap (λ (x : TrialLeft). x .session) left ∙ sym (ap (λ (x : TrialLeft). record { kept = now .session .kept; evaluations = evaluationsOf (x .answer) }) left);
+        session = ap (λ (x : TrialLeft). x .session) left ∙ sym (ap (λ (x : TrialLeft). record { kept = now .session .kept; evaluations = evaluationsOf (x .answer); blanks = now .session .blanks }) left)
+            ∙ ap (λ k. record { kept = now .session .kept; evaluations = evaluationsOf (tried b room cs (ownModel b room) c .answer); blanks = k }) (stands cs p .blank);
       }
         where
           r : Route
@@ -310,7 +321,9 @@ module _ (b : BuildLent) (ok : numberOf (build b .answer) ≡ 0) where
         told =
             told-by (evaluatedBy b room cs input-to-output (c .move) []) (c .flags) (set-is input-to-output (movePairs (c .move)) [])
             (ap (λ (x : KeepLeft). evaluationsOf (x .answer)) left) (ap (λ (x : KeepLeft). x .flags) left);
-        session = ap (λ (x : KeepLeft). x .session) left ∙ sym (ap (λ (x : KeepLeft). record { kept = min (suc (now .session .kept)) 4294967295; evaluations = evaluationsOf (x .answer) }) left);
+        session = ap (λ (x : KeepLeft). x .session) left ∙ sym (ap (λ (x : KeepLeft). record { kept = min (suc (now .session .kept)) 4294967295; evaluations = evaluationsOf (x .answer); blanks = keptBlanks t (now .stored) c }) left)
+            ∙ ap (λ k. record { kept = min (suc (now .session .kept)) 4294967295; evaluations = evaluationsOf (kept b room cs (ownModel b room) own c .answer); blanks = k })
+            (move-blanks (now .stored) (applied (startValues b) (history b room cs)) holds c);
         more =
             ap (λ (x : KeepLeft). logged (x .log)) left ∙ noted-logged t (now .log) (now .session .kept) (has .log) (storedValues (mine now)) (c .move) (has .move) ∙ omega arith;
       }
@@ -332,7 +345,9 @@ module _ (b : BuildLent) (ok : numberOf (build b .answer) ≡ 0) where
             told-by (evaluatedBy b room cs input-to-output (latest (now .log) flags .move) []) flags (set-is input-to-output (movePairs (latest (now .log) flags .move)) [])
             (ap (λ (x : KeepLeft). evaluationsOf (x .answer)) left) (ap (λ (x : KeepLeft). x .flags) left);
         session = let k = now .session .kept in
-            ap (λ (x : KeepLeft). x .session) left ∙ sym (ap (λ (x : KeepLeft). record { kept = cond (ltb k 4294967295) (pred k) k; evaluations = evaluationsOf (x .answer) }) left);
+            ap (λ (x : KeepLeft). x .session) left ∙ sym (ap (λ (x : KeepLeft). record { kept = cond (ltb k 4294967295) (pred k) k; evaluations = evaluationsOf (x .answer); blanks = x .session .blanks }) left)
+            ∙ ap (λ z. record { kept = cond (ltb k 4294967295) (pred k) k; evaluations = evaluationsOf (taken b room cs (ownModel b room) own flags .answer); blanks = z })
+            (take-stands now (history b room cs) (length cs) (stands cs p) flags good .blank);
         fewer = ap (λ (x : KeepLeft). logged (x .log)) left ∙ dropped-logged t (now .log) (now .session .kept) (take-known (now .session) (now .log) (mine now) flags good .log);
       }
         where
@@ -347,6 +362,7 @@ module _ (b : BuildLent) (ok : numberOf (build b .answer) ≡ 0) where
     session cs p = let now = after b room cs in let all = stands cs p in record {
       stored = all .holds .row-is;
       counted = all .counted;
+      blanks = all .blank;
       log-good = all .good;
       log-low = undoes-low (startValues b) (back (now .log)) (logged (now .log)) (history b room cs) (all .undoes);
       trial-accepted = trial-right cs p;

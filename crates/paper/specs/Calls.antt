@@ -7,16 +7,23 @@ use mathlib.Core.List.{List, [], _∷_, _++_}
 use lib.IntN.{ℤ}
 use lib.Dec.{eqb, leb, ltb}
 use lib.ListN.{length, set, take, drop}
+use Rattle.integers.specs.Integers.{eqZ}
 use Rattle.paper.specs.Lists.{every, between, nat, size, over}
+use Rattle.paper.specs.Formula.{blank}
 use Rattle.paper.specs.Net.{Values, Route, input-to-output, output-to-input, mark-guided, number, afresh, new, evaluated, moved, names}
 use Rattle.paper.specs.Tables.{Tables, Index, net, valuesIn, ends, order, index}
 use Rattle.paper.specs.Checks.{Verdict, accepted, refused, check, require, leaves, sized, tableChecks, startGood, numbered, indexed, storedGood, Move, movePairs, moveFits, moveChecks}
 use Rattle.paper.specs.Log.{Log, logged, back, logFits, logGood, noted, dropped}
 
--- the session record: moves kept, and evaluations of the last accepted call
+-- the session record: moves kept, evaluations of the last accepted call, and how many stored values are blank
 pub record Session : Type 0 where
   pub kept : ℕ
   pub evaluations : ℕ
+  pub blanks : ℕ
+
+-- how many of the first n values are blank
+abbrev pub blanksAmong : ℕ → Values → ℕ
+blanksAmong n f = size (λ v. eqZ (f v) blank) n
 
 -- what a call answers
 pub data Answer : Type 0 where
@@ -100,7 +107,7 @@ module _ (l : BuildLent) where
   abbrev pub buildLeaves : Verdict → BuildLeft
   buildLeaves v = let t = l .tables in record {
     answer = answered v (t .m);
-    session = leaves v (record { kept = 0; evaluations = t .m }) (l .session);
+    session = leaves v (record { kept = 0; evaluations = t .m; blanks = blanksAmong (t .n) (afresh (net t) startValues (t .n)) }) (l .session);
     numbers = leaves v (over (t .n) (number (net t) (t .n)) (l .numbers)) (l .numbers);
     order = leaves v (order t ++ drop (t .m) (l .order)) (l .order);
     stored = leaves v (over (t .n) (afresh (net t) startValues (t .n)) (l .stored)) (l .stored);
@@ -127,10 +134,11 @@ module _ (w : Model) where
   abbrev pub storedValues : Values
   storedValues = valuesIn (w .tables) (w .stored)
 
-  -- checks 2, 3, 4, 5, 8, 7
-  abbrev pub modelChecks : Verdict → Verdict
-  modelChecks next = let t = w .tables in
-      tableChecks t (require 8 0 (numbered t (w .numbers) (w .order)) (require 8 0 (indexed t (w .index)) (check 7 (t .n) (storedGood t storedValues) next)))
+  -- checks 2, 3, 4, 5, 8, 19, 7; `blanks` is the record's number of blanks
+  abbrev pub modelChecks : ℕ → Verdict → Verdict
+  modelChecks blanks next = let t = w .tables in
+      tableChecks t (require 8 0 (numbered t (w .numbers) (w .order)) (require 8 0 (indexed t (w .index))
+      (require 19 0 (eqb blanks (blanksAmong (t .n) storedValues)) (check 7 (t .n) (storedGood t storedValues) next))))
 
 -- ── trial ──
 pub record Tried : Type 0 where
@@ -163,35 +171,38 @@ module _ (w : Model) (c : Tried) where
       modelFits w ∷ moveFits (c .move) ∷ leb (c .asked) 32 ∷ leb (c .asked) (length (c .askedVars))
       ∷ leb (c .asked) (length (c .results)) ∷ leb n (length (c .trial)) ∷ leb n (length (c .flags)) ∷ [])
 
-  unfoldable pub trialVerdict : Verdict
-  trialVerdict = let t = w .tables in
-      require 1 0 trialFits (modelChecks w (require 9 0 (between 1 (c .route) 3)
-      (moveChecks (c .move) t (check 13 (c .asked) (λ i. ltb (nat (c .askedVars) i) (t .n)) accepted))))
-
   abbrev pub trialLeaves : Session → Verdict → TrialLeft
   trialLeaves s v =
       let t = w .tables in let old = storedValues w in let r = routeOf (c .route) in let mv = movePairs (c .move) in let asked = askedList c in
       let count = size (evaluates t old r mv asked) (t .n) in
       record {
         answer = answered v count;
-        session = leaves v (record { kept = s .kept; evaluations = count }) s;
+        session = leaves v (record { kept = s .kept; evaluations = count; blanks = s .blanks }) s;
         results = leaves v (over (c .asked) (λ i. newValues t old r mv asked (nat (c .askedVars) i)) (c .results)) (c .results);
         trial = leaves v (trialRow t old r mv asked (c .trial)) (c .trial);
         flags = leaves v (flagRow t old r mv asked (c .flags)) (c .flags);
       }
 
+unfoldable pub trialVerdict : Session → Model → Tried → Verdict
+trialVerdict s w c = let t = w .tables in
+    require 1 0 (trialFits w c) (modelChecks w (s .blanks) (require 9 0 (between 1 (c .route) 3)
+    (moveChecks (c .move) t (check 13 (c .asked) (λ i. ltb (nat (c .askedVars) i) (t .n)) accepted))))
+
 unfoldable pub trial : Session → Model → Tried → TrialLeft
-trial s w c = trialLeaves w c s (trialVerdict w c)
+trial s w c = trialLeaves w c s (trialVerdict s w c)
 
 -- ── keep: by route 1, with nothing asked ──
 pub record Kept : Type 0 where
   pub move : Move
   pub flags : List ℕ
 
--- what a move leaves by that route over stored values: the evaluations, the stored values and the flags
+-- what a move leaves by that route over stored values: the evaluations, how many are then blank, the stored values and the flags
 module _ (t : Tables) (stored : List ℤ) (c : Kept) where
   abbrev pub keptCount : ℕ
   keptCount = size (evaluates t (valuesIn t stored) input-to-output (movePairs (c .move)) []) (t .n)
+
+  abbrev pub keptBlanks : ℕ
+  keptBlanks = blanksAmong (t .n) (newValues t (valuesIn t stored) input-to-output (movePairs (c .move)) [])
 
   abbrev pub keptStored : List ℤ
   keptStored = over (t .n) (newValues t (valuesIn t stored) input-to-output (movePairs (c .move)) []) stored
@@ -211,7 +222,7 @@ pub record KeepLeft : Type 0 where
 abbrev pub moveLeaves : Session → Log → Model → Kept → ℕ → Log → Verdict → KeepLeft
 moveLeaves s l w c number log v = let t = w .tables in let count = keptCount t (w .stored) c in record {
   answer = answered v count;
-  session = leaves v (record { kept = number; evaluations = count }) s;
+  session = leaves v (record { kept = number; evaluations = count; blanks = keptBlanks t (w .stored) c }) s;
   stored = leaves v (keptStored t (w .stored) c) (w .stored);
   flags = leaves v (keptFlags t (w .stored) c) (c .flags);
   log = leaves v log l;
@@ -223,7 +234,7 @@ keepFits l w c = every (modelFits w ∷ moveFits (c .move) ∷ leb (w .tables .n
 module _ (s : Session) (l : Log) (w : Model) (c : Kept) where
   unfoldable pub keepVerdict : Verdict
   keepVerdict = let t = w .tables in
-      require 1 0 (keepFits l w c) (modelChecks w (moveChecks (c .move) t (require 16 0 (logGood l t (s .kept)) accepted)))
+      require 1 0 (keepFits l w c) (modelChecks w (s .blanks) (moveChecks (c .move) t (require 16 0 (logGood l t (s .kept)) accepted)))
 
   -- one more move kept, and it is noted
   abbrev pub keepLeaves : Verdict → KeepLeft
@@ -242,7 +253,7 @@ takeFits l w flags = every (modelFits w ∷ leb (w .tables .n) (length flags) �
 module _ (s : Session) (l : Log) (w : Model) (flags : List ℕ) where
   unfoldable pub takeVerdict : Verdict
   takeVerdict = let t = w .tables in
-      require 1 0 (takeFits l w flags) (modelChecks w (require 16 0 (logGood l t (s .kept)) (require 15 0 (ltb 0 (logged l)) accepted)))
+      require 1 0 (takeFits l w flags) (modelChecks w (s .blanks) (require 16 0 (logGood l t (s .kept)) (require 15 0 (ltb 0 (logged l)) accepted)))
 
   -- one move kept fewer unless the number stands at its ceiling, and the log is without it
   abbrev pub takeLeaves : Verdict → KeepLeft

@@ -13,7 +13,7 @@ use Rattle.paper.specs.Net.{Net, Values, Route, Depends, numbering, numb
 use Rattle.paper.specs.Tables.{Tables, Index, lent, net, inputsOf, order, index}
 use Rattle.paper.specs.Checks.{Verdict, accepted, refused, require, leaves, tableChecks, Move, movePairs}
 use Rattle.paper.specs.Log.{Log, logIn, logged, logGood}
-use Rattle.paper.specs.Calls.{Session, Answer, Accepted, numberOf, placeOf, evaluationsOf, BuildLent, BuildLeft, startValues, buildFits, build, Model, Tried, TrialLeft, askedList, routeOf, trial, trialVerdict, Kept, KeepLeft, keep, keepVerdict, latest, takeBack, takeVerdict}
+use Rattle.paper.specs.Calls.{Session, blanksAmong, Answer, Accepted, numberOf, placeOf, evaluationsOf, BuildLent, BuildLeft, startValues, buildFits, build, Model, Tried, TrialLeft, askedList, routeOf, trial, trialVerdict, Kept, KeepLeft, keep, keepVerdict, latest, takeBack, takeVerdict}
 use Rattle.paper.specs.File.{endsAt, held, write, counted, read}
 
 -- ── demand 1: a call works, or refuses with a number of its own and changes nothing ──
@@ -28,17 +28,17 @@ trialAsWas s c answer = record { answer = answer; session = s; results = c .resu
 abbrev pub keepAsWas : Session → Log → Model → List ℕ → Answer → KeepLeft
 keepAsWas s l w flags answer = record { answer = answer; session = s; stored = w .stored; flags = flags; log = l }
 
--- build gives 1 to 7; trial all of 1 to 13 but 6; keep the same except 9 and 13, and 16; taking back 1 to 8 but 6, 15 and 16
+-- build gives 1 to 7; trial all of 1 to 13 but 6, and 19; keep the same except 9 and 13, and 16; taking back 1 to 8 but 6, 15, 16 and 19
 pub record Demand1 : Type 0 where
   pub build-number : (l : BuildLent) → leb (numberOf (build l .answer)) 7 ≡ true
   pub build-refused : (l : BuildLent) → (numberOf (build l .answer) ≡ 0 → ⊥) → build l ≡ buildAsWas l (build l .answer)
-  pub trial-number : (s : Session) (w : Model) (c : Tried) → let k = numberOf (trial s w c .answer) in (leb k 13 && not (eqb k 6)) ≡ true
+  pub trial-number : (s : Session) (w : Model) (c : Tried) → let k = numberOf (trial s w c .answer) in ((leb k 13 && not (eqb k 6)) || eqb k 19) ≡ true
   pub trial-refused : (s : Session) (w : Model) (c : Tried) → (numberOf (trial s w c .answer) ≡ 0 → ⊥) → trial s w c ≡ trialAsWas s c (trial s w c .answer)
   pub keep-number : (s : Session) (l : Log) (w : Model) (c : Kept) → let k = numberOf (keep s l w c .answer) in
-      ((leb k 12 && not (eqb k 6) && not (eqb k 9)) || eqb k 16) ≡ true
+      ((leb k 12 && not (eqb k 6) && not (eqb k 9)) || eqb k 16 || eqb k 19) ≡ true
   pub keep-refused : (s : Session) (l : Log) (w : Model) (c : Kept) → (numberOf (keep s l w c .answer) ≡ 0 → ⊥) → keep s l w c ≡ keepAsWas s l w (c .flags) (keep s l w c .answer)
   pub take-number : (s : Session) (l : Log) (w : Model) (flags : List ℕ) → let k = numberOf (takeBack s l w flags .answer) in
-      ((leb k 8 && not (eqb k 6)) || eqb k 15 || eqb k 16) ≡ true
+      ((leb k 8 && not (eqb k 6)) || eqb k 15 || eqb k 16 || eqb k 19) ≡ true
   pub take-refused : (s : Session) (l : Log) (w : Model) (flags : List ℕ) → (numberOf (takeBack s l w flags .answer) ≡ 0 → ⊥)
       → takeBack s l w flags ≡ keepAsWas s l w flags (takeBack s l w flags .answer)
   pub write-refused : (t : Tables) (starts : List ℤ) (bytes : List ℕ) → (write t starts bytes .0 ≡ accepted → ⊥) → write t starts bytes ≡ (refused 1 0, bytes)
@@ -89,7 +89,7 @@ module _ (b : BuildLent) where
     -- the stored values are the start values at search variables, and the formula over the inputs' at made ones
     pub stored : build b .stored ≡ over (t .n) (afresh (net t) (startValues b) (t .n)) (b .stored)
     pub stored-meet : (v : ℕ) → afresh (net t) (startValues b) (t .n) v ≡ valuation (net t) (startValues b) (afresh (net t) (startValues b) (t .n)) v
-    pub session : build b .session ≡ record { kept = 0; evaluations = t .m }
+    pub session : build b .session ≡ record { kept = 0; evaluations = t .m; blanks = blanksAmong (t .n) (afresh (net t) (startValues b) (t .n)) }
     -- the log is empty
     pub empty : build b .logSizes ≡ set (b .logSizes) 0 0
     pub answer : build b .answer ≡ Accepted (t .m)
@@ -185,7 +185,7 @@ module _ (now : State) where
   modelOf l = record { tables = l .tables; numbers = l .numbers; order = l .order; stored = lentOf (l .stored) (now .stored); index = l .index }
 
   abbrev pub verdictOf : Call → Verdict
-  verdictOf (tries l c) = trialVerdict (modelOf l) c
+  verdictOf (tries l c) = trialVerdict (now .session) (modelOf l) c
   verdictOf (keeps l g c) = keepVerdict (now .session) (lentOf g (now .log)) (modelOf l) c
   verdictOf (takes l g flags) = takeVerdict (now .session) (lentOf g (now .log)) (modelOf l) flags
 
@@ -275,7 +275,7 @@ module _ (b : BuildLent) (room : List ℕ × List ℤ) (cs : List Call) where
       -- the trial buffer: new where moved or evaluated, old elsewhere
       pub row : tried .trial ≡ over (b .tables .n) (λ v. cond (names (movePairs (c .move)) v || triedSet v) (renewed (c .move) v) (old v)) (c .trial)
       pub told : Told triedSet (evaluationsOf (tried .answer)) (tried .flags) (c .flags)
-      pub session : tried .session ≡ record { kept = now .session .kept; evaluations = evaluationsOf (tried .answer) }
+      pub session : tried .session ≡ record { kept = now .session .kept; evaluations = evaluationsOf (tried .answer); blanks = blanksAmong (b .tables .n) old }
 
   -- an accepted keep after the run
   module _ (l : Lends) (g : Lent Log) (c : Kept) where
@@ -287,7 +287,8 @@ module _ (b : BuildLent) (room : List ℕ × List ℤ) (cs : List Call) where
       pub move : history b room (keeps l g c ∷ cs) ≡ movePairs (c .move) ∷ moves
       pub stored : kept .stored ≡ over (b .tables .n) (renewed (c .move)) (b .stored)
       pub told : Told (evaluatedBy input-to-output (c .move) []) (evaluationsOf (kept .answer)) (kept .flags) (c .flags)
-      pub session : kept .session ≡ record { kept = min (suc (now .session .kept)) 4294967295; evaluations = evaluationsOf (kept .answer) }
+      pub session : kept .session
+          ≡ record { kept = min (suc (now .session .kept)) 4294967295; evaluations = evaluationsOf (kept .answer); blanks = blanksAmong (b .tables .n) (renewed (c .move)) }
       -- one more can be taken back, and 64 at most
       pub more : logged (kept .log) ≡ min (suc (logged (now .log))) 64
 
@@ -301,7 +302,8 @@ module _ (b : BuildLent) (room : List ℕ × List ℤ) (cs : List Call) where
       pub move : history b room (takes l g flags ∷ cs) ≡ rest moves
       pub stored : taken .stored ≡ over (b .tables .n) restored (b .stored)
       pub told : Told (evaluatedBy input-to-output (latest (now .log) flags .move) []) (evaluationsOf (taken .answer)) (taken .flags) flags
-      pub session : let k = now .session .kept in taken .session ≡ record { kept = cond (ltb k 4294967295) (pred k) k; evaluations = evaluationsOf (taken .answer) }
+      pub session : let k = now .session .kept in
+          taken .session ≡ record { kept = cond (ltb k 4294967295) (pred k) k; evaluations = evaluationsOf (taken .answer); blanks = blanksAmong (b .tables .n) restored }
       pub fewer : logged (taken .log) ≡ pred (logged (now .log))
 
   pub record Demand3 : Type 0 where
@@ -309,6 +311,8 @@ module _ (b : BuildLent) (room : List ℕ × List ℤ) (cs : List Call) where
     pub stored : now .stored ≡ over (b .tables .n) old (b .stored)
     -- the record has the number of these moves, as long as there were too few calls to reach its ceiling
     pub counted : length cs < 4294967295 → now .session .kept ≡ length moves
+    -- and of the blank values among the stored ones
+    pub blanks : now .session .blanks ≡ blanksAmong (b .tables .n) old
     -- the log is fit, and has no more moves than these
     pub log-good : logGood (now .log) (b .tables) (now .session .kept) ≡ true
     pub log-low : logged (now .log) ≤ length moves

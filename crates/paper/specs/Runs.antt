@@ -39,7 +39,7 @@ zerosZ k = replicate k (pos 0)
 -- start values are followed by zeros, and the record has seen other calls
 abbrev pub building : Tables → List ℤ → BuildLent
 building t s = record {
-  session = record { kept = 7; evaluations = 7 };
+  session = record { kept = 7; evaluations = 7; blanks = 7 };
   tables = t;
   starts = s ++ zerosZ (t .n);
   numbers = zeros (t .n);

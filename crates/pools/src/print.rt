@@ -32,10 +32,9 @@ pub fn answer(told: Answer) {
     }
 }
 
-// Prints the record: moves kept, and evaluations of the last accepted call.
+// Prints the record: moves kept, evaluations of the last accepted call, and the number of blanks.
 pub fn record(session: Session) {
-    number(session.kept as u64);
-    number(session.evaluations as u64);
+    three(session.kept, session.evaluations, session.blanks);
 }
 
 // Prints a value behind a blank, `-` if there is none. One below 0 stands without its sign between the texts given.

@@ -1,6 +1,6 @@
 // A change of one field of what is lent, or of the record. Rows 1 to 15 are kinds, made variables, parameters, firsts, counts, entry variables,
 // coefficients, numbers, order, stored values, of the index of readers the starts and the places, and of the log the sizes, the variables and the
-// values; row 0 is the record's moves kept.
+// values; row 0 is the record, with its moves kept at place 0 and its number of blanks at place 1.
 use crate::model::start;
 use crate::print;
 use engine::Session;
@@ -22,14 +22,17 @@ fn here(is: bool, place: usize) -> usize {
     if is { place } else { 65536 }
 }
 
-// The record, with other moves kept if these are changed.
-fn put_kept(session: Session, is: bool, kept: u32) -> Session {
-    if !is {
-        return session;
-    }
+// The number, or another if it is changed.
+fn put(number: u32, is: bool, other: u32) -> u32 {
+    if is { other } else { number }
+}
+
+// The record with another field at a place, if there is one to be changed.
+fn change_record(session: Session, place: usize, field: u32) -> Session {
     Session {
-        kept: kept,
+        kept: put(session.kept, place == 0, field),
         evaluations: session.evaluations,
+        blanks: put(session.blanks, place == 1, field),
     }
 }
 
@@ -81,5 +84,5 @@ pub fn change(
     print::change(row, word(call, 8), field);
     change_model(row, place, field, pool, params, coefs, stored);
     change_log(row, place, field, log_sizes, log_vars, log_values);
-    put_kept(session, row == 0, field)
+    change_record(session, here(row == 0, place), field)
 }

@@ -146,6 +146,7 @@ fn build(
         Session {
             kept: 7,
             evaluations: 9,
+            blanks: 11,
         },
         n,
         m,

@@ -21,7 +21,7 @@ said (Refused number place) n numbers stored = refusal number place
 -- what build is lent: the tables and start values that a file held, and rows of zeros to fill
 abbrev pub fresh : Tables → List ℤ → BuildLent
 fresh t starts = record {
-  session = record { kept = 0; evaluations = 0 };
+  session = record { kept = 0; evaluations = 0; blanks = 0 };
   tables = t;
   starts = starts;
   numbers = replicate 4096 0;

@@ -1,7 +1,7 @@
 //! One call with everything that is lent to it, and what comes back.
 
 use lent::{Session, Tables};
-use second::Refused;
+use second::{BLANK, Refused};
 
 use crate::{Buffer, Guarded};
 
@@ -125,6 +125,17 @@ impl Case {
     #[must_use]
     pub fn buffers_mut(&mut self) -> [(&'static str, &mut dyn Buffer); 25] {
         buffers_of!(self, &mut)
+    }
+
+    /// How many of its first n stored values are blank, as far as there are so many.
+    #[must_use]
+    pub fn blanks(&self) -> u32 {
+        self.stored.iter().take(self.n).filter(|&&value| value == BLANK).count() as u32
+    }
+
+    /// Puts the record's number of blanks right.
+    pub fn count_blanks(&mut self) {
+        self.session.blanks = self.blanks();
     }
 
     /// Everything that is lent, by name.

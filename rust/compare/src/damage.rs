@@ -154,12 +154,12 @@ fn damage_log(random: &mut Random, case: &mut Case) {
     }
 }
 
-/// Numbers, order, stored values, the move, the asked list or the route.
+/// Numbers, order, stored values with or without their number of blanks, that number, the move, the asked list or the route.
 fn damage_change(random: &mut Random, case: &mut Case) {
     let (variable, row) = (random.below(case.n), random.below(case.m));
     let (pair, asked) = (random.below(case.pairs), random.below(case.asked));
     let any = any_variable(random, case);
-    match random.below(10) {
+    match random.below(12) {
         0 => {
             let number = case.numbers.get(variable).copied().unwrap_or(0);
             case.numbers.put(variable, random.pick(&[number.wrapping_add(1), number.wrapping_sub(1), 0, 65535]));
@@ -175,6 +175,9 @@ fn damage_change(random: &mut Random, case: &mut Case) {
             let value = value(random);
             let stored = random.pick(&[BLANK, value]);
             case.stored.put(variable, stored);
+            if !random.once_in(4) {
+                case.count_blanks();
+            }
         }
         4 => case.move_vars.put(pair, any),
         5 => {
@@ -184,6 +187,11 @@ fn damage_change(random: &mut Random, case: &mut Case) {
         6 => case.move_values.put(pair, BLANK),
         7 => case.asked_vars.put(asked, any),
         8 => case.route = random.pick(&[0, 1, 2, 3, 4, u32::MAX, 1 << 16]),
+        9 | 10 => {
+            let blanks = case.blanks();
+            let wrong = [blanks.wrapping_add(1), blanks.wrapping_sub(1), 0, case.n as u32, u32::MAX, blanks | 1 << 16];
+            case.session.blanks = random.pick(&wrong);
+        }
         _ => damage_counts(random, case),
     }
 }

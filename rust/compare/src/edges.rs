@@ -1,5 +1,7 @@
 //! Both sides of the edge of every refusal, with its place, as tests of any engine.
 
+use std::ops::Range;
+
 use second::{BLANK, MOST_LOGGED};
 
 use crate::runs::{built, keep, model_a, read_twice, take_back, trial};
@@ -233,8 +235,60 @@ fn refusal_7(engine: &dyn Engine) {
     }
     gives(engine, "the least variable", &with(&build, |case| case.starts.fill(BLANK)), 7, 0);
     for call in &all_calls(engine)[1..4] {
-        gives(engine, "stored search value", &with(call, |case| case.stored[2] = BLANK), 7, 2);
-        gives(engine, "stored made value", &with(call, |case| case.stored[3..].fill(BLANK)), 0, 0);
+        gives(engine, "stored search value", &with_blanks(call, 2..3), 7, 2);
+        gives(engine, "stored made value", &with_blanks(call, 3..6), 0, 0);
+    }
+}
+
+/// A case with blanks at places of its stored values, and their number in the record.
+fn with_blanks(case: &Case, places: Range<usize>) -> Case {
+    with(case, |case| {
+        case.stored[places].fill(BLANK);
+        case.count_blanks();
+    })
+}
+
+fn refusal_19(engine: &dyn Engine) {
+    for call in &all_calls(engine)[1..4] {
+        for places in [0..0, 3..4, 5..6, 4..6, 3..6] {
+            let case = with_blanks(call, places);
+            let right = case.session.blanks;
+            for (blanks, number) in [
+                (right, 0),
+                (right + 1, 19),
+                (right.wrapping_sub(1), 19),
+                (right + 6, 19),
+                (right | 1 << 16, 19),
+                (right | 1 << 31, 19),
+                (u32::MAX - right, 19),
+                (u32::MAX, 19),
+            ] {
+                let numbered = with(&case, |case| case.session.blanks = blanks);
+                gives(engine, &format!("{right} blanks, number {blanks}"), &numbered, number, 0);
+            }
+        }
+        for (places, place) in [(0..1, 0), (2..3, 2), (2..6, 2), (0..6, 0)] {
+            let case = with_blanks(call, places);
+            gives(engine, "a search variable blank, the number right", &case, 7, place);
+            let low = with(&case, |case| case.session.blanks -= 1);
+            gives(engine, "19 before 7", &low, 19, 0);
+            gives(engine, "8 before 19", &with(&low, |case| case.order.swap(0, 1)), 8, 0);
+        }
+        let beyond = with(&with_blanks(call, 4..5), |case| case.stored.edit(|stored| stored.push(BLANK)));
+        gives(engine, "a blank beyond n", &beyond, 0, 0);
+        gives(engine, "a blank beyond n counted", &with(&beyond, |case| case.session.blanks += 1), 19, 0);
+    }
+}
+
+fn refusal_19_bounds(engine: &dyn Engine) {
+    let rows: Vec<Row> = (1..4096).map(|makes| Row::plain(9, makes, &[0; 3])).collect();
+    let model = built(engine, &of_rows(vec![0; 4096], &rows));
+    assert_eq!((model.session.blanks, model.blanks()), (4095, 4095));
+    let kept = Side::of(engine, &keep(&model, &[(0, 5)])).left;
+    for call in [trial(&model, &[(0, 5)], &[1], 1), keep(&model, &[(0, 5)]), take_back(&kept)] {
+        for (blanks, number) in [(4094, 19), (4095, 0), (4096, 19), (0, 19), (u32::MAX, 19)] {
+            gives(engine, "4,095 blanks", &with(&call, |case| case.session.blanks = blanks), number, 0);
+        }
     }
 }
 
@@ -529,7 +583,11 @@ fn the_order_of_checks(engine: &dyn Engine) {
         (5, 1, |case| case.makes[1] = 3),
     ];
     let build: [Fault; 2] = [(6, 3, |case| case.vars[0] = 5), (7, 1, |case| case.starts[1] = BLANK)];
-    let state: [Fault; 2] = [(8, 0, |case| case.numbers[3] = 9), (7, 1, |case| case.stored[1] = BLANK)];
+    let state: [Fault; 3] = [
+        (8, 0, |case| case.numbers[3] = 9),
+        (19, 0, |case| case.session.blanks = u32::MAX),
+        (7, 1, |case| (case.stored[1], case.session.blanks) = (BLANK, 1)),
+    ];
     let route: Fault = (9, 0, |case| case.route = 0);
     let pairs: [Fault; 3] = [
         (10, 2, |case| case.move_vars[2] = 4),
@@ -578,6 +636,8 @@ pub const EDGES: &[Test] = &[
     ("15", refusal_15),
     ("16", refusal_16),
     ("16: bounds", refusal_16_bounds),
+    ("19", refusal_19),
+    ("19: bounds", refusal_19_bounds),
     ("14", refusal_14),
     ("14: bounds", refusal_14_bounds),
     ("1 after 14", refusal_1_after_14),

@@ -181,6 +181,7 @@ fn junk(random: &mut Random, case: &mut Case) {
     case.log_sizes = Guarded::junk(random, LOG_SIZES);
     case.session.kept = random.pick(&[0, 1, u32::MAX - 1, u32::MAX]);
     case.session.evaluations = random.bits() as u32;
+    case.session.blanks = random.pick(&[0, 1, case.n as u32, u32::MAX]);
 }
 
 /// A build of a chain: each row of this kind reads the variable before its own `inputs` times, an ELEMENT its index at 0.

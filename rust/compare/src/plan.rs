@@ -22,7 +22,7 @@ pub fn seed() -> u64 {
 #[derive(Clone, Copy, Debug, Default, PartialEq, Eq)]
 pub struct Tally {
     /// The calls by number.
-    pub by_number: [usize; 17],
+    pub by_number: [usize; 20],
     /// The accepted calls by call: build, trial, keep, taking back, read, write. Salvage is tried by itself.
     pub accepted: [usize; 6],
     /// The calls refused with 8 by the index of readers alone.
@@ -60,7 +60,8 @@ impl Tally {
     /// If one hardly ever came.
     pub fn assert_wide(&self) {
         println!("{self:?}");
-        assert!(self.by_number.iter().all(|&calls| calls > 100), "every number comes back often: {self:?}");
+        let often = |number: usize| self.by_number[number] > 100 || [17, 18].contains(&number);
+        assert!((0..20).all(often), "every number that a check has comes back often: {self:?}");
         assert!(self.accepted.iter().all(|&calls| calls > 1_000), "every call is accepted often: {self:?}");
         assert!(self.by_index > 1_000, "the index alone is often wrong: {self:?}");
         assert!(self.unfit.iter().all(|&calls| calls > 1_000), "a log is often unfit: {self:?}");
@@ -148,7 +149,7 @@ fn damaged(random: &mut Random, case: &Case) -> Case {
     case
 }
 
-/// The same model with stored values that no call produced.
+/// The same model with stored values that no call produced, and their number of blanks.
 fn stale(random: &mut Random, built: &Case) -> Case {
     let mut stale = built.clone();
     for place in 0..stale.n {
@@ -158,6 +159,7 @@ fn stale(random: &mut Random, built: &Case) -> Case {
             stale.stored.put(place, if blank { second::BLANK } else { value(random) });
         }
     }
+    stale.count_blanks();
     stale
 }
 

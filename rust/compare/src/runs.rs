@@ -1,5 +1,6 @@
 //! The runs that the specification names, as tests of any engine: each asserts what comes back and what is left.
 
+use lent::Session;
 use second::BLANK;
 
 use crate::{Answer, Call, Case, Engine, Row, Side, Test, of_rows};
@@ -97,7 +98,8 @@ fn tries(engine: &dyn Engine, case: &Case, results: &[i32], evaluated: &[u16]) {
     let flags: Vec<u8> = (0..case.n as u16).map(|variable| u8::from(evaluated.contains(&variable))).collect();
     assert_eq!(*side.left.flags, *flags, "flags");
     assert_eq!(side.left.session.evaluations, evaluations);
-    assert_eq!(side.left.session.kept, case.session.kept);
+    let counted = |session: Session| (session.kept, session.blanks);
+    assert_eq!(counted(side.left.session), counted(case.session));
     assert_eq!(side.left.stored, case.stored, "a trial leaves the stored values");
 }
 
@@ -109,7 +111,7 @@ fn model_a_is_built(engine: &dyn Engine) {
     assert_eq!(*left.order, [0, 1, 2]);
     assert_eq!(*left.reader_starts, [0, 2, 4, 6, 7, 7, 7]);
     assert_eq!(*left.reader_places, [0, 1, 0, 1, 0, 1, 2]);
-    assert_eq!((left.session.kept, left.session.evaluations), (0, 3));
+    assert_eq!(left.session, Session { kept: 0, evaluations: 3, blanks: 0 });
 }
 
 /// Two rows of which each reads variable 0 in two places: row 0 makes 2 from 0, 1 and 0, row 1 makes 3 from 2, 0 and 0.
@@ -323,10 +325,10 @@ fn keeping(engine: &dyn Engine) {
     assert_eq!(kept.answer, Answer { evaluations: 3, ..Answer::default() });
     assert_eq!(*kept.left.stored, [25200, 28801, 600, 7, 28800, 30]);
     assert_eq!(*kept.left.flags, [0, 0, 0, 1, 1, 1]);
-    assert_eq!((kept.left.session.kept, kept.left.session.evaluations), (1, 3));
+    assert_eq!(kept.left.session, Session { kept: 1, evaluations: 3, blanks: 0 });
     let again = Side::of(engine, &keep(&kept.left, &[]));
     assert_eq!(*again.left.flags, [0; 6]);
-    assert_eq!((again.left.session.kept, again.left.session.evaluations), (2, 0));
+    assert_eq!(again.left.session, Session { kept: 2, evaluations: 0, blanks: 0 });
 }
 
 /// The number of moves kept stops at its ceiling.
@@ -338,11 +340,49 @@ fn the_ceiling_of_moves_kept(engine: &dyn Engine) {
     }
 }
 
+/// Build leaves the number of blanks, a trial does not touch it, keeps and takings back hold it to the stored values.
+fn the_number_of_blanks(engine: &dyn Engine) {
+    for (case, blanks) in [
+        (model_a(), 0),
+        (window(25200, 28800, 0), 3),
+        (window(25200, 25200, 600), 1),
+        (window(-2_147_483_647, 2_147_483_647, 1), 2),
+    ] {
+        for before in [0, 5, u32::MAX] {
+            let mut case = case.clone();
+            case.session.blanks = before;
+            assert_eq!(built(engine, &case).session, Session { kept: 0, evaluations: 3, blanks });
+        }
+    }
+    let mut model = built(engine, &model_a());
+    let mut numbers = vec![0];
+    for (moved, blanks) in
+        [(&[(2, 0)][..], 3), (&[(1, 25200)], 3), (&[], 3), (&[(2, 600)], 1), (&[(1, 28800)], 0), (&[(2, -1)], 3)]
+    {
+        for route in 1..=3 {
+            let tried = Side::of(engine, &trial(&model, moved, &[3, 4, 5], route)).left;
+            assert_eq!(tried.session.blanks, model.session.blanks, "a trial leaves it");
+        }
+        let refused = Side::of(engine, &keep(&model, &[(3, 1)]));
+        assert_eq!((refused.answer.number, refused.left.session), (10, model.session));
+        model = Side::of(engine, &keep(&model, moved)).left;
+        assert_eq!((model.session.blanks, model.blanks()), (blanks, blanks), "{moved:?} kept");
+        numbers.push(blanks);
+    }
+    numbers.pop();
+    for (blanks, left) in numbers.into_iter().rev().zip((0..6).rev()) {
+        model = Side::of(engine, &take_back(&model)).left;
+        assert_eq!((model.session.blanks, model.blanks()), (blanks, blanks), "{left} moves left");
+        assert_eq!(model.session.kept, left);
+    }
+}
+
 /// Over stored values that no call produced each route follows its own rule.
 fn stale_values(engine: &dyn Engine) {
     let mut model = built(engine, &model_a());
     model.stored[3] = 100;
     model.stored[5] = BLANK;
+    model.count_blanks();
     let moved = [(0, 25200)];
     tries(engine, &trial(&model, &moved, &[5], 1), &[BLANK], &[]);
     tries(engine, &trial(&model, &moved, &[5], 2), &[26], &[3, 5]);
@@ -389,6 +429,7 @@ pub const RUNS: &[Test] = &[
     ("the trial buffer", the_trial_buffer),
     ("keeping", keeping),
     ("the ceiling of moves kept", the_ceiling_of_moves_kept),
+    ("the number of blanks", the_number_of_blanks),
     ("stale values", stale_values),
     ("longer buffers", longer_buffers),
 ];

@@ -1,6 +1,7 @@
 //! Long sessions over one log, as tests of any engine beside the second implementation: many more keeps than the log
 //! holds, takings back among them, and now and then a trial, a refused call or a build anew. Taking back leaves the values
-//! before the move byte for byte, and the log is as it was before it.
+//! before the move byte for byte, and the log is as it was before it; the record's number of blanks is that of the stored
+//! values after every call.
 
 use std::collections::VecDeque;
 
@@ -32,8 +33,9 @@ pub fn long_sessions(engine: &dyn Engine) {
         tally.add(&session.tally);
     }
     println!("{tally:?}");
-    let Tally { kept, pushed, taken, spent } = tally;
+    let Tally { kept, pushed, taken, spent, more, fewer } = tally;
     assert!(kept > 10_000 && pushed > 2_000 && taken > 5_000 && spent > 100, "every turn comes often: {tally:?}");
+    assert!(more > 300 && fewer > 300, "blanks come and go: {tally:?}");
 }
 
 /// A model of some size, with more search variables than a move has pairs at times.
@@ -43,13 +45,16 @@ fn draw(random: &mut Random) -> Case {
     model(random, sizes)
 }
 
-/// What happened: keeps, keeps that pushed a move out of the log, takings back, and those with nothing left.
+/// What happened: keeps, keeps that pushed a move out of the log, takings back, and those with nothing left; calls that left
+/// more blanks, and fewer.
 #[derive(Clone, Copy, Debug, Default)]
 struct Tally {
     kept: usize,
     pushed: usize,
     taken: usize,
     spent: usize,
+    more: usize,
+    fewer: usize,
 }
 
 impl Tally {
@@ -58,6 +63,8 @@ impl Tally {
         self.pushed += other.pushed;
         self.taken += other.taken;
         self.spent += other.spent;
+        self.more += other.more;
+        self.fewer += other.fewer;
     }
 }
 
@@ -101,7 +108,10 @@ impl<'a> Session<'a> {
         let differs = |found: Box<Difference>| panic!("{}", shrink(self.engine, &Second, found));
         let answer = compare(self.engine, &Second, &self.model).unwrap_or_else(differs);
         assert_eq!(answer.number, number, "{call:?}");
+        let before = self.model.session.blanks;
         Second.answer(&mut self.model);
+        self.tally.more += usize::from(self.model.session.blanks > before);
+        self.tally.fewer += usize::from(self.model.session.blanks < before);
     }
 
     fn kept(&mut self, random: &mut Random) {
@@ -132,9 +142,14 @@ impl<'a> Session<'a> {
         self.holds();
     }
 
-    /// A refused keep logs nothing.
+    /// A refused keep logs nothing, and a record with another number of blanks refuses every call.
     fn refused(&mut self, random: &mut Random) {
         draw_move(random, &mut self.model);
+        let blanks = self.model.session.blanks;
+        self.model.session.blanks = random.pick(&[blanks + 1, blanks.wrapping_sub(1), u32::MAX]);
+        self.make(Call::Keep, 19);
+        self.make(Call::TakeBack, 19);
+        self.model.session.blanks = blanks;
         self.model.pairs = 1;
         self.model.move_vars = vec![self.model.n as u16].into();
         self.model.move_values = vec![0].into();
@@ -158,9 +173,10 @@ impl<'a> Session<'a> {
         self.make(Call::TakeBack, 15);
     }
 
-    /// The log holds what can be taken back, and the record what was kept and not taken back.
+    /// The log holds what can be taken back, and the record what was kept and not taken back, and the blanks.
     fn holds(&self) {
         assert_eq!((self.model.logged(), self.model.session.kept), (self.before.len(), self.kept));
+        assert_eq!(self.model.session.blanks, self.model.blanks(), "the number of blanks");
     }
 
     /// Takes back whatever is left.

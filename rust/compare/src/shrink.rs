@@ -64,11 +64,16 @@ impl Search<'_> {
         smaller
     }
 
-    /// Takes a changed case if the two still differ on it, as it is or with its numbers, order and index put right.
+    /// Takes a changed case if the two still differ on it, as it is or with its numbers, order and index put right. A number of
+    /// blanks that was right is so in the changed case.
     fn try_case(&mut self, change: impl FnOnce(&mut Case) -> bool) -> bool {
         let mut case = self.best.case.clone();
+        let counted = case.session.blanks == case.blanks();
         if Instant::now() > self.until || !change(&mut case) {
             return false;
+        }
+        if counted {
+            case.count_blanks();
         }
         let Err(found) = compare(self.one, self.other, &case).and_then(|_| {
             number(&mut case);
@@ -251,9 +256,10 @@ fn plain_values(case: &mut Case, variable: usize) -> bool {
         | plain(&mut case.flags, variable, 0)
 }
 
-/// Puts 0 for the counters of the record, or as few moves kept as the log holds.
+/// Puts 0 for the counters of the record, or as few moves kept as the log holds; the number of blanks stays, but for a build.
 fn plain_record(case: &mut Case) -> bool {
-    let plain = Session { kept: case.logged() as u32, evaluations: 0 };
+    let blanks = if case.call == Call::Build { 0 } else { case.session.blanks };
+    let plain = Session { kept: case.logged() as u32, evaluations: 0, blanks };
     std::mem::replace(&mut case.session, plain) != plain
 }
 

@@ -10,6 +10,7 @@ fn left(engine: &dyn Engine, case: &Case) -> Case {
     let side = Side::of(engine, case);
     assert_eq!(side.answer.number, 0, "{:?} is accepted", case.call);
     assert_eq!(side.answer.evaluations, side.left.session.evaluations);
+    assert_eq!(side.left.session.blanks, side.left.blanks());
     side.left
 }
 
@@ -145,9 +146,10 @@ fn stale_values_and_logs(engine: &dyn Engine) {
     model.session.kept = 9;
     model.stored[5] = BLANK;
     model.stored[3] = 7;
+    model.count_blanks();
     let taken = left(engine, &take_back(&model));
     assert_eq!(*taken.stored, [25200, 28801, 600, 7, 28800, BLANK]);
-    assert_eq!((&*taken.flags, taken.session.kept), (&[0, 0, 0, 1, 1, 0][..], 8));
+    assert_eq!((&*taken.flags, taken.session.kept, taken.session.blanks), (&[0, 0, 0, 1, 1, 0][..], 8, 1));
     let kept = left(engine, &keep(&model, &[(1, 28801), (2, 600)]));
     assert_eq!((taken.stored, taken.flags), (kept.stored, kept.flags));
 }

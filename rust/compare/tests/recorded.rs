@@ -98,9 +98,9 @@ fn is_up_to_date() {
 fn has_every_number_of_every_call() {
     assert_eq!(numbers("read "), [0, 1, 14].into());
     assert_eq!(numbers("build "), [0, 2, 3, 4, 5, 6, 7].into());
-    assert_eq!(numbers("trial "), [0, 1, 2, 3, 4, 5, 7, 8, 9, 10, 11, 12, 13].into());
-    assert_eq!(numbers("keep "), [0, 1, 2, 3, 4, 5, 7, 8, 10, 11, 12, 16].into());
-    assert_eq!(numbers("back "), [0, 2, 3, 4, 5, 7, 8, 15, 16].into());
+    assert_eq!(numbers("trial "), [0, 1, 2, 3, 4, 5, 7, 8, 9, 10, 11, 12, 13, 19].into());
+    assert_eq!(numbers("keep "), [0, 1, 2, 3, 4, 5, 7, 8, 10, 11, 12, 16, 19].into());
+    assert_eq!(numbers("back "), [0, 2, 3, 4, 5, 7, 8, 15, 16, 19].into());
 }
 
 #[test]
@@ -148,6 +148,34 @@ fn has_full_logs_that_are_taken_back_to_the_last_move() {
     }
     let spent = sessions().iter().flat_map(|session| &session.lines).any(|line| line.starts_with("back 15 "));
     assert!(spent, "nothing is left to take back");
+}
+
+/// The record's number of blanks in the line of a call.
+fn blanks(line: &str) -> Option<u32> {
+    line.split(" |").next()?.split_whitespace().nth(6)?.parse().ok()
+}
+
+#[test]
+fn has_blanks_that_come_and_go() {
+    for call in ["keep 0 ", "back 0 "] {
+        let (mut more, mut fewer) = (0, 0);
+        for session in sessions() {
+            for lines in session.lines.windows(2).filter(|lines| lines[1].starts_with(call)) {
+                let (before, after) = (blanks(&lines[0]), blanks(&lines[1]));
+                more += usize::from(before.is_some() && before < after);
+                fewer += usize::from(before > after);
+            }
+        }
+        assert!(more > 20 && fewer > 20, "{call}: {more} and {fewer}");
+    }
+}
+
+#[test]
+fn has_calls_refused_for_the_number_of_blanks() {
+    let refused = ["trial 19 ", "keep 19 ", "back 19 "];
+    assert!(followed(&["change 0 1 "], &refused) > 20);
+    assert!(followed(&["change 10 "], &refused) > 5);
+    assert!(followed(&["change 0 1 "], &["trial 7 ", "keep 7 ", "back 7 "]) > 5, "a blank search variable, counted");
 }
 
 #[test]

@@ -10,7 +10,7 @@ pub const LOG_SIZES: usize = 65;
 /// The places of a log's variables and of its values: the pairs of move k stand from place 64 k on.
 pub const LOG_PLACES: usize = 4096;
 
-/// The session record: the counters that build, trial, keep and taking back set.
+/// The session record: the counters that build, trial, keep and taking back set. A trial leaves `kept` and `blanks`.
 #[repr(C)]
 #[derive(Clone, Copy, Debug, Default, PartialEq, Eq)]
 pub struct Session {
@@ -18,6 +18,8 @@ pub struct Session {
     pub kept: u32,
     /// Evaluations of the last accepted call.
     pub evaluations: u32,
+    /// How many of the n stored values are blank; trial, keep and taking back refuse a record with another number.
+    pub blanks: u32,
 }
 
 /// The tables of a model, one slice for each field.

@@ -30,7 +30,7 @@ pub fn build(session: &mut Session, tables: Tables<'_>, starts: &[i32], built: B
 }
 
 /// Tries a move by a route, and fills results, trial values and flags; gives the evaluations. Refusals 1 to 13
-/// without 6.
+/// without 6, and 19.
 #[rustfmt::skip]
 pub fn trial(session: &mut Session, tables: Tables<'_>, lent: Trial<'_>) -> Outcome {
     let Tables { n, m, e, kinds, makes, params, firsts, counts, vars, coefs } = tables;
@@ -53,7 +53,7 @@ pub fn trial(session: &mut Session, tables: Tables<'_>, lent: Trial<'_>) -> Outc
 }
 
 /// Keeps a move by route 1: changes the stored values, fills the flags, and notes the move in the log; gives the
-/// evaluations. Refusals 1 to 12 without 6 and 9, and 16.
+/// evaluations. Refusals 1 to 12 without 6 and 9, 16 and 19.
 #[rustfmt::skip]
 pub fn keep(session: &mut Session, tables: Tables<'_>, lent: Keep<'_>) -> Outcome {
     let Tables { n, m, e, kinds, makes, params, firsts, counts, vars, coefs } = tables;
@@ -75,7 +75,7 @@ pub fn keep(session: &mut Session, tables: Tables<'_>, lent: Keep<'_>) -> Outcom
 }
 
 /// Takes the latest kept move back by route 1: changes the stored values, fills the flags, and takes the move off the log;
-/// gives the evaluations. Refusals 1 to 5, 7, 8, 16, and 15 if the log holds no move.
+/// gives the evaluations. Refusals 1 to 5, 7, 8, 16, 19, and 15 if the log holds no move.
 #[rustfmt::skip]
 pub fn take_back(session: &mut Session, tables: Tables<'_>, lent: TakeBack<'_>) -> Outcome {
     let Tables { n, m, e, kinds, makes, params, firsts, counts, vars, coefs } = tables;

@@ -323,6 +323,24 @@ impl Model {
         self.session.evaluations
     }
 
+    /// How many variables are blank now.
+    ///
+    /// ```
+    /// use lukhandro::{Model, Row};
+    ///
+    /// let mut sheet = Model::build(&[25200, 28800, 600, 0, 0], &[Row::departures(3, 0, 1, 2), Row::last(4, 0, 1, 2)])?;
+    /// assert_eq!(sheet.blanks(), 0);
+    /// sheet.keep(&[(2, 0)])?; // a headway of 0: neither departures nor a last one
+    /// assert_eq!(sheet.blanks(), 2);
+    /// sheet.take_back()?;
+    /// assert_eq!(sheet.blanks(), 0);
+    /// # Ok::<(), lukhandro::Refused>(())
+    /// ```
+    #[must_use]
+    pub fn blanks(&self) -> u32 {
+        self.session.blanks
+    }
+
     /// A model without rows whose buffers have room for n variables and m rows.
     fn empty(n: usize, m: usize) -> Model {
         Model {

@@ -10,7 +10,7 @@ use std::fmt;
 /// ```
 #[derive(Clone, Copy, Debug, PartialEq, Eq)]
 pub struct Refused {
-    /// Which check refused, 1 to 16.
+    /// Which check refused, 1 to 16 or 19.
     pub number: u32,
     /// The smallest row, variable, pair, asked place or byte that offends.
     pub place: u32,
@@ -43,6 +43,7 @@ impl fmt::Display for Refused {
             14 => write!(f, "the file is no whole model file of version 1: it is wrong at byte {place}"),
             15 => write!(f, "no kept move is left to take back"),
             16 => write!(f, "the log of kept moves is not one that keep and taking back may leave"),
+            19 => write!(f, "the record's number of blanks is not that of the stored values"),
             _ => write!(f, "no check has this number"),
         }
     }

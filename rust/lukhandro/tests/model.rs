@@ -87,6 +87,26 @@ fn the_latest_64_moves_are_taken_back() {
 }
 
 #[test]
+fn the_number_of_blanks() {
+    let mut sheet = model_a();
+    let counted = |sheet: &Model| sheet.stored().iter().filter(|&&value| value == BLANK).count() as u32;
+    let mut numbers = vec![sheet.blanks()];
+    for (variable, value) in [(2, 0), (1, 25200), (2, 600), (1, 28800)] {
+        sheet.trial(&[(variable, value)], &[5], Route::MarkGuided).expect("a trial");
+        assert_eq!(sheet.blanks(), *numbers.last().expect("a number"), "a trial leaves it");
+        sheet.keep(&[(variable, value)]).expect("a keep");
+        assert_eq!(sheet.blanks(), counted(&sheet));
+        numbers.push(sheet.blanks());
+    }
+    assert_eq!(numbers, [0, 3, 3, 1, 0]);
+    sheet.keep(&[(3, 1)]).expect_err("a made variable");
+    for before in numbers.iter().rev().skip(1) {
+        sheet.take_back().expect("a kept move");
+        assert_eq!((sheet.blanks(), counted(&sheet)), (*before, *before));
+    }
+}
+
+#[test]
 fn a_refused_keep_is_not_logged() {
     let mut sheet = model_a();
     sheet.keep(&[(0, 1), (3, 1)]).expect_err("a made variable");
@@ -133,12 +153,14 @@ fn models_that_are_too_large() {
 
 #[test]
 fn every_refusal_has_a_sentence() {
-    let sentences: Vec<String> = (1..=16).map(|number| refused(number, 7).to_string()).collect();
-    for (number, sentence) in (1..).zip(&sentences) {
+    for number in (1..=16).chain([19]) {
+        let sentence = refused(number, 7).to_string();
         assert!(sentence.starts_with(&format!("refused {number} 7: ")), "{sentence}");
         assert!(!sentence.contains("no check"), "{sentence}");
     }
-    assert!(refused(17, 0).to_string().contains("no check"));
+    for number in [0, 17, 18, 20] {
+        assert!(refused(number, 0).to_string().contains("no check"));
+    }
 }
 
 #[test]

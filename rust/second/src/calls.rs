@@ -29,14 +29,14 @@ pub fn build(session: &mut Session, tables: Tables<'_>, starts: &[i32], built: B
     stored.copy_from_slice(&starts[..n]);
     routes::fill_values(&tables, order, stored);
     log_sizes[0] = 0;
-    *session = Session { kept: 0, evaluations: m as u32 };
+    *session = Session { kept: 0, evaluations: m as u32, blanks: checks::blanks(stored) };
     Ok(session.evaluations)
 }
 
 /// Tries a move by a route, and fills the asked values, the trial values and the flags; gives the evaluations.
 ///
 /// # Errors
-/// Refusals 1 to 13 without 6.
+/// Refusals 1 to 13 without 6, and 19.
 pub fn trial(session: &mut Session, tables: Tables<'_>, lent: Trial<'_>) -> Result<u32, Refused> {
     let n = tables.n;
     let Trial { state, moved, asked, route, tried } = lent;
@@ -47,7 +47,7 @@ pub fn trial(session: &mut Session, tables: Tables<'_>, lent: Trial<'_>) -> Resu
     ])?;
     let (tables, state, moved) = (counted_tables(&tables), counted_state(&state, &tables), counted_move(&moved));
     let asked = &asked.vars[..asked.asked];
-    let makers = model(&tables, &state)?;
+    let makers = model(session, &tables, &state)?;
     checks::route(route)?;
     checks::pairs(&makers, &moved)?;
     checks::asked(n, asked)?;
@@ -74,7 +74,7 @@ pub fn trial(session: &mut Session, tables: Tables<'_>, lent: Trial<'_>) -> Resu
 /// evaluations.
 ///
 /// # Errors
-/// Refusals 1 to 12 without 6 and 9, and 16.
+/// Refusals 1 to 12 without 6 and 9, 16 and 19.
 pub fn keep(session: &mut Session, tables: Tables<'_>, lent: Keep<'_>) -> Result<u32, Refused> {
     let Keep { numbers, order, stored, reader_starts, reader_places, .. } = lent;
     let Keep { moved, flags, log_sizes: sizes, log_vars: vars, log_values: values, .. } = lent;
@@ -86,7 +86,7 @@ pub fn keep(session: &mut Session, tables: Tables<'_>, lent: Keep<'_>) -> Result
         log.fits(),
     ])?;
     let (tables, state, moved) = (counted_tables(&tables), counted_state(&state, &tables), counted_move(&moved));
-    let makers = model(&tables, &state)?;
+    let makers = model(session, &tables, &state)?;
     checks::pairs(&makers, &moved)?;
     log.holds(&makers, session.kept)?;
 
@@ -94,6 +94,7 @@ pub fn keep(session: &mut Session, tables: Tables<'_>, lent: Keep<'_>) -> Result
     let readers = Readers { starts: reader_starts, rows: reader_places };
     session.evaluations = change(&tables, order, readers, &moved, stored, flags);
     session.kept = session.kept.saturating_add(1);
+    session.blanks = checks::blanks(&stored[..tables.n]);
     Ok(session.evaluations)
 }
 
@@ -101,7 +102,7 @@ pub fn keep(session: &mut Session, tables: Tables<'_>, lent: Keep<'_>) -> Result
 /// takes the move off the log. Gives the evaluations.
 ///
 /// # Errors
-/// Refusals 1 to 5, 8, 7, 16 and 15.
+/// Refusals 1 to 5, 8, 19, 7, 16 and 15.
 pub fn take_back(session: &mut Session, tables: Tables<'_>, lent: TakeBack<'_>) -> Result<u32, Refused> {
     let TakeBack { numbers, order, stored, reader_starts, reader_places, .. } = lent;
     let TakeBack { flags, log_sizes: sizes, log_vars: vars, log_values: values, .. } = lent;
@@ -109,7 +110,7 @@ pub fn take_back(session: &mut Session, tables: Tables<'_>, lent: TakeBack<'_>) 
     let log = Log { sizes, vars, values };
     fits(&[tables_fit(&tables) && state_fits(&state, &tables), flags.len() >= tables.n, log.fits()])?;
     let (tables, state) = (counted_tables(&tables), counted_state(&state, &tables));
-    let makers = model(&tables, &state)?;
+    let makers = model(session, &tables, &state)?;
     log.holds(&makers, session.kept)?;
     let back = log.latest()?;
 
@@ -118,6 +119,7 @@ pub fn take_back(session: &mut Session, tables: Tables<'_>, lent: TakeBack<'_>) 
     if session.kept < u32::MAX {
         session.kept -= 1;
     }
+    session.blanks = checks::blanks(&stored[..tables.n]);
     sizes[0] -= 1;
     Ok(session.evaluations)
 }
@@ -148,11 +150,12 @@ pub fn inputs_of_row<'a>(m: usize, e: usize, firsts: &[u16], counts: &[u16], var
     part().unwrap_or(&[])
 }
 
-/// Checks 2 to 5, 8 and 7, which trial, keep and taking back share, and with them the makers.
-fn model(tables: &Tables<'_>, state: &State<'_>) -> Result<Makers, Refused> {
+/// Checks 2 to 5, 8, 19 and 7, which trial, keep and taking back share, and with them the makers.
+fn model(session: &Session, tables: &Tables<'_>, state: &State<'_>) -> Result<Makers, Refused> {
     let makers = checks::tables(tables)?;
     order::holds(tables, &makers, state.numbers, state.order)?;
     readers::holds(tables, Readers::lent(state))?;
+    checks::require(session.blanks == checks::blanks(state.stored), 19)?;
     checks::stored(&makers, state.stored)?;
     Ok(makers)
 }

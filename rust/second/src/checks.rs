@@ -1,4 +1,4 @@
-//! Checks 1 to 5, 7 and 9 to 13: each over its whole input, the place the smallest offending index.
+//! Checks 1 to 5, 7 and 9 to 13: each over its whole input, the place the smallest offending index; and the blanks counted.
 
 use crate::formulas::{COUNT, DEPARTURES, ELEMENT, LAST, LINEAR, MAX, MIN, OVER, SHARED, suits};
 use crate::parts::{Row, rows_of};
@@ -124,6 +124,11 @@ pub(crate) fn starts(makers: &[u16], starts: &[i32]) -> Result<(), Refused> {
 /// Check 7 of trial, keep and taking back: search variables have a value.
 pub(crate) fn stored(makers: &[u16], stored: &[i32]) -> Result<(), Refused> {
     first(7, makers.iter().zip(stored).position(|(&maker, &value)| maker == 0 && value == BLANK))
+}
+
+/// How many values are blank, counted in 32 bits so that many are compared at once.
+pub(crate) fn blanks(values: &[i32]) -> u32 {
+    values.iter().map(|&value| u32::from(value == BLANK)).sum()
 }
 
 /// Check 9.

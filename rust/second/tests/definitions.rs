@@ -3,7 +3,7 @@
 mod naive;
 
 use compare::salvages::tiny_damaged_files;
-use compare::{Call, Case, Engine, Second, Sizes, compare, model, run, seed};
+use compare::{Call, Case, Engine, Random, Second, Sizes, compare, model, run, seed};
 use naive::Naive;
 use second::BLANK;
 
@@ -107,6 +107,51 @@ fn finds_a_keep_that_leaves_the_values() {
 fn finds_a_record_that_keeps_its_count() {
     let fault = |lent: &Case, case: &mut Case| case.session.kept = lent.session.kept;
     assert_eq!(found(fault), 0);
+}
+
+#[test]
+fn finds_a_number_of_blanks_that_stays() {
+    for call in [Call::Build, Call::Keep, Call::TakeBack] {
+        let fault: fn(&Case, &mut Case) = match call {
+            Call::Build => |lent, case| keep_blanks(Call::Build, lent, case),
+            Call::Keep => |lent, case| keep_blanks(Call::Keep, lent, case),
+            _ => |lent, case| keep_blanks(Call::TakeBack, lent, case),
+        };
+        assert!(found(fault) <= 2, "{call:?}");
+    }
+}
+
+/// Leaves the number of blanks as it was lent to a call.
+fn keep_blanks(call: Call, lent: &Case, case: &mut Case) {
+    if case.call == call {
+        case.session.blanks = lent.session.blanks;
+    }
+}
+
+#[test]
+fn finds_a_trial_that_counts_the_blanks_of_its_own_row() {
+    let fault = |_: &Case, case: &mut Case| {
+        if case.call == Call::Trial {
+            case.session.blanks = case.trial.iter().take(case.n).filter(|&&value| value == BLANK).count() as u32;
+        }
+    };
+    assert!(found(fault) <= 2);
+}
+
+#[test]
+fn finds_a_blank_beyond_the_variables_that_is_counted() {
+    let fault = |_: &Case, case: &mut Case| {
+        if case.call == Call::Keep {
+            case.session.blanks += case.stored.iter().skip(case.n).filter(|&&value| value == BLANK).count() as u32;
+        }
+    };
+    let beyond = |random: &mut Random| {
+        let mut model = model(random, Sizes::TINY);
+        model.stored.edit(|stored| stored.push(BLANK));
+        model
+    };
+    let found = run(&Faulty(fault), &Naive, 1, 20_000, beyond).expect_err("a difference");
+    assert_eq!(found.case.m, 0);
 }
 
 #[test]

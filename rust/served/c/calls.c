@@ -17,11 +17,11 @@ static int32_t params[3] = {0, 0, 2}, starts[6] = {25200, 28800, 600}, stored[6]
 static int32_t results[2], trial[6];
 static int16_t coefs[7] = {1, 1, 1, 1, 1, 1, 4};
 static uint8_t flags[6], bytes[112], file[112];
-static lukhandro_session session = {9, 9};
+static lukhandro_session session = {9, 9, 9};
 
 static void print(const char *call, lukhandro_outcome outcome) {
-    printf("%s %u %u %u, session %u %u, stored", call, outcome.number, outcome.place, outcome.evaluations,
-        session.kept, session.evaluations);
+    printf("%s %u %u %u, session %u %u %u, stored", call, outcome.number, outcome.place, outcome.evaluations,
+        session.kept, session.evaluations, session.blanks);
     for (int variable = 3; variable < 6; variable++) printf(" %d", stored[variable]);
     printf("\n");
 }
@@ -49,6 +49,13 @@ int main(void) {
     print("taking back", lukhandro_take_back(&session, 6, 3, 7, TABLES, BUILT, LENT(flags), LOG));
     log_sizes[0] = 1;
     print("taking back", lukhandro_take_back(&session, 6, 3, 7, TABLES, BUILT, LENT(flags), LOG));
+    print("taking back", lukhandro_take_back(&session, 6, 3, 7, TABLES, BUILT, LENT(flags), LOG));
+    move_vars[0] = 2;
+    move_values[0] = 0;
+    print("keep", lukhandro_keep(&session, 6, 3, 7, TABLES, BUILT, MOVE, LENT(flags), LOG));
+    session.blanks = 2;
+    print("taking back", lukhandro_take_back(&session, 6, 3, 7, TABLES, BUILT, LENT(flags), LOG));
+    session.blanks = 3;
     print("taking back", lukhandro_take_back(&session, 6, 3, 7, TABLES, BUILT, LENT(flags), LOG));
     print("write", lukhandro_write(6, 3, 7, LENT(starts), TABLES, LENT(bytes)));
     params[2] = 0;

@@ -20,8 +20,8 @@ enum buffer {
     SAVED, LIST, BUFFERS
 };
 
-/* Bytes of one element of each buffer; the record is one element. */
-static const uint64_t width[BUFFERS] = {8, 2, 2, 4, 2, 2, 2, 2, 4, 2, 2, 4, 2, 2, 2, 4, 2, 4, 4, 1, 2, 2, 4, 1, 1, 2};
+/* Bytes of one element of each buffer; the record is three elements, its counters. */
+static const uint64_t width[BUFFERS] = {4, 2, 2, 4, 2, 2, 2, 2, 4, 2, 2, 4, 2, 2, 2, 4, 2, 4, 4, 1, 2, 2, 4, 1, 1, 2};
 
 struct request {
     uint64_t call, n, m, e, pairs, asked, route;
@@ -74,7 +74,7 @@ static void take_block(void) {
         if (place > request.block || place % width[which] != 0) exit(2);
         if (length > (request.block - place) / width[which]) exit(2);
     }
-    if (request.lent[SESSION].length != 1) exit(2);
+    if (request.lent[SESSION].length != 3) exit(2);
 }
 
 #define COUNTED request.n, request.m, request.e

@@ -16,13 +16,15 @@ const ANSWER: usize = 4 * 9;
 
 /// The session record between guards.
 fn record(case: &Case) -> Guarded<i32> {
-    vec![case.session.kept as i32, case.session.evaluations as i32].into()
+    let session = case.session;
+    [session.kept, session.evaluations, session.blanks].map(|counter| counter as i32).to_vec().into()
 }
 
 /// The request for a case.
 pub fn request(case: &Case) -> Vec<u8> {
     let mut block = Vec::new();
-    let mut lent = vec![record(case).send(&mut block), 1];
+    let record = record(case);
+    let mut lent = vec![record.send(&mut block), record.length()];
     for (_, buffer) in case.buffers() {
         block.resize(block.len().next_multiple_of(ALIGNED), GAP);
         lent.extend([buffer.send(&mut block), buffer.length()]);
@@ -49,7 +51,8 @@ pub fn take_answer(bytes: &[u8], case: &mut Case) -> Answer {
     let mut session = record(case);
     let mut rest = session.receive(block);
     assert!(session.intact(), "the call writes beside the record: {:?}", case.fields());
-    (case.session.kept, case.session.evaluations) = (session[0] as u32, session[1] as u32);
+    let counters = [0, 1, 2].map(|counter| session[counter] as u32);
+    [case.session.kept, case.session.evaluations, case.session.blanks] = counters;
     for (name, buffer) in case.buffers_mut() {
         let reached = block.len() - rest.len();
         let (gap, after) = rest.split_at(reached.next_multiple_of(ALIGNED) - reached);

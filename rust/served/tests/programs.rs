@@ -28,19 +28,22 @@ once more: number 15
 #[test]
 fn every_call_from_c() {
     let expected = "\
-build 0 0 3, session 0 3, stored 6 28200 26
+build 0 0 3, session 0 3 0, stored 6 28200 26
 readers of 2 from place 4 to 6: 0 1
-trial 0 0 3, session 0 3, stored 6 28200 26
+trial 0 0 3, session 0 3 0, stored 6 28200 26
 results 30 28800, trial 28801, flags 1 1 1
-keep 0 0 3, session 1 3, stored 7 28800 30
+keep 0 0 3, session 1 3 0, stored 7 28800 30
 log of 1 move: 1 pair, variable 1 from 28800
-keep 10 0 0, session 1 3, stored 7 28800 30
-keep 8 0 0, session 1 3, stored 7 28800 30
-taking back 8 0 0, session 1 3, stored 7 28800 30
-taking back 16 0 0, session 1 3, stored 7 28800 30
-taking back 0 0 3, session 0 3, stored 6 28200 26
-taking back 15 0 0, session 0 3, stored 6 28200 26
-write 0 0 0, session 0 3, stored 6 28200 26
+keep 10 0 0, session 1 3 0, stored 7 28800 30
+keep 8 0 0, session 1 3 0, stored 7 28800 30
+taking back 8 0 0, session 1 3 0, stored 7 28800 30
+taking back 16 0 0, session 1 3 0, stored 7 28800 30
+taking back 0 0 3, session 0 3 0, stored 6 28200 26
+taking back 15 0 0, session 0 3 0, stored 6 28200 26
+keep 0 0 3, session 1 3 3, stored -2147483648 -2147483648 -2147483648
+taking back 19 0 0, session 1 3 2, stored -2147483648 -2147483648 -2147483648
+taking back 0 0 3, session 0 3 0, stored 6 28200 26
+write 0 0 0, session 0 3 0, stored 6 28200 26
 read 0 0 6 3 7, parameter 2
 read 14 20 0 0 0
 salvage 0 0 96 1 0

@@ -8,6 +8,7 @@ use Rattle.integers.proofs.Ranges.{fits-away}
 use Rattle.paper.specs.Calls.{Model}
 use Rattle.moves.specs.Moves.{moveOf}
 use Rattle.judges.specs.Lent.{toModel}
+use Rattle.engine.specs.Left.{recordIn}
 use Rattle.outcomes.specs.declared.Tried.{Tried}
 use Rattle.outcomes.proofs.Trying.{tried-low, tried-is}
 use Rattle.outcomes.proofs.try_by.Statement.{statement}
@@ -44,8 +45,8 @@ returns : tie.Need-returns
 returns c =
     let s = c .before .before .before .before .before .before .before .before .before .before .before .before .before .before .before .before .before .before .before .before .before in let a = s .args in
     let fits = sfits-of (c .t40 .given) in let mv = moveOf (a .pairs) (a .move-vars .now) (a .move-values .now) in
-    let is = tried-is (model s) (a .asked) (a .route) mv _ _ (c .before .before .before .before .before .before .trial-core .ensures) (c .before .before .number-of .ensures) (c .before .evaluations-of .ensures) (toZ-ofZ fits) in
-    let low = tried-low (model s) (a .asked) (a .route) mv in
+    let is = tried-is (recordIn (a .session)) (model s) (a .asked) (a .route) mv _ _ (c .before .before .before .before .before .before .trial-core .ensures) (c .before .before .number-of .ensures) (c .before .evaluations-of .ensures) (toZ-ofZ fits) in
+    let low = tried-low (recordIn (a .session)) (model s) (a .asked) (a .route) mv in
     (is, omega (arith, low .0, ap (λ (x : Tried). x .number) is), omega (arith, low .1, ap (λ (x : Tried). x .evaluations) is), simp (toZ-ofZ fits) (fits-away w32 _ fits))
 
 pub try-by-spec : {M : Type 1} → statement M

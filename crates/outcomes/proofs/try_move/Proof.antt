@@ -21,7 +21,7 @@ returns c =
     let one = c .before .before .before .try-by in let two = c .before .before .try-by2 in let three = c .before .try-by3 in
     let back = toZ-ofZ {w = w32} {z = one .result .result} (record { sfits = c .struct-told .given .1 .1 .0 .1 }) in (
       ap (λ z. record { number = one .result .number; result = z; first = one .result .evaluations; second = two .result .evaluations; third = three .result .evaluations }) back
-          ∙ outcome-is _ _ _ (one .result) (two .result) (three .result) (one .ensures .0) (two .ensures .0) (three .ensures .0),
+          ∙ outcome-is _ _ _ _ (one .result) (two .result) (three .result) (one .ensures .0) (two .ensures .0) (three .ensures .0),
       record { number = one .ensures .1; result = simp back (one .ensures .3); first = one .ensures .2; second = two .ensures .2; third = three .ensures .2 },
     )
 

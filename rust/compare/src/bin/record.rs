@@ -12,15 +12,15 @@
 //!
 //! A trial or a keep is: 1 or 2, route, pairs, asked (4 bytes each), 4 pair variables (2 each), 4 new values (4 each),
 //! 4 asked variables (2 each). What lies beyond pairs or asked means nothing; of a keep route and asked are 0. A change
-//! of one field of what is lent is: 3, row, place, new field (4 bytes each) and zeros. Row 0 is the record's moves kept;
-//! rows 1 to 15 are kinds, made variables, parameters, firsts, counts, entry variables, coefficients, numbers, order,
+//! of one field of what is lent is: 3, row, place, new field (4 bytes each) and zeros. Row 0 is the record, with its moves
+//! kept at place 0 and its number of blanks at place 1; rows 1 to 15 are kinds, made variables, parameters, firsts, counts, entry variables, coefficients, numbers, order,
 //! stored values, of the index of readers the starts and the places, and of the log the sizes, the variables and the
 //! values. A taking back is 4 and zeros. All keeps and takings back of a session have one log, which the last files try
 //! over sessions of many calls.
 //!
 //! The text has a line `read NUMBER PLACE N M E`; if that is accepted a line `build`; and if that is accepted a line for
 //! each call: `trial`, `keep`, `back` or `change ROW PLACE FIELD`. `build`, `trial`, `keep` and `back` go on with `NUMBER
-//! PLACE EVALUATIONS` and the record's moves kept and evaluations. If they are accepted, the rows that they leave follow,
+//! PLACE EVALUATIONS` and the record's moves kept, evaluations and number of blanks. If they are accepted, the rows that they leave follow,
 //! a bar before each: numbers, order, stored values, and n + 1 starts and e places of the index; results, trial row and
 //! flags; stored values, flags, how many moves the log holds and how many pairs each has, and the variables and the values
 //! of the latest. A blank is `-`.
@@ -37,10 +37,13 @@ use second::BLANK;
 const SEED: u64 = 20_261_115;
 
 /// The files, and the sessions of each; then files of one long session each, and its turns.
-const FILES: usize = 16;
+const FILES: usize = 20;
 const SESSIONS: u32 = 15;
 const LONG_FILES: usize = 3;
 const TURNS: usize = 230;
+
+/// The least calls of a long session that leave another number of blanks.
+const RECOUNTED: usize = 40;
 
 /// The longest file that is replayed.
 const LONGEST: usize = 12_288;
@@ -54,7 +57,7 @@ const MOST: usize = 4;
 const CALL: usize = 48;
 
 /// The record before a build.
-const BEFORE: Session = Session { kept: 7, evaluations: 9 };
+const BEFORE: Session = Session { kept: 7, evaluations: 9, blanks: 11 };
 
 fn main() -> io::Result<()> {
     let folder = env::args().nth(1).ok_or(io::Error::other("record FOLDER"))?;
@@ -87,6 +90,7 @@ struct Recording {
     file: Vec<u8>,
     calls: Vec<u8>,
     lines: String,
+    recounted: usize,
 }
 
 impl Recording {
@@ -102,8 +106,18 @@ impl Recording {
         session
     }
 
-    /// A session of so many keeps that the log is full, then takings back among them, until none is left.
+    /// A session of so many keeps that the log is full, then takings back among them, until none is left; over it blanks come
+    /// and go.
     fn of_long_session(random: &mut Random) -> Recording {
+        loop {
+            let session = Recording::of_keeps_and_takings_back(random);
+            if session.recounted >= RECOUNTED {
+                return session;
+            }
+        }
+    }
+
+    fn of_keeps_and_takings_back(random: &mut Random) -> Recording {
         let sizes = Sizes { variables: 12, entries: 48, inputs: 5 };
         let mut session = Recording::default();
         let mut model = None;
@@ -155,14 +169,26 @@ impl Recording {
         if let Some(change) = changed {
             let before = change.put(model);
             self.change(change);
+            if change.row == STORED && !random.once_in(4) {
+                self.count_blanks(model);
+            }
             self.any_call(random, model, change.row >= SIZES);
             if change.row != STORED || random.once_in(2) {
                 let back = Change { field: before, ..change };
                 back.put(model);
                 self.change(back);
             }
+            self.count_blanks(model);
         }
         self.any_call(random, model, false);
+    }
+
+    /// Changes the record's number of blanks to that of the stored values, if it is another.
+    fn count_blanks(&mut self, model: &mut Case) {
+        let right = Change { row: RECORD, place: 1, field: model.blanks() };
+        if right.put(model) != right.field {
+            self.change(right);
+        }
     }
 
     /// A random trial, keep or taking back on the model, at times spoilt; no trial if it is to have a log.
@@ -190,6 +216,7 @@ impl Recording {
             self.told(if name == Call::Keep { "keep" } else { "back" }, answer, case.session, &left);
         }
         let Case { session, stored, log_sizes, log_vars, log_values, .. } = case;
+        self.recounted += usize::from(session.blanks != model.session.blanks);
         *model = Case { session, stored, log_sizes, log_vars, log_values, ..std::mem::take(model) };
     }
 
@@ -206,9 +233,9 @@ impl Recording {
     /// The line of a call, with what it leaves if it is accepted.
     fn told(&mut self, name: &str, answer: Answer, session: Session, left: &str) {
         let Answer { number, place, evaluations, .. } = answer;
-        let Session { kept, evaluations: last } = session;
+        let Session { kept, evaluations: last, blanks } = session;
         let left = if number == 0 { left } else { "" };
-        self.lines += &format!("{name} {number} {place} {evaluations} {kept} {last}{left}\n");
+        self.lines += &format!("{name} {number} {place} {evaluations} {kept} {last} {blanks}{left}\n");
     }
 }
 
@@ -294,7 +321,8 @@ fn bytes_of(case: &Case) -> Vec<u8> {
     bytes
 }
 
-/// The numbers of the stored values and of the log's rows among the rows that a change names.
+/// The numbers of the record, of the stored values and of the log's rows among the rows that a change names.
+const RECORD: u32 = 0;
 const STORED: u32 = 10;
 const SIZES: u32 = 13;
 const VARS: u32 = 14;
@@ -312,9 +340,11 @@ impl Change {
     /// A change that may be refused, or may be one model for another.
     fn random(random: &mut Random, model: &Case) -> Change {
         let log = [SIZES, SIZES, VARS, VALUES];
-        let row = random.pick(&[0, 1, 1, 2, 2, 3, 4, 5, 6, 7, 8, 9, STORED, STORED, STORED, 11, 11, 12, 12]);
+        let row = random
+            .pick(&[RECORD, RECORD, RECORD, 1, 1, 2, 2, 3, 4, 5, 6, 7, 8, 9, STORED, STORED, STORED, 11, 11, 12, 12]);
         let row = if random.once_in(4) { random.pick(&log) } else { row };
         let place = match row {
+            RECORD => usize::from(!random.once_in(3)),
             6 | 7 | 12 => random.below(model.e),
             8 | STORED => random.below(model.n),
             11 => random.below(model.n + 1),
@@ -322,9 +352,10 @@ impl Change {
             VARS | VALUES => 64 * random.below(model.logged()) + random.below(2),
             _ => random.below(model.m),
         };
-        let variable = random.below(model.n + 1) as u32;
+        let (variable, blanks) = (random.below(model.n + 1) as u32, model.session.blanks);
         let field = match row {
-            0 => random.pick(&[0, u32::MAX - 1, u32::MAX]),
+            RECORD if place == 0 => random.pick(&[0, u32::MAX - 1, u32::MAX]),
+            RECORD => random.pick(&[blanks + 1, blanks + 1, blanks.wrapping_sub(1), 0, u32::MAX]),
             1 => random.pick(&[0, 1, 2, 3, 4, 5, 10, 65535]),
             2 if random.once_in(2) => model.makes[random.below(model.m)].into(),
             3 => random.pick(&[0, 1, 1_000_000_000, 1_000_000_001, (-1_000_000_001_i32) as u32]),
@@ -342,7 +373,8 @@ impl Change {
     fn put(self, model: &mut Case) -> u32 {
         let (place, field) = (self.place as usize, self.field);
         match self.row {
-            0 => std::mem::replace(&mut model.session.kept, field),
+            RECORD if place == 0 => std::mem::replace(&mut model.session.kept, field),
+            RECORD => std::mem::replace(&mut model.session.blanks, field),
             1 => put16(&mut model.kinds, place, field),
             2 => put16(&mut model.makes, place, field),
             3 => put32(&mut model.params, place, field),

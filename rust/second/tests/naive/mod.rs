@@ -75,16 +75,17 @@ fn verdict(case: &Case) -> Option<Refused> {
         match case.call {
             Call::Build => checks.extend([model.check_6(), model.check_7(case)]),
             Call::Trial => {
-                checks.extend([model.check_8(case), model.check_7(case), fixed(9, [1, 2, 3].contains(&case.route))]);
+                checks.extend([model.check_8(case), check_19(case), model.check_7(case)]);
+                checks.push(fixed(9, [1, 2, 3].contains(&case.route)));
                 checks.extend(model.checks_10_to_12(&Moved::of(case)));
                 checks.push(places(13, case.asked, |place| usize::from(case.asked_vars[place]) >= case.n));
             }
             Call::TakeBack => {
-                checks.extend([model.check_8(case), model.check_7(case), model.check_16(case)]);
+                checks.extend([model.check_8(case), check_19(case), model.check_7(case), model.check_16(case)]);
                 checks.push(fixed(15, case.log_sizes[0] > 0));
             }
             _ => {
-                checks.extend([model.check_8(case), model.check_7(case)]);
+                checks.extend([model.check_8(case), check_19(case), model.check_7(case)]);
                 checks.extend(model.checks_10_to_12(&Moved::of(case)));
                 checks.push(model.check_16(case));
             }
@@ -159,6 +160,15 @@ fn check_4(model: &Model) -> Check {
 
 fn check_5(model: &Model) -> Check {
     places(5, model.rows.len(), |row| model.rows[..row].iter().any(|earlier| earlier.makes == model.rows[row].makes))
+}
+
+/// How many variables have a blank stored value.
+fn blanks(case: &Case) -> u32 {
+    count(case.n, |variable| case.stored[variable] == BLANK) as u32
+}
+
+fn check_19(case: &Case) -> Check {
+    fixed(19, case.session.blanks == blanks(case))
 }
 
 impl Model {
@@ -333,8 +343,10 @@ fn accepted(case: &mut Case) -> Answer {
         }
     } else if case.call == Call::Keep {
         case.session.kept = case.session.kept.saturating_add(1);
+        case.session.blanks = blanks(case);
     } else {
         case.session.kept -= u32::from(case.session.kept != 4_294_967_295);
+        case.session.blanks = blanks(case);
         case.log_sizes[0] -= 1;
     }
     case.session.evaluations = evaluated.len() as u32;
@@ -355,6 +367,7 @@ fn build(case: &mut Case, model: &Model) -> Answer {
     case.log_sizes[0] = 0;
     case.session.kept = 0;
     case.session.evaluations = case.m as u32;
+    case.session.blanks = blanks(case);
     Answer { evaluations: case.session.evaluations, ..Answer::default() }
 }
 

@@ -3,15 +3,18 @@ use native.Mathlib.Nat.{le-refl}
 use native.Mathlib.Omega.{arith}
 use mathlib.Core.Path.{_≡_, refl, sym, ap, _∙_}
 use Rattle.paper.specs.Checks.{accepted, refused}
-use Rattle.paper.specs.Calls.{BuildLent, buildVerdict}
+use Rattle.paper.specs.Net.{afresh}
+use Rattle.paper.specs.Tables.{net}
+use Rattle.paper.specs.Calls.{BuildLent, startValues, buildVerdict}
 use Rattle.paper.proofs.Outcomes.{build-meets}
 use Rattle.paper.proofs.Sizes.{Sized}
 use Rattle.paper.proofs.Known.{build-known}
 use Rattle.tables.proofs.Judged.{accepted-is, refused-is}
 use Rattle.order.proofs.Sweeps.{clean-new}
-use Rattle.judges.specs.Lent.{toBuild}
-use Rattle.engine.specs.Left.{answerIn}
+use Rattle.judges.specs.Lent.{noRecord, toBuild}
+use Rattle.engine.specs.Left.{answerIn, recordIn}
 use Rattle.judges.proofs.Judging.{any-session, fitting}
+use Rattle.engine.proofs.Accepts.{filled-long, blanks-over}
 use borrow.Author.Needs.{needs}
 use Rattle.engine.proofs.building.build_core.Statement.{statement}
 use Rattle.engine.proofs.building.build_core.Tie as tie
@@ -19,13 +22,13 @@ use Rattle.engine.proofs.building.build_core.Tie as tie
 abbrev lent : tie.Start → BuildLent
 lent s =
     let a = s .args in
-    toBuild (a .session .kept) (a .session .evaluations) (a .n) (a .m) (a .e) (a .kinds .now) (a .makes .now) (a .params .now) (a .firsts .now) (a .counts .now) (a .vars .now) (a .coefs .now) (a .starts .now) (a .numbers .now) (a .order .now) (a .stored .now) (a .reader-starts .now) (a .reader-places .now) (a .log-sizes .now)
+    toBuild (recordIn (a .session)) (a .n) (a .m) (a .e) (a .kinds .now) (a .makes .now) (a .params .now) (a .firsts .now) (a .counts .now) (a .vars .now) (a .coefs .now) (a .starts .now) (a .numbers .now) (a .order .now) (a .stored .now) (a .reader-starts .now) (a .reader-places .now) (a .log-sizes .now)
 
 abbrev start : tie.After-enum-told → tie.Start
 start c = c .before .before .before .before .before .before .before .before .before .before .before .before .before .before .before .before .before .before .before .before
 
 passed : (c : tie.After-enum-told) → buildVerdict (lent (start c)) ≡ accepted
-passed c = let said = c .enum-told .given in any-session (lent (start c)) (record { kept = 0; evaluations = 0 }) ∙ accepted-is 0 (said .0 .0) _ (sym (c .before .before .judge-build .ensures .verdict) ∙ said .1)
+passed c = let said = c .enum-told .given in any-session (lent (start c)) noRecord ∙ accepted-is 0 (said .0 .0) _ (sym (c .before .before .judge-build .ensures .verdict) ∙ said .1)
 
 few : (c : tie.After-enum-told) → Sized (lent (start c) .tables)
 few c = let l = lent (start c) in fitting l (build-known l (passed c) .fits) .held
@@ -60,7 +63,7 @@ same-length-6 c = search needs
 
 returns : tie.Need-returns
 returns c =
-    let l = lent (c .before .before .before .before .before .before .before .before .before .before .before .before .before .before .before .before .before .before .before .before) in let said = c .enum-told2 .given in let v = any-session l (record { kept = 0; evaluations = 0 }) ∙ refused-is 0 _ _ _ (sym (c .before .before .judge-build .ensures .verdict) ∙ said .1) in
+    let l = lent (c .before .before .before .before .before .before .before .before .before .before .before .before .before .before .before .before .before .before .before .before) in let said = c .enum-told2 .given in let v = any-session l noRecord ∙ refused-is 0 _ _ _ (sym (c .before .before .judge-build .ensures .verdict) ∙ said .1) in
     build-meets l _ (refused (said .0 .0) (said .0 .1 .0)) v
     (ap answerIn (said .1)) refl refl refl refl refl refl
 
@@ -72,6 +75,11 @@ fill-model-requires c κs =
 
 cast-evaluations : tie.Need-cast-evaluations
 cast-evaluations c = let z = few (c .before .before .before .before .before .before .before .before .before .before .before .before .before .before .before .before .before .before .before) in omega (arith, z .m-most, z .n-most)
+
+blanks-among-requires : tie.Need-blanks-among-requires
+blanks-among-requires c κs =
+    let e = c .before .before .before .before .before .before .before .before .before .before .before .before .before .before .before .before .before .before .before .before in let l = lent (start e) in let fit = fitting l (build-known l (passed e) .fits) in
+    (filled-long _ _ _ _ (c .before .before .before .before .before .before .before .before .before .before .before .before .fill-model .ensures .1 .1 .0) (fit .stored), fit .held .n-most)
 
 same-length-7 : tie.Need-same-length-7
 same-length-7 c = search needs
@@ -93,8 +101,9 @@ same-length-12 c = search needs
 
 returns-2 : tie.Need-returns-2
 returns-2 c =
-    let e = c .before .before .before .before .before .before .before .before .before .before .before .before .before .before .before .before .before .before .before in let left = c .before .before .before .before .before .before .before .before .before .before .before .fill-model .ensures in
-    build-meets (lent (start e)) _ accepted (passed e) refl refl (left .0) (left .1 .0) (left .1 .1 .0) (left .1 .1 .1 .0) (left .1 .1 .1 .1)
+    let e = c .before .before .before .before .before .before .before .before .before .before .before .before .before .before .before .before .before .before .before .before .before in let l = lent (start e) in let left = c .before .before .before .before .before .before .before .before .before .before .before .before .before .fill-model .ensures in
+    build-meets l _ accepted (passed e) refl (ap (λ k. record { kept = 0; evaluations = l .tables .m; blanks = k }) (c .blanks-among .ensures ∙ blanks-over (l .tables .n) (afresh (net (l .tables)) (startValues l) (l .tables .n)) (l .stored) _ (left .1 .1 .0)))
+    (left .0) (left .1 .0) (left .1 .1 .0) (left .1 .1 .1 .0) (left .1 .1 .1 .1)
 
 pub build-core-spec : {M : Type 1} → statement M
 build-core-spec =
@@ -112,6 +121,7 @@ build-core-spec =
     returns
     fill-model-requires
     cast-evaluations
+    blanks-among-requires
     same-length-7
     same-length-8
     same-length-9

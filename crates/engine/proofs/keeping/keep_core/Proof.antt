@@ -4,11 +4,12 @@ use Rattle.paper.specs.Checks.{accepted, refused}
 use Rattle.paper.specs.Log.{Log, logIn}
 use Rattle.paper.specs.Calls.{Session, Model, Kept, keepVerdict}
 use Rattle.paper.proofs.Outcomes.{keep-meets}
+use Rattle.paper.proofs.Sizes.{sized-facts}
 use Rattle.paper.proofs.Known.{keep-known}
 use Rattle.tables.proofs.Judged.{accepted-is, refused-is}
 use Rattle.judges.specs.Lent.{toModel, toKeep}
 use Rattle.engine.specs.Left.{recordIn, answerIn}
-use Rattle.engine.proofs.Accepts.{keep-by-kept, keeping-of, named-of, keep-met}
+use Rattle.engine.proofs.Accepts.{keep-by-kept, keeping-of, named-of, filled-long, keep-met}
 use borrow.Author.Needs.{needs}
 use Rattle.engine.proofs.keeping.keep_core.Statement.{statement}
 use Rattle.engine.proofs.keeping.keep_core.Tie as tie
@@ -71,6 +72,11 @@ fill-keep-requires : tie.Need-fill-keep-requires
 fill-keep-requires c κs =
     let e = c .before .before .before .before .before .before .before .before .before .before .before .before in let s = start e in keeping-of (session s) (log s) (model s) (keeping s) (passed e)
 
+blanks-among-requires : tie.Need-blanks-among-requires
+blanks-among-requires c κs =
+    let e = c .before .before .before .before .before .before .before .before .before .before .before .before .before .before .before .before .before in let s = start e in let k = keep-known (session s) (log s) (model s) (keeping s) (passed e) .model in
+    (filled-long _ _ _ _ (c .before .before .before .before .fill-keep .ensures .stored-is) (k .stored-long), sized-facts (model s .tables) (k .sound .sized) .n-most)
+
 kept-once-more-requires : tie.Need-kept-once-more-requires
 kept-once-more-requires c κs = search needs
 
@@ -91,8 +97,8 @@ same-length-10 c = search needs
 
 returns-2 : tie.Need-returns-2
 returns-2 c =
-    let e = c .before .before .before .before .before .before .before .before .before .before .before .before .before .before .before .before .before in let s = start e in
-    keep-met (session s) (log s) (model s) _ _ _ _ _ (keeping s) (passed e) (c .before .before .before .before .fill-keep .ensures) (c .kept-once-more .ensures) (c .before .before .before .before .before .before .before .before .before .before .before .before .note-move .ensures)
+    let e = c .before .before .before .before .before .before .before .before .before .before .before .before .before .before .before .before .before .before .before in let s = start e in
+    keep-met (session s) (log s) (model s) _ _ _ _ _ _ (keeping s) (passed e) (c .before .before .before .before .before .before .fill-keep .ensures) (c .kept-once-more .ensures) (c .before .blanks-among .ensures) (c .before .before .before .before .before .before .before .before .before .before .before .before .before .before .note-move .ensures)
 
 pub keep-core-spec : {M : Type 1} → statement M
 keep-core-spec =
@@ -109,6 +115,7 @@ keep-core-spec =
     returns
     note-move-requires
     fill-keep-requires
+    blanks-among-requires
     kept-once-more-requires
     same-length-6
     same-length-7

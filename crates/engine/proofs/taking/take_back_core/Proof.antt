@@ -7,10 +7,12 @@ use Rattle.paper.specs.Checks.{accepted, refused}
 use Rattle.paper.specs.Log.{Log, logIn}
 use Rattle.paper.specs.Calls.{Session, Model, takeVerdict}
 use Rattle.paper.proofs.Outcomes.{take-meets}
+use Rattle.paper.proofs.Sizes.{sized-facts}
+use Rattle.paper.proofs.Known.{take-known}
 use Rattle.tables.proofs.Judged.{accepted-is, refused-is}
 use Rattle.judges.specs.Lent.{toModel}
 use Rattle.engine.specs.Left.{recordIn, answerIn}
-use Rattle.engine.proofs.Accepts.{take-by-kept, Latest, latest-at, latest-is, taking-of, take-met}
+use Rattle.engine.proofs.Accepts.{take-by-kept, Latest, latest-at, latest-is, taking-of, filled-long, take-met}
 use borrow.Author.Needs.{needs}
 use Rattle.engine.proofs.taking.take_back_core.Statement.{statement}
 use Rattle.engine.proofs.taking.take_back_core.Tie as tie
@@ -115,6 +117,11 @@ fill-keep-requires c κs =
 drop-move-requires : tie.Need-drop-move-requires
 drop-move-requires c κs = let k = found (c .before .before .before .before .before .before .before .before .before .before .before) .in-sizes in omega arith
 
+blanks-among-requires : tie.Need-blanks-among-requires
+blanks-among-requires c κs =
+    let e = c .before .before .before .before .before .before .before .before .before .before .before .before .before .before .before .before .before in let s = start e in let k = take-known (session s) (log s) (model s) (flags s) (passed e) .model in
+    (filled-long _ _ _ _ (c .before .before .before .before .before .before .before .before .fill-keep .ensures .stored-is) (k .stored-long), sized-facts (model s .tables) (k .sound .sized) .n-most)
+
 kept-once-less-requires : tie.Need-kept-once-less-requires
 kept-once-less-requires c κs = search needs
 
@@ -129,9 +136,9 @@ same-length-6 c = search needs
 
 returns-2 : tie.Need-returns-2
 returns-2 c =
-    let e = c .before .before .before .before .before .before .before .before .before .before .before .before .before .before .before .before .before in let s = start e in
-    take-met (session s) (log s) (model s) _ _ _ _ _ (flags s) _ (latest-is (log s) (flags s) _ _ (c .before .before .before .before .before .before .before .before .before .before .before .before .before .before .before .latest-move .ensures) (c .before .before .before .before .before .before .before .before .before .before .before .before .wide .ensures .0)) (passed e)
-    (c .before .before .before .before .before .before .before .before .fill-keep .ensures) (c .kept-once-less .ensures) (ap (λ sizes. logIn sizes (log s .vars) (log s .values)) (c .before .before .before .drop-move .ensures))
+    let e = c .before .before .before .before .before .before .before .before .before .before .before .before .before .before .before .before .before .before .before in let s = start e in
+    take-met (session s) (log s) (model s) _ _ _ _ _ _ (flags s) _ (latest-is (log s) (flags s) _ _ (c .before .before .before .before .before .before .before .before .before .before .before .before .before .before .before .before .before .latest-move .ensures) (c .before .before .before .before .before .before .before .before .before .before .before .before .before .before .wide .ensures .0)) (passed e)
+    (c .before .before .before .before .before .before .before .before .before .before .fill-keep .ensures) (c .kept-once-less .ensures) (c .before .blanks-among .ensures) (ap (λ sizes. logIn sizes (log s .vars) (log s .values)) (c .before .before .before .before .before .drop-move .ensures))
 
 pub take-back-core-spec : {M : Type 1} → statement M
 take-back-core-spec =
@@ -161,6 +168,7 @@ take-back-core-spec =
     part-fill-keep-end-2
     fill-keep-requires
     drop-move-requires
+    blanks-among-requires
     kept-once-less-requires
     same-length-4
     same-length-5

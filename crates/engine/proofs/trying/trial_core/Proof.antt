@@ -6,7 +6,7 @@ use Rattle.paper.proofs.Outcomes.{trial-meets}
 use Rattle.tables.proofs.Judged.{accepted-is, refused-is}
 use Rattle.judges.specs.Lent.{toModel, toTry}
 use Rattle.engine.specs.Left.{recordIn, answerIn}
-use Rattle.engine.proofs.Accepts.{trying-of, trial-met}
+use Rattle.engine.proofs.Accepts.{trial-by-blanks, trying-of, trial-met}
 use borrow.Author.Needs.{needs}
 use Rattle.engine.proofs.trying.trial_core.Statement.{statement}
 use Rattle.engine.proofs.trying.trial_core.Tie as tie
@@ -17,8 +17,14 @@ model s = let a = s .args in toModel (a .n) (a .m) (a .e) (a .kinds .now) (a .ma
 abbrev asking : tie.Start → Tried
 asking s = let a = s .args in toTry (a .pairs) (a .move-vars .now) (a .move-values .now) (a .asked) (a .asked-vars .now) (a .route) (a .results .now) (a .trial .now) (a .flags .now)
 
-passed : (c : tie.After-enum-told) → trialVerdict (model (c .before .before .before .before .before .before .before .before .before .before .before .before .before .before .before .before .before .before)) (asking (c .before .before .before .before .before .before .before .before .before .before .before .before .before .before .before .before .before .before)) ≡ accepted
-passed c = let said = c .enum-told .given in accepted-is 0 (said .0 .0) _ (sym (c .before .before .judge-trial .ensures) ∙ said .1)
+abbrev session : tie.Start → Session
+session s = recordIn (s .args .session)
+
+abbrev start : tie.After-enum-told → tie.Start
+start c = c .before .before .before .before .before .before .before .before .before .before .before .before .before .before .before .before .before .before
+
+passed : (c : tie.After-enum-told) → trialVerdict (session (start c)) (model (start c)) (asking (start c)) ≡ accepted
+passed c = let s = start c in let said = c .enum-told .given in trial-by-blanks (session s) (model s) (asking s) ∙ accepted-is 0 (said .0 .0) _ (sym (c .before .before .judge-trial .ensures) ∙ said .1)
 
 judge-trial-requires : tie.Need-judge-trial-requires
 judge-trial-requires c κs = search needs
@@ -41,13 +47,13 @@ same-length-3 c = search needs
 returns : tie.Need-returns
 returns c =
     let s = c .before .before .before .before .before .before .before .before .before .before .before .before .before .before .before .before .before .before in let said = c .enum-told2 .given in
-    let r : Session = recordIn (s .args .session) in let v = refused-is 0 _ _ _ (sym (c .before .before .judge-trial .ensures) ∙ said .1) in
-    trial-meets r (model s) (asking s) _ (refused (said .0 .0) (said .0 .1 .0)) v
+    let v = trial-by-blanks (session s) (model s) (asking s) ∙ refused-is 0 _ _ _ (sym (c .before .before .judge-trial .ensures) ∙ said .1) in
+    trial-meets (session s) (model s) (asking s) _ (refused (said .0 .0) (said .0 .1 .0)) v
     (ap answerIn (said .1)) refl refl refl refl
 
 fill-trial-requires : tie.Need-fill-trial-requires
 fill-trial-requires c κs =
-    let e = c .before .before .before in let s = e .before .before .before .before .before .before .before .before .before .before .before .before .before .before .before .before .before .before in trying-of (model s) (asking s) (passed e)
+    let e = c .before .before .before in let s = start e in trying-of (session s) (model s) (asking s) (passed e)
 
 same-length-4 : tie.Need-same-length-4
 same-length-4 c = search needs
@@ -60,7 +66,7 @@ same-length-6 c = search needs
 
 returns-2 : tie.Need-returns-2
 returns-2 c =
-    let e = c .before .before .before .before .before .before .before .before in let s = e .before .before .before .before .before .before .before .before .before .before .before .before .before .before .before .before .before .before in trial-met _ (model s) (asking s) _ _ _ _ (passed e) (c .before .before .before .before .fill-trial .ensures)
+    let e = c .before .before .before .before .before .before .before .before in let s = start e in trial-met (session s) (model s) (asking s) _ _ _ _ (passed e) (c .before .before .before .before .fill-trial .ensures)
 
 pub trial-core-spec : {M : Type 1} → statement M
 trial-core-spec =

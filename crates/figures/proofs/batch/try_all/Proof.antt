@@ -3,9 +3,10 @@ use Prim.Native.Nat.{_-_, _≤_}
 use native.Mathlib.Omega.{arith}
 use mathlib.Core.Path.{ap₂, _∙_}
 use borrow.Author.Needs.{needs}
-use Rattle.paper.specs.Calls.{Model}
+use Rattle.paper.specs.Calls.{Session, Model}
 use Rattle.moves.specs.Moves.{moveOf}
 use Rattle.judges.specs.Lent.{toModel}
+use Rattle.engine.specs.Left.{recordIn}
 use Rattle.outcomes.specs.Outcomes.{outcome}
 use Rattle.figures.specs.Figures.{Batch, batchOf}
 use Rattle.figures.proofs.Going.{cleared-long, Going, going-start, going-next, going-long, going-few, going-room, going-end}
@@ -13,11 +14,14 @@ use Rattle.figures.proofs.batch.try_all.Statement.{statement}
 use Rattle.figures.proofs.batch.try_all.Tie as tie
 
 abbrev Inv-loop : tie.InvT-loop
-Inv-loop n m e kinds makes params firsts counts vars coefs numbers order stored reader-starts reader-places moves move-pairs move-vars move-values asked by-number₀ totals₀ at₀ i₀ by-number totals at i =
-    Going (toModel n m e kinds makes params firsts counts vars coefs numbers order stored reader-starts reader-places) asked (batchOf moves move-pairs move-vars move-values) by-number₀ by-number totals at i × (i ≤ moves)
+Inv-loop session n m e kinds makes params firsts counts vars coefs numbers order stored reader-starts reader-places moves move-pairs move-vars move-values asked by-number₀ totals₀ at₀ i₀ by-number totals at i =
+    Going (recordIn session) (toModel n m e kinds makes params firsts counts vars coefs numbers order stored reader-starts reader-places) asked (batchOf moves move-pairs move-vars move-values) by-number₀ by-number totals at i × (i ≤ moves)
 
 abbrev μ-loop : tie.MeasureT-loop
-μ-loop n m e kinds makes params firsts counts vars coefs numbers order stored reader-starts reader-places moves move-pairs move-vars move-values asked by-number₀ totals₀ at₀ i₀ by-number totals at i = moves - i
+μ-loop session n m e kinds makes params firsts counts vars coefs numbers order stored reader-starts reader-places moves move-pairs move-vars move-values asked by-number₀ totals₀ at₀ i₀ by-number totals at i = moves - i
+
+abbrev session : tie.Start Inv-loop μ-loop → Session
+session s = recordIn (s .args .session)
 
 abbrev model : tie.Start Inv-loop μ-loop → Model
 model s = let a = s .args in toModel (a .n) (a .m) (a .e) (a .kinds .now) (a .makes .now) (a .params .now) (a .firsts .now) (a .counts .now) (a .vars .now) (a .coefs .now) (a .numbers .now) (a .order .now) (a .stored .now) (a .reader-starts .now) (a .reader-places .now)
@@ -33,7 +37,7 @@ clear-requires c κs = c .before .before .before .before .before .before .before
 
 loop-holds : tie.Need-loop-holds Inv-loop μ-loop
 loop-holds c =
-    let s = c .before .before .before .before .before .before .before .before .before .before .before .before .before .before .before .before .before in (going-start (model s) (s .args .asked) (batch s) (s .args .by-number .now) _ _ (s .pre .2) (c .before .before .clear .ensures) (c .before .before .before .before .none .ensures), omega arith)
+    let s = c .before .before .before .before .before .before .before .before .before .before .before .before .before .before .before .before .before in (going-start (session s) (model s) (s .args .asked) (batch s) (s .args .by-number .now) _ _ (s .pre .2) (c .before .before .clear .ensures) (c .before .before .before .before .none .ensures), omega arith)
 
 mul-wide : tie.Need-mul-wide Inv-loop μ-loop
 mul-wide c = let s = c .before .before .before .before .before .before .before .before .before .before .before .before .before .before .before .before .before .before .before in let h = s .pre .1 in search needs
@@ -56,13 +60,13 @@ try-move-requires c κs = search needs
 count-requires : tie.Need-count-requires Inv-loop μ-loop
 count-requires c κs =
     let s = c .before .before .before .before .before .before .before .before .before .before .before .before .before .before .before .before .before .before .before .before .before .before .before .before .before in let a = s .args in let l = c .before .before .before .before .before .before .before .loop in let low = c .before .try-move .ensures .1 .number in
-    let few = going-few (model s) (a .asked) (batch s) _ _ _ _ _ (l .inv .0) (c .before .try-move .result .number) low in
-    let long = going-long (model s) (a .asked) (batch s) _ _ _ _ _ (l .inv .0) in
+    let few = going-few (session s) (model s) (a .asked) (batch s) _ _ _ _ _ (l .inv .0) (c .before .try-move .result .number) low in
+    let long = going-long (session s) (model s) (a .asked) (batch s) _ _ _ _ _ (l .inv .0) in
     let same = cleared-long (a .by-number .now) _ (s .pre .2) (c .before .before .before .before .before .before .before .before .before .before .clear .ensures) in
     (omega (arith, low, long, same, s .pre .2), omega (arith, few, s .pre .0, c .before .before .before .before .before .before .loop-test .taken))
 
 add-requires : tie.Need-add-requires Inv-loop μ-loop
-add-requires c κs = (going-room (model (c .before .before .before .before .before .before .before .before .before .before .before .before .before .before .before .before .before .before .before .before .before .before .before .before .before .before .before .before)) (c .before .before .before .before .before .before .before .before .before .before .before .before .before .before .before .before .before .before .before .before .before .before .before .before .before .before .before .before .args .asked) (batch (c .before .before .before .before .before .before .before .before .before .before .before .before .before .before .before .before .before .before .before .before .before .before .before .before .before .before .before .before)) _ _ _ _ _ (c .before .before .before .before .before .before .before .before .before .before .loop .inv .0) (omega (arith, c .before .before .before .before .before .before .before .before .before .before .before .before .before .before .before .before .before .before .before .before .before .before .before .before .before .before .before .before .pre .0, c .before .before .before .before .before .before .before .before .before .loop-test .taken)), c .before .before .before .before .try-move .ensures .1)
+add-requires c κs = (going-room (session (c .before .before .before .before .before .before .before .before .before .before .before .before .before .before .before .before .before .before .before .before .before .before .before .before .before .before .before .before)) (model (c .before .before .before .before .before .before .before .before .before .before .before .before .before .before .before .before .before .before .before .before .before .before .before .before .before .before .before .before)) (c .before .before .before .before .before .before .before .before .before .before .before .before .before .before .before .before .before .before .before .before .before .before .before .before .before .before .before .before .args .asked) (batch (c .before .before .before .before .before .before .before .before .before .before .before .before .before .before .before .before .before .before .before .before .before .before .before .before .before .before .before .before)) _ _ _ _ _ (c .before .before .before .before .before .before .before .before .before .before .loop .inv .0) (omega (arith, c .before .before .before .before .before .before .before .before .before .before .before .before .before .before .before .before .before .before .before .before .before .before .before .before .before .before .before .before .pre .0, c .before .before .before .before .before .before .before .before .before .loop-test .taken)), c .before .before .before .before .try-move .ensures .1)
 
 add-at : tie.Need-add-at Inv-loop μ-loop
 add-at c = let s = c .before .before .before .before .before .before .before .before .before .before .before .before .before .before .before .before .before .before .before .before .before .before .before .before .before .before .before .before .before in omega (arith, s .pre .0, c .before .before .before .before .before .before .before .before .before .before .before .loop .inv .0 .at-most, c .before .before .before .before .before .before .before .before .before .before .before .loop .inv .1, c .before .before .before .before .before .before .before .before .wide .ensures .1)
@@ -77,8 +81,8 @@ loop-again : tie.Need-loop-again Inv-loop μ-loop
 loop-again c =
     let s = c .before .before .before .before .before .before .before .before .before .before .before .before .before .before .before .before .before .before .before .before .before .before .before .before .before .before .before .before .before in let a = s .args in let l = c .before .before .before .before .before .before .before .before .before .before .before .loop in let k = c .before .before .before .before .before .before .before .before .wide in let o = c .before .before .before .before .before .try-move in
     let same = cleared-long (a .by-number .now) _ (s .pre .2) (c .before .before .before .before .before .before .before .before .before .before .before .before .before .before .clear .ensures) in
-    let is = o .ensures .0 ∙ ap₂ (λ vs xs. outcome (model s) (a .asked) (moveOf (k .result) vs xs)) (c .before .before .before .before .before .before .before .part-of-vars .ensures) (c .before .before .before .before .before .before .part-of-values .ensures) in (
-      going-next (model s) (a .asked) (batch s) _ (l .by-number) (l .totals) (l .at) (l .i) (k .result) (l .inv .0) (c .before .before .before .before .before .before .before .before .before .before .loop-test .taken) (s .pre .1) (omega (arith, same, s .pre .2))
+    let is = o .ensures .0 ∙ ap₂ (λ vs xs. outcome (session s) (model s) (a .asked) (moveOf (k .result) vs xs)) (c .before .before .before .before .before .before .before .part-of-vars .ensures) (c .before .before .before .before .before .before .part-of-values .ensures) in (
+      going-next (session s) (model s) (a .asked) (batch s) _ (l .by-number) (l .totals) (l .at) (l .i) (k .result) (l .inv .0) (c .before .before .before .before .before .before .before .before .before .before .loop-test .taken) (s .pre .1) (omega (arith, same, s .pre .2))
           (k .ensures .0) (o .result) is (o .ensures .1) (k .ensures .1) _ (c .before .before .before .count .ensures) _ (c .add .ensures),
       omega (arith, c .before .before .before .before .before .before .before .before .before .before .loop-test .taken),
     )
@@ -86,12 +90,12 @@ loop-again c =
 same-length : tie.Need-same-length Inv-loop μ-loop
 same-length c =
     let s = c .before .before .before .before .before .before .before .before .before .before .before .before .before .before .before .before .before .before .before in let a = s .args in
-    going-long (model s) (a .asked) (batch s) _ _ _ _ _ (c .before .loop .inv .0) ∙ cleared-long (a .by-number .now) _ (s .pre .2) (c .before .before .before .before .clear .ensures)
+    going-long (session s) (model s) (a .asked) (batch s) _ _ _ _ _ (c .before .loop .inv .0) ∙ cleared-long (a .by-number .now) _ (s .pre .2) (c .before .before .before .before .clear .ensures)
 
 returns : tie.Need-returns Inv-loop μ-loop
 returns c =
     let s = c .before .before .before .before .before .before .before .before .before .before .before .before .before .before .before .before .before .before .before in let a = s .args in
-    going-end (model s) (a .asked) (batch s) _ _ _ _ _ (c .before .loop .inv .0) (a .by-number .now) (c .before .before .before .before .clear .ensures) (s .pre .2) (s .pre .1) (omega arith)
+    going-end (session s) (model s) (a .asked) (batch s) _ _ _ _ _ (c .before .loop .inv .0) (a .by-number .now) (c .before .before .before .before .clear .ensures) (s .pre .2) (s .pre .1) (omega arith)
 
 pub try-all-spec : {M : Type 1} → statement M
 try-all-spec =

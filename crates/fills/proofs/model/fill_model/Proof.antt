@@ -3,7 +3,7 @@ use native.Mathlib.Omega.{arith}
 use mathlib.Core.Path.{refl}
 use Rattle.paper.specs.Calls.{BuildLent}
 use Rattle.order.proofs.Bare.{formed-of}
-use Rattle.judges.specs.Lent.{toBuild}
+use Rattle.judges.specs.Lent.{noRecord, toBuild}
 use Rattle.readers.proofs.Known.{entries-laid}
 use Rattle.fills.proofs.Built.{known, room, numbers-left, order-left, along, stored-long, stored-left}
 use borrow.Author.Needs.{needs}
@@ -13,7 +13,7 @@ use Rattle.fills.proofs.model.fill_model.Tie as tie
 abbrev lent : tie.Start → BuildLent
 lent s =
     let a = s .args in
-    toBuild 0 0 (a .n) (a .m) (a .e) (a .kinds .now) (a .makes .now) (a .params .now) (a .firsts .now) (a .counts .now) (a .vars .now) (a .coefs .now) (a .starts .now) (a .numbers .now) (a .order .now) (a .stored .now) (a .reader-starts .now) (a .reader-places .now) (a .log-sizes .now)
+    toBuild noRecord (a .n) (a .m) (a .e) (a .kinds .now) (a .makes .now) (a .params .now) (a .firsts .now) (a .counts .now) (a .vars .now) (a .coefs .now) (a .starts .now) (a .numbers .now) (a .order .now) (a .stored .now) (a .reader-starts .now) (a .reader-places .now) (a .log-sizes .now)
 
 write-numbers-requires : tie.Need-write-numbers-requires
 write-numbers-requires c κs = let s = c .before .before .before .before .before .before .before .before .before .before .before in (s .pre .numbered, room (lent s) _ (s .pre) .numbers)

@@ -14,7 +14,7 @@ use Rattle.tables.specs.Answers.{answerOf}
 use Rattle.tables.proofs.Judged.{accepted-is, refused-is, judged-sound}
 use Rattle.tables.proofs.Made.{makers-filled, sound-makes}
 use Rattle.order.proofs.Bare.{formed-of, makers-bare, ends-bare}
-use Rattle.judges.specs.Lent.{toBuild}
+use Rattle.judges.specs.Lent.{noRecord, toBuild}
 use Rattle.judges.proofs.Judging.{judged-refused, fitting, stops-1, stops-tables, stops-6, stops-7, passes}
 use Rattle.judges.proofs.judge.judge_build.Statement.{statement}
 use Rattle.judges.proofs.judge.judge_build.Tie as tie
@@ -22,7 +22,7 @@ use Rattle.judges.proofs.judge.judge_build.Tie as tie
 abbrev asked : tie.Start → BuildLent
 asked s =
     let a = s .args in
-    toBuild 0 0 (a .n) (a .m) (a .e) (a .kinds .now) (a .makes .now) (a .params .now) (a .firsts .now) (a .counts .now) (a .vars .now) (a .coefs .now) (a .starts .now) (a .numbers .now) (a .order .now) (a .stored .now) (a .reader-starts .now) (a .reader-places .now) (a .log-sizes .now)
+    toBuild noRecord (a .n) (a .m) (a .e) (a .kinds .now) (a .makes .now) (a .params .now) (a .firsts .now) (a .counts .now) (a .vars .now) (a .coefs .now) (a .starts .now) (a .numbers .now) (a .order .now) (a .stored .now) (a .reader-starts .now) (a .reader-places .now) (a .log-sizes .now)
 
 build-fits-requires : tie.Need-build-fits-requires
 build-fits-requires c κs = search needs

@@ -40,7 +40,7 @@ returns : tie.Need-returns
 unfolding keepVerdict
 returns c =
     let s = c .before .before .before .before .before .before .before .before .before .before .before .before .before .before .before .before in
-    call-stops-1 (model s) (keepFits (log s) (model s) (kept s)) (rest s) _ (c .refused .ensures) (sym (c .before .before .keep-fits .ensures) ∙ not-true _ (c .before .if1 .taken))
+    call-stops-1 (model s) (s .args .blanks) (keepFits (log s) (model s) (kept s)) (rest s) _ (c .refused .ensures) (sym (c .before .before .keep-fits .ensures) ∙ not-true _ (c .before .if1 .taken))
 
 -- ── past check 1 ──
 fits : (c : tie.Else1) → let s = c .before .before .before .before .before .before .before .before .before .before .before .before .before .before .before in keepFits (log s) (model s) (kept s) ≡ true
@@ -50,7 +50,7 @@ slice-aggregate-model-checks : tie.Need-slice-aggregate-model-checks
 slice-aggregate-model-checks c = search needs
 
 model-checks-requires : tie.Need-model-checks-requires
-model-checks-requires c κs = let h = each _ (fits (c .before)) .0 in let n = model-fitting (model (c .before .before .before .before .before .before .before .before .before .before .before .before .before .before .before .before)) h .held .n-most in (h, omega arith)
+model-checks-requires c κs = let h = each _ (fits (c .before)) .0 in let n = model-fitting (model (c .before .before .before .before .before .before .before .before .before .before .before .before .before .before .before .before)) (c .before .before .before .before .before .before .before .before .before .before .before .before .before .before .before .before .args .blanks) h .held .n-most in (h, omega arith)
 
 enum-told : tie.Need-enum-told
 enum-told c = search needs
@@ -62,7 +62,7 @@ returns-2 : tie.Need-returns-2
 unfolding keepVerdict
 returns-2 c =
     let s = c .before .before .before .before .before .before .before .before .before .before .before .before .before .before .before .before .before .before .before .before in let said = c .enum-told2 .given in
-    call-stops (model s) (keepFits (log s) (model s) (kept s)) (rest s) (fits (c .before .before .before .before .before)) _ _ (c .before .before .before .model-checks .ensures) (said .0 .0) (said .0 .1 .0) (said .1)
+    call-stops (model s) (s .args .blanks) (keepFits (log s) (model s) (kept s)) (rest s) (fits (c .before .before .before .before .before)) _ _ (c .before .before .before .model-checks .ensures) (said .0 .0) (said .0 .1 .0) (said .1)
 
 -- ── the model accepted ──
 slice-aggregate-keep-checks : tie.Need-slice-aggregate-keep-checks
@@ -71,13 +71,13 @@ slice-aggregate-keep-checks c = search needs
 keep-checks-requires : tie.Need-keep-checks-requires
 keep-checks-requires c κs =
     let s = c .before .before .before .before .before .before .before .before .before .before .before .before .before .before .before .before .before .before .before .before .before in let said = c .before .enum-told .given in let f = each _ (fits (c .before .before .before .before .before .before)) in
-    (move-ready (model s) _ _ (c .before .before .before .before .model-checks .ensures) (said .0 .0) (said .1) (kept s .move) (f .1 .0), f .1 .1 .1 .0)
+    (move-ready (model s) (s .args .blanks) _ _ (c .before .before .before .before .model-checks .ensures) (said .0 .0) (said .1) (kept s .move) (f .1 .0), f .1 .1 .1 .0)
 
 returns-3 : tie.Need-returns-3
 unfolding keepVerdict
 returns-3 c =
     let s = c .before .before .before .before .before .before .before .before .before .before .before .before .before .before .before .before .before .before .before .before .before .before in let said = c .before .before .enum-told .given in
-    call-next (model s) (keepFits (log s) (model s) (kept s)) (rest s) (fits (c .before .before .before .before .before .before .before)) _ _ (c .before .before .before .before .before .model-checks .ensures) (said .0 .0) (said .1) _ (c .keep-checks .ensures)
+    call-next (model s) (s .args .blanks) (keepFits (log s) (model s) (kept s)) (rest s) (fits (c .before .before .before .before .before .before .before)) _ _ (c .before .before .before .before .before .model-checks .ensures) (said .0 .0) (said .1) _ (c .keep-checks .ensures)
 
 pub judge-keep-spec : {M : Type 1} → statement M
 judge-keep-spec =

@@ -38,7 +38,7 @@ returns : tie.Need-returns
 unfolding takeVerdict
 returns c =
     let s = c .before .before .before .before .before .before .before .before .before .before .before .before .before .before .before in
-    call-stops-1 (model s) (takeFits (log s) (model s) (s .args .flags .now)) (rest s) _ (c .refused .ensures) (sym (c .before .before .take-fits .ensures) ∙ not-true _ (c .before .if1 .taken))
+    call-stops-1 (model s) (s .args .blanks) (takeFits (log s) (model s) (s .args .flags .now)) (rest s) _ (c .refused .ensures) (sym (c .before .before .take-fits .ensures) ∙ not-true _ (c .before .if1 .taken))
 
 -- ── past check 1 ──
 fits : (c : tie.Else1) → let s = c .before .before .before .before .before .before .before .before .before .before .before .before .before .before in takeFits (log s) (model s) (s .args .flags .now) ≡ true
@@ -48,7 +48,7 @@ slice-aggregate-model-checks : tie.Need-slice-aggregate-model-checks
 slice-aggregate-model-checks c = search needs
 
 model-checks-requires : tie.Need-model-checks-requires
-model-checks-requires c κs = let h = each _ (fits (c .before)) .0 in let n = model-fitting (model (c .before .before .before .before .before .before .before .before .before .before .before .before .before .before .before)) h .held .n-most in (h, omega arith)
+model-checks-requires c κs = let h = each _ (fits (c .before)) .0 in let n = model-fitting (model (c .before .before .before .before .before .before .before .before .before .before .before .before .before .before .before)) (c .before .before .before .before .before .before .before .before .before .before .before .before .before .before .before .args .blanks) h .held .n-most in (h, omega arith)
 
 enum-told : tie.Need-enum-told
 enum-told c = search needs
@@ -60,7 +60,7 @@ returns-2 : tie.Need-returns-2
 unfolding takeVerdict
 returns-2 c =
     let s = c .before .before .before .before .before .before .before .before .before .before .before .before .before .before .before .before .before .before .before in let said = c .enum-told2 .given in
-    call-stops (model s) (takeFits (log s) (model s) (s .args .flags .now)) (rest s) (fits (c .before .before .before .before .before)) _ _ (c .before .before .before .model-checks .ensures) (said .0 .0) (said .0 .1 .0) (said .1)
+    call-stops (model s) (s .args .blanks) (takeFits (log s) (model s) (s .args .flags .now)) (rest s) (fits (c .before .before .before .before .before)) _ _ (c .before .before .before .model-checks .ensures) (said .0 .0) (said .0 .1 .0) (said .1)
 
 -- ── the model accepted ──
 slice-aggregate-take-checks : tie.Need-slice-aggregate-take-checks
@@ -69,13 +69,13 @@ slice-aggregate-take-checks c = search needs
 take-checks-requires : tie.Need-take-checks-requires
 take-checks-requires c κs =
     let s = c .before .before .before .before .before .before .before .before .before .before .before .before .before .before .before .before .before .before .before .before in let said = c .before .enum-told .given in let f = each _ (fits (c .before .before .before .before .before .before)) in
-    (model-makers (model s) _ _ (c .before .before .before .before .model-checks .ensures) (said .0 .0) (said .1) .long, f .1 .1 .0)
+    (model-makers (model s) (s .args .blanks) _ _ (c .before .before .before .before .model-checks .ensures) (said .0 .0) (said .1) .long, f .1 .1 .0)
 
 returns-3 : tie.Need-returns-3
 unfolding takeVerdict
 returns-3 c =
     let s = c .before .before .before .before .before .before .before .before .before .before .before .before .before .before .before .before .before .before .before .before .before in let said = c .before .before .enum-told .given in
-    call-next (model s) (takeFits (log s) (model s) (s .args .flags .now)) (rest s) (fits (c .before .before .before .before .before .before .before)) _ _ (c .before .before .before .before .before .model-checks .ensures) (said .0 .0) (said .1) _ (c .take-checks .ensures)
+    call-next (model s) (s .args .blanks) (takeFits (log s) (model s) (s .args .flags .now)) (rest s) (fits (c .before .before .before .before .before .before .before)) _ _ (c .before .before .before .before .before .model-checks .ensures) (said .0 .0) (said .1) _ (c .take-checks .ensures)
 
 pub judge-take-back-spec : {M : Type 1} → statement M
 judge-take-back-spec =

@@ -36,7 +36,7 @@ returns : tie.Need-returns
 unfolding trialVerdict
 returns c =
     let s = c .before .before .before .before .before .before .before .before .before .before .before .before .before .before .before in
-    call-stops-1 (model s) (trialFits (model s) (tried s)) (rest s) _ (c .refused .ensures) (sym (c .before .before .trial-fits .ensures) ∙ not-true _ (c .before .if1 .taken))
+    call-stops-1 (model s) (s .args .blanks) (trialFits (model s) (tried s)) (rest s) _ (c .refused .ensures) (sym (c .before .before .trial-fits .ensures) ∙ not-true _ (c .before .if1 .taken))
 
 -- ── past check 1 ──
 fits : (c : tie.Else1) → let s = c .before .before .before .before .before .before .before .before .before .before .before .before .before .before in trialFits (model s) (tried s) ≡ true
@@ -46,7 +46,7 @@ slice-aggregate-model-checks : tie.Need-slice-aggregate-model-checks
 slice-aggregate-model-checks c = search needs
 
 model-checks-requires : tie.Need-model-checks-requires
-model-checks-requires c κs = let h = each _ (fits (c .before)) .0 in let n = model-fitting (model (c .before .before .before .before .before .before .before .before .before .before .before .before .before .before .before)) h .held .n-most in (h, omega arith)
+model-checks-requires c κs = let h = each _ (fits (c .before)) .0 in let n = model-fitting (model (c .before .before .before .before .before .before .before .before .before .before .before .before .before .before .before)) (c .before .before .before .before .before .before .before .before .before .before .before .before .before .before .before .args .blanks) h .held .n-most in (h, omega arith)
 
 enum-told : tie.Need-enum-told
 enum-told c = search needs
@@ -58,7 +58,7 @@ returns-2 : tie.Need-returns-2
 unfolding trialVerdict
 returns-2 c =
     let s = c .before .before .before .before .before .before .before .before .before .before .before .before .before .before .before .before .before .before .before in let said = c .enum-told2 .given in
-    call-stops (model s) (trialFits (model s) (tried s)) (rest s) (fits (c .before .before .before .before .before)) _ _ (c .before .before .before .model-checks .ensures) (said .0 .0) (said .0 .1 .0) (said .1)
+    call-stops (model s) (s .args .blanks) (trialFits (model s) (tried s)) (rest s) (fits (c .before .before .before .before .before)) _ _ (c .before .before .before .model-checks .ensures) (said .0 .0) (said .0 .1 .0) (said .1)
 
 -- ── the model accepted ──
 slice-aggregate-ask-checks : tie.Need-slice-aggregate-ask-checks
@@ -67,13 +67,13 @@ slice-aggregate-ask-checks c = search needs
 ask-checks-requires : tie.Need-ask-checks-requires
 ask-checks-requires c κs =
     let s = c .before .before .before .before .before .before .before .before .before .before .before .before .before .before .before .before .before .before .before .before in let said = c .before .enum-told .given in let f = each _ (fits (c .before .before .before .before .before .before)) in
-    (move-ready (model s) _ _ (c .before .before .before .before .model-checks .ensures) (said .0 .0) (said .1) (tried s .move) (f .1 .0), (leb-true _ _ (f .1 .1 .0), leb-true _ _ (f .1 .1 .1 .0)))
+    (move-ready (model s) (s .args .blanks) _ _ (c .before .before .before .before .model-checks .ensures) (said .0 .0) (said .1) (tried s .move) (f .1 .0), (leb-true _ _ (f .1 .1 .0), leb-true _ _ (f .1 .1 .1 .0)))
 
 returns-3 : tie.Need-returns-3
 unfolding trialVerdict
 returns-3 c =
     let s = c .before .before .before .before .before .before .before .before .before .before .before .before .before .before .before .before .before .before .before .before .before in let said = c .before .before .enum-told .given in
-    call-next (model s) (trialFits (model s) (tried s)) (rest s) (fits (c .before .before .before .before .before .before .before)) _ _ (c .before .before .before .before .before .model-checks .ensures) (said .0 .0) (said .1) _ (c .ask-checks .ensures)
+    call-next (model s) (s .args .blanks) (trialFits (model s) (tried s)) (rest s) (fits (c .before .before .before .before .before .before .before)) _ _ (c .before .before .before .before .before .model-checks .ensures) (said .0 .0) (said .1) _ (c .ask-checks .ensures)
 
 pub judge-trial-spec : {M : Type 1} → statement M
 judge-trial-spec =

@@ -17,7 +17,7 @@ use Rattle.tables.proofs.Made.{makers-filled, sound-makes}
 use Rattle.order.proofs.Bare.{formed-of, makers-bare, numbered-bare}
 use Rattle.judges.specs.Lent.{toModel}
 use Rattle.readers.proofs.Known.{entries-laid}
-use Rattle.judges.proofs.JudgingMoves.{answer-accepts, ModelFitting, model-fitting, model-refused, stops-tables, stops-8, stops-index, stops-7, passes}
+use Rattle.judges.proofs.JudgingMoves.{ModelFitting, model-fitting, model-refused, stops-tables, stops-8, stops-index, from-stored}
 use Rattle.judges.proofs.model.model_checks.Statement.{statement}
 use Rattle.judges.proofs.model.model_checks.Tie as tie
 
@@ -26,8 +26,8 @@ model s =
     let a = s .args in
     toModel (a .n) (a .m) (a .e) (a .kinds .now) (a .makes .now) (a .params .now) (a .firsts .now) (a .counts .now) (a .vars .now) (a .coefs .now) (a .numbers .now) (a .order .now) (a .stored .now) (a .reader-starts .now) (a .reader-places .now)
 
-long : (s : tie.Start) → ModelFitting (model s)
-long s = model-fitting (model s) (s .pre .0)
+long : (s : tie.Start) → ModelFitting (model s) (s .args .blanks)
+long s = model-fitting (model s) (s .args .blanks) (s .pre .0)
 
 table-checks-requires : tie.Need-table-checks-requires
 table-checks-requires c κs = long (c .before .before .before .before .before .before .before .before .before .before) .held
@@ -40,8 +40,8 @@ enum-told-2 c = search needs
 
 returns : tie.Need-returns
 returns c =
-    let w = model (c .before .before .before .before .before .before .before .before .before .before .before .before .before) in let said = c .enum-told2 .given in
-    model-refused w _ _ (said .0 .0) (said .0 .1 .0) (said .1) (stops-tables w _ _ (refused-is 0 _ _ (tableChecks (w .tables) accepted) (sym (c .before .before .table-checks .ensures) ∙ said .1)))
+    let s = c .before .before .before .before .before .before .before .before .before .before .before .before .before in let w = model s in let said = c .enum-told2 .given in
+    model-refused w (s .args .blanks) _ _ (said .0 .0) (said .0 .1 .0) (said .1) (stops-tables w (s .args .blanks) _ _ (refused-is 0 _ _ (tableChecks (w .tables) accepted) (sym (c .before .before .table-checks .ensures) ∙ said .1)))
 
 -- ── past check 5 ──
 abbrev start₅ : tie.After-enum-told → tie.Start
@@ -74,8 +74,8 @@ same-length c = search needs
 
 returns-2 : tie.Need-returns-2
 returns-2 c =
-    let e = c .before .before .before .before .before .before .before .before in let w = model (start₅ e) in
-    model-refused w _ _ 8 0 (c .refused .ensures) (stops-8 w (sound e) (sym (c .before .before .numbered-right .ensures ∙ numbered-bare (w .tables) (w .numbers) (w .order)) ∙ not-true _ (c .before .if1 .taken)))
+    let e = c .before .before .before .before .before .before .before .before in let s = start₅ e in let w = model s in
+    model-refused w (s .args .blanks) _ _ 8 0 (c .refused .ensures) (stops-8 w (s .args .blanks) (sound e) (sym (c .before .before .numbered-right .ensures ∙ numbered-bare (w .tables) (w .numbers) (w .order)) ∙ not-true _ (c .before .if1 .taken)))
 
 -- ── past check 8 ──
 past₈ : (c : tie.Else1) → let w = model (start₅ (c .before .before .before .before .before .before .before)) in numbered (w .tables) (w .numbers) (w .order) ≡ true
@@ -92,38 +92,29 @@ same-length-2 c = search needs
 
 returns-3 : tie.Need-returns-3
 returns-3 c =
-    let e = c .before .before .before .before .before .before .before .before .before .before in let w = model (start₅ e) in
-    model-refused w _ _ 8 0 (c .refused2 .ensures) (stops-index w (sound e) (past₈ (c .before .before .before)) (sym (c .before .before .readers-right .ensures) ∙ not-true _ (c .before .if2 .taken)))
+    let e = c .before .before .before .before .before .before .before .before .before .before in let s = start₅ e in let w = model s in
+    model-refused w (s .args .blanks) _ _ 8 0 (c .refused2 .ensures) (stops-index w (s .args .blanks) (sound e) (past₈ (c .before .before .before)) (sym (c .before .before .readers-right .ensures) ∙ not-true _ (c .before .if2 .taken)))
 
 -- ── past check 8 of the index ──
 past-index : (c : tie.Else2) → let w = model (start₅ (c .before .before .before .before .before .before .before .before .before)) in indexed (w .tables) (w .index) ≡ true
 past-index c = sym (c .before .readers-right .ensures) ∙ not-false _ (c .if2 .left)
 
-first-bad-value-requires : tie.Need-first-bad-value-requires
-first-bad-value-requires c κs = let e = c .before .before .before .before .before .before .before .before .before .before in (filled e (c .before .before .before .before .before .before .before .before .makers .ensures) .long, long (start₅ e) .stored)
-
-refused-requires-3 : tie.Need-refused-requires-3
-refused-requires-3 c κs = let n = long (start₅ (c .before .before .before .before .before .before .before .before .before .before .before .before)) .held .n-most in omega arith
+stored-checks-requires : tie.Need-stored-checks-requires
+stored-checks-requires c κs =
+    let e = c .before .before .before .before .before .before .before .before .before .before in let s = start₅ e in
+    (filled e (c .before .before .before .before .before .before .before .before .makers .ensures) .long, long s .stored, long s .held .n-most)
 
 same-length-3 : tie.Need-same-length-3
 same-length-3 c = search needs
 
 returns-4 : tie.Need-returns-4
 returns-4 c =
-    let e = c .before .before .before .before .before .before .before .before .before .before .before .before .before in let w = model (start₅ e) in
-    model-refused w _ _ 7 _ (c .refused3 .ensures)
-    (stops-7 w (sound e) (past₈ (c .before .before .before .before .before .before)) (past-index (c .before .before .before .before)) _ (c .before .before .first-bad-value .ensures .of (w .tables) refl (filled e (c .before .before .before .before .before .before .before .before .before .before .before .makers .ensures))) (c .before .if3 .taken))
-
-same-length-4 : tie.Need-same-length-4
-same-length-4 c = search needs
-
-returns-5 : tie.Need-returns-5
-returns-5 c =
-    let e = c .before .before .before .before .before .before .before .before .before .before .before .before in let w = model (start₅ e) in let said = e .enum-told .given in let k = filled e (c .before .before .before .before .before .before .before .before .before .before .makers .ensures) in
+    let e = c .before .before .before .before .before .before .before .before .before .before .before in let s = start₅ e in let w = model s in
+    let k = filled e (c .before .before .before .before .before .before .before .before .before .makers .ensures) in
     record {
       verdict =
-          answer-accepts (tableChecks (w .tables) accepted) _ (e .before .before .table-checks .ensures) (said .0 .0) (said .1)
-          ∙ ap (answerOf 0) (sym (passes w (sound e) (past₈ (c .before .before .before .before .before)) (past-index (c .before .before .before)) _ (c .before .first-bad-value .ensures .of (w .tables) refl k, c .if3 .left)));
+          c .stored-checks .ensures .of (w .tables) refl k
+          ∙ ap (answerOf 0) (sym (from-stored w (s .args .blanks) (sound e) (past₈ (c .before .before .before .before)) (past-index (c .before .before))));
       makers = λ _. k;
     }
 
@@ -144,9 +135,6 @@ model-checks-spec =
     refused-requires-2
     same-length-2
     returns-3
-    first-bad-value-requires
-    refused-requires-3
+    stored-checks-requires
     same-length-3
-    returns-4
-    same-length-4
-    returns-5)
+    returns-4)
