@@ -1,9 +1,11 @@
 // What if the 7 o'clock service ran every twelve minutes? In `rust/`: `cargo run -p lukhandro --example headway`.
-use lukhandro::{Model, Refused, Route, Row};
+use lukhandro::{FULL, Model, Refused, Route, Row};
 
 fn main() -> Result<(), Refused> {
     let rows = [Row::departures(3, 0, 1, 2), Row::last(4, 0, 1, 2)];
-    let mut sheet = Model::build(&[25200, 28800, 600, 0, 0], &rows)?;
+    // A headway is from one minute to two hours; every other number is allowed.
+    let bounds = [FULL, FULL, (60, 7200), FULL, FULL];
+    let mut sheet = Model::build_within(&[25200, 28800, 600, 0, 0], &bounds, &rows)?;
     let tried = sheet
         .trial(&[(2, 720)], &[3, 4], Route::MarkGuided)?
         .results
@@ -17,5 +19,9 @@ fn main() -> Result<(), Refused> {
     println!("kept: {:?} departures", sheet.value(3));
     sheet.take_back()?;
     println!("taken back: {:?} departures", sheet.value(3));
+    match sheet.keep(&[(2, 72_000)]) {
+        Err(refused) => println!("a slipped digit: {refused}"),
+        Ok(_) => println!("a headway of twenty hours"),
+    }
     Ok(())
 }

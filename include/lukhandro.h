@@ -11,6 +11,8 @@
  *   kinds, makes, params, firsts, counts   m each    the rows: formula 1 to 9, variable made, parameter,
  *                                                    first entry, number of entries
  *   vars, coefs                            e each    the entries: variable, coefficient
+ *   lows, highs                            n each    bounds on what may be moved: the lowest and the highest allowed
+ *                                                    number of each variable
  *   starts                                 n         start values; 0 for a variable that a row makes
  *   numbers, stored                        n each    topological numbers and values, filled by build
  *   order                                  m         rows by number, filled by build
@@ -32,8 +34,8 @@
  *                                                    variables, ascending; m + n places are room for any, and 8,192
  *
  * Parameters stand in groups: record and counts, tables, what build fills, a move, what is asked, what a trial fills,
- * the log. A parameter that joins a group comes at its end, as the index of readers does behind stored; the log came
- * last, and its rows stand at the end of the list.
+ * the log. A parameter that joins a group comes at its end, as the index of readers does behind stored and the bounds do
+ * behind coefs; the log came last, and its rows stand at the end of the list.
  *
  * THE LOG lets the latest 64 kept moves be taken back, one after another, the latest first. Its three rows need no
  * content before build, which empties it (it writes log_sizes[0]) and is lent no more of it than log_sizes. Lend the same
@@ -45,25 +47,32 @@
  * blanks is always how many of the n stored values are blank, at a glance. To try a move on other stored values lend a
  * copy of the record with their number of blanks.
  *
- * VALUES lie in -2,147,483,647 to 2,147,483,647; LUKHANDRO_BLANK is no value.
+ * VALUES lie in -2,147,483,647 to 2,147,483,647, LUKHANDRO_LOWEST to LUKHANDRO_HIGHEST; LUKHANDRO_BLANK is no value.
+ *
+ * BOUNDS say what a search variable may be: a number from its lowest to its highest, both of them allowed. Both are
+ * values, and the lowest is not above the highest. A variable that a row makes has full bounds, LUKHANDRO_LOWEST and
+ * LUKHANDRO_HIGHEST, and so may one that is to have any value. Start values, stored values of search variables, new
+ * values and the values in the log are held to them. Lend the same bounds to every call on a model, or wider ones; what
+ * no longer lies within narrower ones is refused. A model file has no bounds.
  *
  * REFUSALS. Number 0 is accepted. Any other number is a refusal: the call has changed no byte that it was lent, and
- * place is the smallest row, variable, pair, asked index or byte that offends. Numbers are the specification's, 1 to 16
+ * place is the smallest row, variable, pair, asked index or byte that offends. Numbers are the specification's, 1 to 17
  * and 19:
  *    1 a count outside its bound or a short buffer     8 numbers, order or readers that build does not give
  *    2 no such kind                                    9 no such route
  *    3 variable, input count or part of a row         10 a pair names a made variable or none
- *    4 coefficient or parameter                       11 a pair names an earlier pair's variable
- *    5 variable made twice                            12 a new value is blank
- *    6 variable depends on itself                     13 an asked variable is not there
- *    7 value blank, or a made variable's start not 0  14 file header, place is the byte
- *   16 the log is unfit, place 0: it holds more moves   15 nothing left to take back, place 0
- *      than 64 or than the record's number kept, a
- *      move of more than 64 pairs, a made variable,
- *      one not below n, one twice in a move, or a blank
+ *    4 coefficient or parameter, place the row; if    11 a pair names an earlier pair's variable
+ *      all are good: bounds that are blank or not in  12 a new value is blank
+ *      order, or not full at a variable that some     17 a new value lies outside its variable's bounds
+ *      row makes, place the variable                  13 an asked variable is not there
+ *    5 variable made twice                            14 file header, place is the byte
+ *    6 variable depends on itself                     15 nothing left to take back, place 0
+ *    7 a search variable's value is blank or outside its bounds, or a made variable's start value is not 0
+ *   16 the log is unfit, place 0: it holds more moves than 64 or than the record's number kept, a move of more than 64
+ *      pairs, a made variable, one not below n, one twice in a move, a blank, or a value outside its variable's bounds
  *   19 the record's blanks is not how many of the n stored values are blank, place 0: lend the record and the stored
  *      values that the calls left, together
- * Checks run in ascending number, but 8 and then 19 come before 7, and 16 before 15.
+ * Checks run in ascending number, but 8 and then 19 come before 7, 17 right after 12, and 16 before 15.
  *
  * STACK. On the deepest models, chains of 4,095 rows, a program that makes this call and no other needs a stack of
  *     lukhandro_build                          480 KiB
@@ -86,6 +95,10 @@ extern "C" {
 #endif
 
 #define LUKHANDRO_BLANK INT32_MIN
+
+/* Full bounds. */
+#define LUKHANDRO_LOWEST (-INT32_MAX)
+#define LUKHANDRO_HIGHEST INT32_MAX
 
 /* The places of the rows of a log. */
 #define LUKHANDRO_LOG_SIZES 65
@@ -125,19 +138,22 @@ lukhandro_outcome lukhandro_build(
     const uint16_t *kinds, size_t kinds_length, const uint16_t *makes, size_t makes_length,
     const int32_t *params, size_t params_length, const uint16_t *firsts, size_t firsts_length,
     const uint16_t *counts, size_t counts_length, const uint16_t *vars, size_t vars_length,
-    const int16_t *coefs, size_t coefs_length, const int32_t *starts, size_t starts_length,
+    const int16_t *coefs, size_t coefs_length, const int32_t *lows, size_t lows_length,
+    const int32_t *highs, size_t highs_length, const int32_t *starts, size_t starts_length,
     uint16_t *numbers, size_t numbers_length, uint16_t *order, size_t order_length,
     int32_t *stored, size_t stored_length, uint16_t *reader_starts, size_t reader_starts_length,
     uint16_t *reader_places, size_t reader_places_length, uint16_t *log_sizes, size_t log_sizes_length);
 
 /* Tries a move by a route (1 input to output, 2 output to input, 3 mark-guided) on what the calls left, and fills
- * results, trial and flags; stored values stay. Refusals 1 to 13 without 6, and 19; 8 and then 19 before 7. */
+ * results, trial and flags; stored values stay. Refusals 1 to 13 without 6, and 17 and 19; 8 and then 19 before 7, and 17
+ * right after 12. */
 lukhandro_outcome lukhandro_trial(
     lukhandro_session *session, size_t n, size_t m, size_t e,
     const uint16_t *kinds, size_t kinds_length, const uint16_t *makes, size_t makes_length,
     const int32_t *params, size_t params_length, const uint16_t *firsts, size_t firsts_length,
     const uint16_t *counts, size_t counts_length, const uint16_t *vars, size_t vars_length,
-    const int16_t *coefs, size_t coefs_length, const uint16_t *numbers, size_t numbers_length,
+    const int16_t *coefs, size_t coefs_length, const int32_t *lows, size_t lows_length,
+    const int32_t *highs, size_t highs_length, const uint16_t *numbers, size_t numbers_length,
     const uint16_t *order, size_t order_length, const int32_t *stored, size_t stored_length,
     const uint16_t *reader_starts, size_t reader_starts_length,
     const uint16_t *reader_places, size_t reader_places_length,
@@ -148,13 +164,14 @@ lukhandro_outcome lukhandro_trial(
     uint8_t *flags, size_t flags_length);
 
 /* Keeps a move by route 1: changes stored, fills flags, and notes the move in the log. Refusals 1 to 12 without 6 and 9,
- * 8 and then 19 before 7, then 16. */
+ * 8 and then 19 before 7, then 17 and 16. */
 lukhandro_outcome lukhandro_keep(
     lukhandro_session *session, size_t n, size_t m, size_t e,
     const uint16_t *kinds, size_t kinds_length, const uint16_t *makes, size_t makes_length,
     const int32_t *params, size_t params_length, const uint16_t *firsts, size_t firsts_length,
     const uint16_t *counts, size_t counts_length, const uint16_t *vars, size_t vars_length,
-    const int16_t *coefs, size_t coefs_length, const uint16_t *numbers, size_t numbers_length,
+    const int16_t *coefs, size_t coefs_length, const int32_t *lows, size_t lows_length,
+    const int32_t *highs, size_t highs_length, const uint16_t *numbers, size_t numbers_length,
     const uint16_t *order, size_t order_length, int32_t *stored, size_t stored_length,
     const uint16_t *reader_starts, size_t reader_starts_length,
     const uint16_t *reader_places, size_t reader_places_length,
@@ -172,7 +189,8 @@ lukhandro_outcome lukhandro_take_back(
     const uint16_t *kinds, size_t kinds_length, const uint16_t *makes, size_t makes_length,
     const int32_t *params, size_t params_length, const uint16_t *firsts, size_t firsts_length,
     const uint16_t *counts, size_t counts_length, const uint16_t *vars, size_t vars_length,
-    const int16_t *coefs, size_t coefs_length, const uint16_t *numbers, size_t numbers_length,
+    const int16_t *coefs, size_t coefs_length, const int32_t *lows, size_t lows_length,
+    const int32_t *highs, size_t highs_length, const uint16_t *numbers, size_t numbers_length,
     const uint16_t *order, size_t order_length, int32_t *stored, size_t stored_length,
     const uint16_t *reader_starts, size_t reader_starts_length,
     const uint16_t *reader_places, size_t reader_places_length,

@@ -101,10 +101,34 @@ def unsound(n, lines, entries):
     return None
 
 
-def refusal(starts, lines, entries):
+def full(n):
+    """The bounds that allow every number: the lowest and the highest of n variables."""
+    return [LOW] * n, [HIGH] * n
+
+
+def allowed(bounds, v, x):
+    """A number that a variable may have."""
+    return bounds[0][v] <= x <= bounds[1][v]
+
+
+def bad_bounds(n, lines, bounds):
+    """Check 4 of the bounds: those of a variable that some row makes are full, any other's are in the range and in order. The least variable, or None."""
+    made = {line[1] for line in lines}
+    for v, (low, high) in enumerate(list(zip(*bounds))[:n]):
+        if (low, high) != (LOW, HIGH) if v in made else not LOW <= low <= high <= HIGH:
+            return v
+    return None
+
+
+def refusal(starts, lines, entries, bounds=None):
+    """Checks 2 to 7; without bounds, over full ones."""
     n, bad = len(starts), unsound(len(starts), lines, entries)
+    bounds = bounds or full(n)
     if bad:
         return bad
+    v = bad_bounds(n, lines, bounds)
+    if v is not None:
+        return 4, v
     seen = set()
     for r, line in enumerate(lines):
         if line[1] in seen:
@@ -115,7 +139,7 @@ def refusal(starts, lines, entries):
         if known[v] is None:
             return 6, v
     for v in range(n):
-        if starts[v] != 0 if v in seen else starts[v] == BLANK:
+        if starts[v] != 0 if v in seen else not allowed(bounds, v, starts[v]):
             return 7, v
     return None
 
@@ -177,18 +201,18 @@ def built(starts, lines, entries):
 
 
 # ── build, trial, keep and taking back, over what they are lent ──
-def build_left(counts, columns, starts, record, numbered, order, stored, reader_starts, reader_places, log_sizes):
+def build_left(counts, columns, bounds, starts, record, numbered, order, stored, reader_starts, reader_places, log_sizes):
     """What a build leaves: answer (number, place, evaluations), record (moves kept, evaluations, blanks), numbers, order, stored values, the starts and
     the places of the index of readers, and the sizes of the log. The columns of the tables are lent one by one, each of its own length: kinds, made variables, parameters,
-    firsts, counts; entry variables, coefficients."""
+    firsts, counts; entry variables, coefficients. So are the two rows of the bounds."""
     n, m, e = counts
-    rooms = [(columns[:5], m), (columns[5:], e), ((starts, numbered, stored), n), ((order,), m), ((reader_starts,), n + 1), ((reader_places,), e),
+    rooms = [(columns[:5], m), (columns[5:], e), (bounds, n), ((starts, numbered, stored), n), ((order,), m), ((reader_starts,), n + 1), ((reader_places,), e),
              ((log_sizes,), 65)]
     before = record, numbered, order, stored, reader_starts, reader_places, log_sizes
     if not (1 <= n <= 4096 and m <= n and e <= 16384) or any(len(row) < least for rows, least in rooms for row in rows):
         return ((1, 0, 0),) + before
     model = starts[:n], list(zip(*columns[:5]))[:m], list(zip(*columns[5:]))[:e]
-    bad = refusal(*model)
+    bad = refusal(*model, bounds)
     if bad:
         return (bad + (0,),) + before
     known, values = built(*model)
@@ -216,19 +240,20 @@ def index(n, lines, entries):
 
 
 class Lent:
-    """What trial, keep and taking back are lent of a model: counts, tables, numbers, order, stored values and the index of readers (build's where none is given),
-    each of the length lent."""
+    """What trial, keep and taking back are lent of a model: counts, tables, numbers, order, stored values, the index of readers (build's where none is given)
+    and the bounds (full where none are given), each of the length lent."""
 
-    def __init__(self, n, lines, entries, numbers, order, stored, e=None, readers=None):
+    def __init__(self, n, lines, entries, numbers, order, stored, e=None, readers=None, bounds=None):
         self.n, self.m, self.e = n, len(lines), len(entries) if e is None else e
         self.lines, self.entries = lines, entries
         self.numbers, self.order, self.stored = numbers, order, stored
         self.starts, self.places = readers or index(n, lines, entries)
+        self.bounds = bounds or full(n)
 
 
-def table_refusal(n, lines, entries):
+def table_refusal(n, lines, entries, bounds):
     """Checks 2 to 5."""
-    bad = refusal([0] * n, lines, entries)
+    bad = refusal([0] * n, lines, entries, bounds)
     return bad if bad and bad[0] <= 5 else None
 
 
@@ -252,17 +277,17 @@ def blank_values(lent):
 
 
 def lent_refusal(lent, record, pairs, move_vars, move_values, asked=0, asked_vars=(), route=1, rooms=()):
-    """Checks 1 to 5, 8, 19, 7 and 9 to 13. A keep asks nothing, by route 1, and a taking back moves nothing either. `rooms` has (length, least length) of the rows to be filled."""
+    """Checks 1 to 5, 8, 19, 7, 9 to 12, 17 and 13. A keep asks nothing, by route 1, and a taking back moves nothing either. `rooms` has (length, least length) of the rows to be filled."""
     n, m, e = lent.n, lent.m, lent.e
     if not (1 <= n <= 4096 and m <= n and e <= 16384 and pairs <= 64 and asked <= 32):
         return 1, 0
     if len(lent.entries) < e or len(lent.numbers) < n or len(lent.order) < m or len(lent.stored) < n:
         return 1, 0
-    if len(lent.starts) < n + 1 or len(lent.places) < e:
+    if len(lent.starts) < n + 1 or len(lent.places) < e or any(len(row) < n for row in lent.bounds):
         return 1, 0
     if min(len(move_vars), len(move_values)) < pairs or len(asked_vars) < asked or any(have < least for have, least in rooms):
         return 1, 0
-    bad = table_refusal(n, lent.lines, lent.entries[:e])
+    bad = table_refusal(n, lent.lines, lent.entries[:e], lent.bounds)
     if bad:
         return bad
     if not (rightly_numbered(lent) and rightly_indexed(lent)):
@@ -271,7 +296,7 @@ def lent_refusal(lent, record, pairs, move_vars, move_values, asked=0, asked_var
         return 19, 0
     made = {line[1] for line in lent.lines}
     for v in range(n):
-        if v not in made and lent.stored[v] == BLANK:
+        if v not in made and not allowed(lent.bounds, v, lent.stored[v]):
             return 7, v
     if route not in (1, 2, 3):
         return 9, 0
@@ -284,6 +309,9 @@ def lent_refusal(lent, record, pairs, move_vars, move_values, asked=0, asked_var
     for i in range(pairs):
         if move_values[i] == BLANK:
             return 12, i
+    for i in range(pairs):
+        if not allowed(lent.bounds, move_vars[i], move_values[i]):
+            return 17, i
     for i in range(asked):
         if asked_vars[i] >= n:
             return 13, i
@@ -376,7 +404,9 @@ class Log:
         if held > 64 or held > kept or any(pairs > 64 for pairs in self.sizes[1:held + 1]):
             return True
         moves = [self.move(k) for k in range(held)]
-        return any(BLANK in xs or len(set(vs)) < len(vs) or any(v in made or v >= lent.n for v in vs) for vs, xs in moves)
+        if any(BLANK in xs or len(set(vs)) < len(vs) or any(v in made or v >= lent.n for v in vs) for vs, xs in moves):
+            return True
+        return any(not allowed(lent.bounds, v, x) for vs, xs in moves for v, x in zip(vs, xs))
 
     def noted(self, old, move_vars):
         """The log with one more move, over the values before it."""

@@ -1,19 +1,33 @@
 -- The model of one window: checks 1 to 6 of build are passed by computing, 7 by what is not blank, and variable 3 is DEPARTURES of the three
 -- numbers. Assumes nothing.
-use Prim.Native.Nat.{ℕ}
-use mathlib.Core.Bool.{Bool, true, false, cond, not, _||_}
+use Prim.Native.Nat.{ℕ, _<_, _^_}
+use native.Mathlib.Omega.{arith}
+use mathlib.Core.Bool.{Bool, true, false, cond, not, _&&_, _||_}
 use mathlib.Core.List.{[], _∷_}
 use mathlib.Core.Path.{_≡_, refl, ap, _∙_}
-use lib.IntN.{ℤ, pos}
-use lib.Dec.{eqb}
+use lib.IntN.{ℤ, pos, negsuc}
+use lib.Dec.{eqb, leb}
+use borrow.Author.Tests.{eqb-false, le-leb}
 use lib.ListN.{getD, replicate}
+use lib.Signed.{leZ}
+use mir.Syntax.{w32}
+use mir.Val.{SFits, hbits}
 use Rattle.integers.specs.Integers.{eqZ}
 use Rattle.paper.specs.Lists.{every}
 use Rattle.paper.specs.Formula.{blank, departures, strict, formula}
 use Rattle.paper.specs.Net.{runs}
 use Rattle.paper.specs.Tables.{rowOf, lent, indexIn}
-use Rattle.paper.specs.Checks.{Verdict, accepted, refused, check, leaves}
+use Rattle.paper.specs.Checks.{Verdict, accepted, refused, check, leaves, boundsIn, lowest, highest}
 use Rattle.paper.specs.Calls.{BuildLent, buildVerdict, buildLeaves, build}
+
+-- a number of 32 bits that is not blank lies within full bounds
+full-allowed : (z : ℤ) → SFits w32 z → (not (eqZ z blank) && (leZ lowest z && leZ z highest)) ≡ not (eqZ z blank)
+full-allowed (pos n) f = let l : n < 2 ^ hbits w32 = f .sfits in le-leb n 2147483647 (omega arith)
+full-allowed (negsuc n) f = go (eqb n 2147483647) refl
+  where
+    go : (x : Bool) → eqb n 2147483647 ≡ x → (not x && (leb n 2147483646 && true)) ≡ not x
+    go true e = refl
+    go false e = let l : n < 2 ^ hbits w32 = f .sfits in let other = eqb-false n 2147483647 e in ap (_&& true) (le-leb n 2147483646 (omega arith))
 
 module _ (s e h : ℤ) where
   -- what build is lent
@@ -21,6 +35,7 @@ module _ (s e h : ℤ) where
   oneWindow = record {
     session = record { kept = 0; evaluations = 0; blanks = 0 };
     tables = lent 4 1 3 (8 ∷ []) (3 ∷ []) (pos 0 ∷ []) (0 ∷ []) (3 ∷ []) (0 ∷ 1 ∷ 2 ∷ []) (pos 1 ∷ pos 1 ∷ pos 1 ∷ []);
+    bounds = boundsIn (replicate 4096 lowest) (replicate 4096 highest);
     starts = s ∷ e ∷ h ∷ pos 0 ∷ [];
     numbers = replicate 4 0;
     order = replicate 1 0;
@@ -29,16 +44,19 @@ module _ (s e h : ℤ) where
     logSizes = replicate 65 0;
   }
 
-  -- check 7 of the model, by which numbers are blank
-  abbrev valued : Bool → Bool → Bool → ℕ → Bool
-  valued a b c v = cond (eqb v 0) (not a) (cond (eqb v 1) (not b) (cond (eqb v 2) (not c) true))
+  -- check 7 of the model, by which numbers are allowed, and by which are blank
+  abbrev sevenBy : Bool → Bool → Bool → Verdict
+  sevenBy a b c = check 7 4 (λ v. cond (eqb v 0) a (cond (eqb v 1) b (cond (eqb v 2) c true))) accepted
 
   abbrev seven : Bool → Bool → Bool → Verdict
-  seven a b c = check 7 4 (valued a b c) accepted
+  seven a b c = sevenBy (not a) (not b) (not c)
 
-  judged : buildVerdict oneWindow ≡ seven (eqZ s blank) (eqZ e blank) (eqZ h blank)
+  allowed : buildVerdict oneWindow ≡ sevenBy (not (eqZ s blank) && (leZ lowest s && leZ s highest)) (not (eqZ e blank) && (leZ lowest e && leZ e highest)) (not (eqZ h blank) && (leZ lowest h && leZ h highest))
   unfolding every runs rowOf buildVerdict
-  judged = refl
+  allowed = refl
+
+  judged : SFits w32 s → SFits w32 e → SFits w32 h → buildVerdict oneWindow ≡ seven (eqZ s blank) (eqZ e blank) (eqZ h blank)
+  judged fs fe fh = allowed ∙ (λ i. sevenBy (full-allowed s fs i) (full-allowed e fe i) (full-allowed h fh i))
 
   -- the value of variable 3 by a verdict
   valued-by : (v : Verdict) → getD (buildLeaves oneWindow v .stored) 3 (pos 0) ≡ leaves v (strict 8 (pos 0) [] (s ∷ e ∷ h ∷ [])) blank
@@ -57,8 +75,8 @@ module _ (s e h : ℤ) where
   by-blanks false false true x = either (seven false false true)
   by-blanks false false false x = refl
 
-  pub departures-stored : getD (build oneWindow .stored) 3 (pos 0) ≡ strict 8 (pos 0) [] (s ∷ e ∷ h ∷ [])
+  pub departures-stored : SFits w32 s → SFits w32 e → SFits w32 h → getD (build oneWindow .stored) 3 (pos 0) ≡ strict 8 (pos 0) [] (s ∷ e ∷ h ∷ [])
   unfolding build
-  departures-stored =
-      ap (λ v. getD (buildLeaves oneWindow v .stored) 3 (pos 0)) judged ∙ valued-by (seven (eqZ s blank) (eqZ e blank) (eqZ h blank))
+  departures-stored fs fe fh =
+      ap (λ v. getD (buildLeaves oneWindow v .stored) 3 (pos 0)) (judged fs fe fh) ∙ valued-by (seven (eqZ s blank) (eqZ e blank) (eqZ h blank))
       ∙ by-blanks (eqZ s blank) (eqZ e blank) (eqZ h blank) (departures s e h)

@@ -22,6 +22,8 @@ pub extern "C" fn lukhandro_build(
     counts: &[u16],
     vars: &[u16],
     coefs: &[i16],
+    lows: &[i32],
+    highs: &[i32],
     starts: &[i32],
     numbers: &mut [u16],
     order: &mut [u16],
@@ -30,7 +32,7 @@ pub extern "C" fn lukhandro_build(
     reader_places: &mut [u16],
     log_sizes: &mut [u16],
 ) -> Outcome
-    ensures { λ r. ⌜ leftByBuild r (now (session .exit)) (now (numbers .exit)) (now (order .exit)) (now (stored .exit)) (now («reader_starts» .exit)) (now («reader_places» .exit)) (now («log_sizes» .exit)) ≡ builtOut (built (toBuild (recordIn (now (session .entry))) n m e (now (kinds .entry)) (now (makes .entry)) (now (params .entry)) (now (firsts .entry)) (now (counts .entry)) (now (vars .entry)) (now (coefs .entry)) (now (starts .entry)) (now (numbers .entry)) (now (order .entry)) (now (stored .entry)) (now («reader_starts» .entry)) (now («reader_places» .entry)) (now («log_sizes» .entry)))) ⌝ }
+    ensures { λ r. ⌜ leftByBuild r (now (session .exit)) (now (numbers .exit)) (now (order .exit)) (now (stored .exit)) (now («reader_starts» .exit)) (now («reader_places» .exit)) (now («log_sizes» .exit)) ≡ builtOut (built (toBuild (recordIn (now (session .entry))) n m e (now (kinds .entry)) (now (makes .entry)) (now (params .entry)) (now (firsts .entry)) (now (counts .entry)) (now (vars .entry)) (now (coefs .entry)) (now (lows .entry)) (now (highs .entry)) (now (starts .entry)) (now (numbers .entry)) (now (order .entry)) (now (stored .entry)) (now («reader_starts» .entry)) (now («reader_places» .entry)) (now («log_sizes» .entry)))) ⌝ }
 {
     let answer = engine::build(
         session,
@@ -44,6 +46,8 @@ pub extern "C" fn lukhandro_build(
         counts,
         vars,
         coefs,
+        lows,
+        highs,
         starts,
         numbers,
         order,

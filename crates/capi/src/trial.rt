@@ -22,6 +22,8 @@ pub extern "C" fn lukhandro_trial(
     counts: &[u16],
     vars: &[u16],
     coefs: &[i16],
+    lows: &[i32],
+    highs: &[i32],
     numbers: &[u16],
     order: &[u16],
     stored: &[i32],
@@ -37,7 +39,7 @@ pub extern "C" fn lukhandro_trial(
     trial: &mut [i32],
     flags: &mut [u8],
 ) -> Outcome
-    ensures { λ r. ⌜ leftByTrial r (now (session .exit)) (now (results .exit)) (now (trial .exit)) (now (flags .exit)) ≡ triedOut (tried (recordIn (now (session .entry))) (toModel n m e (now (kinds .entry)) (now (makes .entry)) (now (params .entry)) (now (firsts .entry)) (now (counts .entry)) (now (vars .entry)) (now (coefs .entry)) (now (numbers .entry)) (now (order .entry)) (now (stored .entry)) (now («reader_starts» .entry)) (now («reader_places» .entry))) (toTry pairs (now («move_vars» .entry)) (now («move_values» .entry)) asked (now («asked_vars» .entry)) route (now (results .entry)) (now (trial .entry)) (now (flags .entry)))) ⌝ }
+    ensures { λ r. ⌜ leftByTrial r (now (session .exit)) (now (results .exit)) (now (trial .exit)) (now (flags .exit)) ≡ triedOut (tried (recordIn (now (session .entry))) (toModel n m e (now (kinds .entry)) (now (makes .entry)) (now (params .entry)) (now (firsts .entry)) (now (counts .entry)) (now (vars .entry)) (now (coefs .entry)) (now (lows .entry)) (now (highs .entry)) (now (numbers .entry)) (now (order .entry)) (now (stored .entry)) (now («reader_starts» .entry)) (now («reader_places» .entry))) (toTry pairs (now («move_vars» .entry)) (now («move_values» .entry)) asked (now («asked_vars» .entry)) route (now (results .entry)) (now (trial .entry)) (now (flags .entry)))) ⌝ }
 {
     let answer = engine::trial(
         session,
@@ -51,6 +53,8 @@ pub extern "C" fn lukhandro_trial(
         counts,
         vars,
         coefs,
+        lows,
+        highs,
         numbers,
         order,
         stored,

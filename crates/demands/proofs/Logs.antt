@@ -12,7 +12,7 @@ use lib.Seq.{drop-at, length-take-le}
 use Rattle.paper.specs.Lists.{nat, over}
 use Rattle.paper.specs.Net.{Values}
 use Rattle.paper.specs.Tables.{Tables}
-use Rattle.paper.specs.Checks.{Move}
+use Rattle.paper.specs.Checks.{Bounds, Move}
 use Rattle.paper.specs.Log.{Log, logIn, slid, laidAt, logged, back, roomMade, noted}
 use Rattle.paper.proofs.Buffers.{over-at, over-length}
 use Rattle.paper.proofs.Known.{MoveKnown, Long, LogKnown, fits-long}
@@ -49,9 +49,9 @@ module _ (l : Log) (long : Long l) where
         record { in-sizes = simp length-set (omega arith); in-vars = omega arith; in-values = omega arith }
 
 -- the latest move of a log with one more has the value before it at each of its variables
-pub noted-value : (t : Tables) (l : Log) (kept : ℕ) (known : LogKnown l t kept) (old : Values) (mv : Move) → MoveKnown t mv
+pub noted-value : (t : Tables) (bs : Bounds) (l : Log) (kept : ℕ) (known : LogKnown l t bs kept) (old : Values) (mv : Move) → MoveKnown t bs mv
     → (i : ℕ) → i < mv .pairs → getD (back (noted l old mv) (pred (logged (noted l old mv))) .values) i (pos 0) ≡ old (nat (mv .vars) i)
-noted-value t l kept known old mv move i low =
+noted-value t bs l kept known old mv move i low =
     let h = room-long l (fits-long l (known .fits)) in let k = min (logged l) 63 in
-    ap (λ n. getD (drop (64 * pred n) (noted l old mv .values)) i (pos 0)) (noted-logged t l kept known old mv move)
+    ap (λ n. getD (drop (64 * pred n) (noted l old mv .values)) i (pos 0)) (noted-logged t bs l kept known old mv move)
     ∙ laid-at (64 * k) (mv .pairs) (λ j. old (nat (mv .vars) j)) (roomMade l .values) (pos 0) i (omega arith) low

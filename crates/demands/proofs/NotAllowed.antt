@@ -15,7 +15,7 @@ use Rattle.paper.specs.Checks.{accepted}
 use Rattle.paper.specs.Log.{logIn, logged}
 use Rattle.paper.specs.Calls.{Accepted, numberOf, BuildLent, BuildLeft, buildVerdict, build, Model, Tried, TrialLeft, trialVerdict, trial, Kept, KeepLeft, keepVerdict, storedValues, keepLeaves, keep, latest, takeVerdict, takeBack}
 use Rattle.paper.specs.Demands.{Call, State, modelOf, old, renewed, restored}
-use Rattle.paper.specs.Runs.{building, modelA, startA, zeros, zerosZ}
+use Rattle.paper.specs.Runs.{building, modelA, startA, zeros, zerosZ, full}
 use Rattle.paper.proofs.Buffers.{over-at}
 use Rattle.paper.proofs.Known.{KeepKnown, keep-known, take-known}
 use Rattle.paper.proofs.Outcomes.{keep-judged, take-judged}
@@ -42,7 +42,7 @@ askFive = record { move = endTo 28500 .move; asked = 1; askedVars = 5 ∷ []; ro
 
 -- the model after build, and with other stored values
 abbrev modelWith : BuildLeft → List ℤ → Model
-modelWith x stored = record { tables = modelA; numbers = x .numbers; order = x .order; stored = stored; index = x .index }
+modelWith x stored = record { tables = modelA; bounds = full 6; numbers = x .numbers; order = x .order; stored = stored; index = x .index }
 
 -- a keep after build, and a keep or a taking back after that
 abbrev keptFirst : BuildLeft → Kept → KeepLeft
@@ -157,7 +157,7 @@ module _ {b : BuildLent} (start : BuildOutcome b) (room : List ℕ × List ℤ) 
       → getD (latest (leftKept o .log) (c .flags) .move .values) i (pos 0) ≡ getD (c .move .values) i (pos 0) → ⊥
   new-logged c o z i low moves same =
       moves (sym same ∙ ap (λ (x : KeepLeft). getD (latest (x .log) (c .flags) .move .values) i (pos 0)) left
-      ∙ noted-value (b .tables) (now .log) (now .session .kept) (has .log) (storedValues mine) (c .move) (has .move) i low
+      ∙ noted-value (b .tables) (b .bounds) (now .log) (now .session .kept) (has .log) (storedValues mine) (c .move) (has .move) i low
       ∙ getD-take (b .tables .n) (now .stored) (nat (c .move .vars) i) (pos 0) (has .move .low i low) ∙ stored-at (nat (c .move .vars) i) (has .move .low i low))
     where
       good : keepVerdict (now .session) (now .log) (modelOf now (ownOf start room)) c ≡ accepted

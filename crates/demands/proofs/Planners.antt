@@ -39,7 +39,7 @@ module _ {b : BuildLent} (start : BuildOutcome b) (room : List ℕ × List ℤ) 
     known : Accepts o → KeepKnown (now .session) (now .log) (lentTo now) (callOf mv flags)
     known z = keep-known (now .session) (now .log) (lentTo now) (callOf mv flags) (verdict-of z)
 
-    passes : ModelKnown (lentTo now) → BlanksKnown (now .session .blanks) (lentTo now) → MoveKnown (b .tables) mv → Room start room flags → logFits (now .log) ≡ true → logGood (now .log) (b .tables) (now .session .kept) ≡ true → Accepts o
+    passes : ModelKnown (lentTo now) → BlanksKnown (now .session .blanks) (lentTo now) → MoveKnown (b .tables) (b .bounds) mv → Room start room flags → logFits (now .log) ≡ true → logGood (now .log) (b .tables) (b .bounds) (now .session .kept) ≡ true → Accepts o
     passes model blanks move long fits good =
         ap (λ (x : KeepLeft). numberOf (x .answer)) (o .stated)
         ∙ keep-judged (now .session) (now .log) (lentTo now) (callOf mv flags) .zero (keep-accepts (now .session) (now .log) (lentTo now) (callOf mv flags) model blanks move long fits good)
@@ -50,7 +50,7 @@ module _ {b : BuildLent} (start : BuildOutcome b) (room : List ℕ × List ℤ) 
 
     next-known : Accepts o → ModelKnown (lentTo (handsOn start room now o))
     next-known z =
-        subst⁻¹ (λ (x : KeepLeft). ModelKnown (record { tables = b .tables; numbers = start .numbers; order = start .order; stored = x .stored; index = start .index })) (left-is z)
+        subst⁻¹ (λ (x : KeepLeft). ModelKnown (record { tables = b .tables; bounds = b .bounds; numbers = start .numbers; order = start .order; stored = x .stored; index = start .index })) (left-is z)
         (keep-leaves-known (lentTo now) (callOf mv flags) (known z .model) (known z .move))
 
     next-blanks : Accepts o → BlanksKnown (handsOn start room now o .session .blanks) (lentTo (handsOn start room now o))
@@ -86,7 +86,7 @@ module _ {b : BuildLent} (start : BuildOutcome b) (room : List ℕ × List ℤ) 
 
     module _ (mv mv′ : Move) (flags flags′ : List ℕ) (o : Keeping start room now mv flags) (q : Keeping start room (handsOn start room now o) mv′ flags′) (z : Accepts o) where
       -- the keep that comes next is accepted if its move passes the checks of a move
-      next-accepted : MoveKnown (b .tables) mv′ → Room start room flags′ → Accepts q
+      next-accepted : MoveKnown (b .tables) (b .bounds) mv′ → Room start room flags′ → Accepts q
       next-accepted move long = passes (handsOn start room now o) mv′ flags′ q (next-known now mv flags o z) (next-blanks now mv flags o z) move long (next-fits now mv flags o z) (next-right mv flags o .log-good)
 
       twice-kept : Accepts q → q .stored ≡ rowFrom (moved (movePairs mv′) (moved (movePairs mv) searched))
@@ -97,10 +97,10 @@ module _ {b : BuildLent} (start : BuildOutcome b) (room : List ℕ × List ℤ) 
 
     -- ── both ──
     module _ (first second : Move) (apart : Apart first second) (f g : List ℕ) (o : Keeping start room now first f) (p : Keeping start room now second g) (z : Accepts o) (y : Accepts p) where
-      move₁ : MoveKnown (b .tables) first
+      move₁ : MoveKnown (b .tables) (b .bounds) first
       move₁ = known now first f o z .move
 
-      move₂ : MoveKnown (b .tables) second
+      move₂ : MoveKnown (b .tables) (b .bounds) second
       move₂ = known now second g p y .move
 
       after-first : (flags : List ℕ) → Room start room flags → (q : Keeping start room (handsOn start room now o) second flags) → Accepts q
@@ -111,7 +111,7 @@ module _ {b : BuildLent} (start : BuildOutcome b) (room : List ℕ × List ℤ) 
 
       as-one-accepted : (one : Move) → AllPairs first second one → (flags : List ℕ) → Room start room flags → (j : Keeping start room now one flags) → Accepts j
       as-one-accepted one all flags long j = let has = known now first f o z in
-          passes now one flags j (has .model) (has .blanks) (one-known (b .tables) first second move₁ move₂ apart one all) long (has .log .fits) (right .log-good)
+          passes now one flags j (has .model) (has .blanks) (one-known (b .tables) (b .bounds) first second move₁ move₂ apart one all) long (has .log .fits) (right .log-good)
 
       both-orders : EitherOrder start room now first second f g o p
       both-orders = record {
@@ -119,16 +119,16 @@ module _ {b : BuildLent} (start : BuildOutcome b) (room : List ℕ × List ℤ) 
         first-accepted = after-second;
         same = λ flags flags′ long long′ q r.
             twice-kept first second f flags o q z (after-first flags long q)
-            ∙ ap rowFrom (sym (either-order (b .tables) first second move₁ move₂ apart searched))
+            ∙ ap rowFrom (sym (either-order (b .tables) (b .bounds) first second move₁ move₂ apart searched))
             ∙ sym (twice-kept second first g flags′ p r y (after-second flags′ long′ r));
         as-one = λ one all flags flags′ long long′ q j.
             let accepted-too = as-one-accepted one all flags′ long′ j in (
               accepted-too,
               once-kept one flags′ j accepted-too
-                  ∙ ap rowFrom (as-one (b .tables) first second move₁ move₂ apart one all searched ∙ either-order (b .tables) first second move₁ move₂ apart searched)
+                  ∙ ap rowFrom (as-one (b .tables) (b .bounds) first second move₁ move₂ apart one all searched ∙ either-order (b .tables) (b .bounds) first second move₁ move₂ apart searched)
                   ∙ sym (twice-kept first second f flags o q z (after-first flags long q)),
             );
-        all-pairs = joined-all (b .tables) first second move₁ move₂ apart;
+        all-pairs = joined-all (b .tables) (b .bounds) first second move₁ move₂ apart;
       }
 
 -- ── it does not matter who keeps first ──

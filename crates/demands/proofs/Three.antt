@@ -23,7 +23,7 @@ leftNumber x = numberOf (x .answer)
 
 module _ {b : BuildLent} (start : BuildOutcome b) (room : List ℕ × List ℤ) where
   pub own-is : ownOf start room ≡ ownModel b room
-  own-is = ap (λ (x : BuildLeft). record { tables = b .tables; numbers = x .numbers; order = x .order; stored = own; index = x .index }) (start .stated)
+  own-is = ap (λ (x : BuildLeft). record { tables = b .tables; bounds = b .bounds; numbers = x .numbers; order = x .order; stored = own; index = x .index }) (start .stated)
 
   -- ── an outcome over a state that is the paper's ──
   module _ (cs : List Call) (now : State) (e : now ≡ after b room cs) where
@@ -75,7 +75,7 @@ module _ {b : BuildLent} (start : BuildOutcome b) (room : List ℕ × List ℤ) 
     stored = ap (λ (s : State). s .stored) e ∙ d .stored;
     moves = λ few. ap (λ (s : State). s .session .kept) e ∙ d .counted few;
     blanks = ap (λ (s : State). s .session .blanks) e ∙ d .blanks;
-    log-good = ap (λ (s : State). logGood (s .log) (b .tables) (s .session .kept)) e ∙ d .log-good;
+    log-good = ap (λ (s : State). logGood (s .log) (b .tables) (b .bounds) (s .session .kept)) e ∙ d .log-good;
     trial-accepted = λ c o z.
         let q = trial-is cs now e mine c o ∙ ap (λ l. tried b room cs l c) own-is in
         let right = d .trial-accepted c (sym (ap triedNumber q) ∙ z) in

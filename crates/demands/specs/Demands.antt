@@ -133,7 +133,7 @@ module _ {b : BuildLent} (start : BuildOutcome b) (room : List ℕ × List ℤ) 
     pub moves : length cs < 4294967295 → now .session .kept ≡ length (history b room cs)
     -- the record has the number of the blank values among them
     pub blanks : now .session .blanks ≡ blanksAmong (b .tables .n) (old b room cs)
-    pub log-good : logGood (now .log) (b .tables) (now .session .kept) ≡ true
+    pub log-good : logGood (now .log) (b .tables) (b .bounds) (now .session .kept) ≡ true
     -- the next call, if it is accepted and was lent the model's own
     pub trial-accepted : (c : Tried) (o : TrialOutcome (now .session) (modelOf now (ownOf start room)) c) → numberOf (leftTried o .answer) ≡ 0 → TrialFresh c o
     pub keep-accepted : (c : Kept) (o : KeepOutcome (now .session) (now .log) (modelOf now (ownOf start room)) c) → numberOf (leftKept o .answer) ≡ 0 → KeepFresh c o

@@ -9,7 +9,7 @@ use lib.Dec.{eqb, leb, ltb}
 use lib.ListN.{length, take}
 use Rattle.paper.specs.Lists.{between, total, nat}
 use Rattle.paper.specs.Tables.{Tables, ends}
-use Rattle.paper.specs.Checks.{Verdict, accepted, refused, kindGood, shapeGood, numberGood, madeOnce, startGood, storedGood, numbered, indexed, Move, movable, namedOnce, hasValue}
+use Rattle.paper.specs.Checks.{Bounds, Verdict, accepted, refused, kindGood, shapeGood, numberGood, madeOnce, numbered, indexed, Move, movable, namedOnce, hasValue, boundsGood, startAllowed, storedAllowed, pairWithin}
 use Rattle.paper.specs.Log.{Log, logged, logGood}
 use Rattle.paper.specs.Calls.{Session, blanksAmong, BuildLent, buildFits, startValues, Model, storedValues, Tried, trialFits, Kept, keepFits, takeFits}
 use Rattle.paper.specs.File.{field, rowsAt, entriesAt, endsAt, held, counted, nIn, mIn, eIn}
@@ -21,12 +21,13 @@ pub data Line : Type 0 where
 
 -- ── the lines of each call ──
 -- 2 to 5, of the tables
-abbrev pub tableLines : Tables → List Line
-tableLines t =
+abbrev pub tableLines : Tables → Bounds → List Line
+tableLines t bs =
     places 2 (t .m) (kindGood t)
     ∷ places 3 (t .m) (shapeGood t)
     ∷ whole 3 (pred (t .m)) (eqb (total (take (t .m) (t .counts))) (t .e))
     ∷ places 4 (t .m) (numberGood t)
+    ∷ places 4 (t .n) (boundsGood t bs)
     ∷ places 5 (t .m) (madeOnce t)
     ∷ []
 
@@ -36,31 +37,32 @@ modelLines s w = let t = w .tables in
     whole 8 0 (numbered t (w .numbers) (w .order))
     ∷ whole 8 0 (indexed t (w .index))
     ∷ whole 19 0 (eqb (s .blanks) (blanksAmong (t .n) (storedValues w)))
-    ∷ places 7 (t .n) (storedGood t (storedValues w))
+    ∷ places 7 (t .n) (storedAllowed t (w .bounds) (storedValues w))
     ∷ []
 
--- 10 to 12, of the move
-abbrev pub moveLines : Tables → Move → List Line
-moveLines t mv = places 10 (mv .pairs) (movable mv t) ∷ places 11 (mv .pairs) (namedOnce mv) ∷ places 12 (mv .pairs) (hasValue mv) ∷ []
+-- 10 to 12 and 17, of the move
+abbrev pub moveLines : Model → Move → List Line
+moveLines w mv =
+    places 10 (mv .pairs) (movable mv (w .tables)) ∷ places 11 (mv .pairs) (namedOnce mv) ∷ places 12 (mv .pairs) (hasValue mv) ∷ places 17 (mv .pairs) (pairWithin mv (w .bounds)) ∷ []
 
 abbrev pub buildTable : BuildLent → List Line
 buildTable l = let t = l .tables in
-    whole 1 0 (buildFits l) ∷ (tableLines t ++ (places 6 (t .n) (ends t) ∷ places 7 (t .n) (startGood t (startValues l)) ∷ []))
+    whole 1 0 (buildFits l) ∷ (tableLines t (l .bounds) ++ (places 6 (t .n) (ends t) ∷ places 7 (t .n) (startAllowed t (l .bounds) (startValues l)) ∷ []))
 
 abbrev pub trialTable : Session → Model → Tried → List Line
 trialTable s w c = let t = w .tables in
-    whole 1 0 (trialFits w c) ∷ (tableLines t ++ modelLines s w ++ (whole 9 0 (between 1 (c .route) 3) ∷ [])
-    ++ moveLines t (c .move) ++ (places 13 (c .asked) (λ i. ltb (nat (c .askedVars) i) (t .n)) ∷ []))
+    whole 1 0 (trialFits w c) ∷ (tableLines t (w .bounds) ++ modelLines s w ++ (whole 9 0 (between 1 (c .route) 3) ∷ [])
+    ++ moveLines w (c .move) ++ (places 13 (c .asked) (λ i. ltb (nat (c .askedVars) i) (t .n)) ∷ []))
 
 -- 16, of the log
-abbrev pub logLines : Session → Log → Tables → List Line
-logLines s g t = whole 16 0 (logGood g t (s .kept)) ∷ []
+abbrev pub logLines : Session → Log → Model → List Line
+logLines s g w = whole 16 0 (logGood g (w .tables) (w .bounds) (s .kept)) ∷ []
 
 abbrev pub keepTable : Session → Log → Model → Kept → List Line
-keepTable s g w c = whole 1 0 (keepFits g w c) ∷ (tableLines (w .tables) ++ modelLines s w ++ moveLines (w .tables) (c .move) ++ logLines s g (w .tables))
+keepTable s g w c = whole 1 0 (keepFits g w c) ∷ (tableLines (w .tables) (w .bounds) ++ modelLines s w ++ moveLines w (c .move) ++ logLines s g w)
 
 abbrev pub takeTable : Session → Log → Model → List ℕ → List Line
-takeTable s g w flags = whole 1 0 (takeFits g w flags) ∷ (tableLines (w .tables) ++ modelLines s w ++ logLines s g (w .tables) ++ (whole 15 0 (ltb 0 (logged g)) ∷ []))
+takeTable s g w flags = whole 1 0 (takeFits g w flags) ∷ (tableLines (w .tables) (w .bounds) ++ modelLines s w ++ logLines s g w ++ (whole 15 0 (ltb 0 (logged g)) ∷ []))
 
 abbrev pub writeTable : Tables → List ℤ → List ℕ → List Line
 writeTable t starts bytes = whole 1 0 (held t starts && leb (endsAt (t .n) (t .m) (t .e)) (length bytes)) ∷ []

@@ -22,7 +22,7 @@ afterTrial now done = record { session = recordIn (done .session); stored = now 
 module _ {b : BuildLent} (start : BuildOutcome b) (room : List ℕ × List ℤ) where
   -- the tables that build was lent, and the numbers, order, stored values and index that it left
   abbrev pub ownOf : Lends
-  ownOf = record { tables = b .tables; numbers = start .numbers; order = start .order; stored = own; index = start .index }
+  ownOf = record { tables = b .tables; bounds = b .bounds; numbers = start .numbers; order = start .order; stored = own; index = start .index }
 
   -- the calls, the latest first, and what stands after them; each accepted call was lent the model's own and the session's own log, refused ones
   -- anything

@@ -35,6 +35,8 @@ fn count_filling(
         row16(pool, plan, 6),
         row16(pool, plan, 8),
         row_signed16(coefs, plan, 22),
+        row_signed32(values, plan, 28),
+        row_signed32(values, plan, 30),
         row16(pool, plan, 10),
         row16(pool, plan, 12),
         stored,
@@ -56,8 +58,8 @@ pub fn count_case(case: &[u8], plan: &[u16], pool: &[u16], coefs: &[i16], values
     let mut stored = [0i32; 4097];
     let mut by_number = [77u32; 22];
     fill_signed32(&mut stored, values_of(case));
-    let s = least(count(case, 74), 4097);
-    let k = least(count(case, 76), 22);
+    let s = least(count(case, 82), 4097);
+    let k = least(count(case, 84), 22);
     count_filling(
         case,
         plan,

@@ -3,14 +3,14 @@
 //  0  length of the case, length of its name, length of its values: all in bytes
 //  6  which call: 1 a trial, 2 a keep, 3 a build, 4 the figures of a batch, 5 a taking back
 //  8  n, m, e, pairs, asked
-// 18  the plan of fourteen rows: kinds, made variables, firsts, counts, entry variables, numbers, order, reader starts, reader places, move variables
-//     and asked variables; then coefficients; then parameters and new values
-// 74  how many stored values, results, trial values and flags are lent; of a build, start values, numbers, rows of the order, stored values, reader
+// 18  the plan of sixteen rows: kinds, made variables, firsts, counts, entry variables, numbers, order, reader starts, reader places, move variables
+//     and asked variables; then coefficients; then parameters, new values, lowest and highest allowed numbers
+// 82  how many stored values, results, trial values and flags are lent; of a build, start values, numbers, rows of the order, stored values, reader
 //     starts and reader places
-// 86  how many results are shown, of a build how many reader starts and how many reader places, and how many of each other row
-// 90  moves kept, route, and the record's number of blanks
-// 102 how many sizes, variables and values of the log are lent; the length of its sizes and of its pairs in bytes; how many sizes are shown
-// 114 the name; the stored values, zeros past the end, of a build its start values; the log's sizes, zeros past the end; its pairs, each with place,
+// 94  how many results are shown, of a build how many reader starts and how many reader places, and how many of each other row
+// 98  moves kept, route, and the record's number of blanks
+// 110 how many sizes, variables and values of the log are lent; the length of its sizes and of its pairs in bytes; how many sizes are shown
+// 122 the name; the stored values, zeros past the end, of a build its start values; the log's sizes, zeros past the end; its pairs, each with place,
 //     variable and value, the value of four bytes
 use crate::batches::count_case;
 use crate::kept::change_case;
@@ -39,20 +39,20 @@ pub fn count(case: &[u8], at: usize) -> usize {
 
 // The name of the case.
 pub fn name(case: &[u8]) -> &[u8] {
-    part(case, 114, count(case, 2))
+    part(case, 122, count(case, 2))
 }
 
 // The bytes of the stored values.
 pub fn values_of(case: &[u8]) -> &[u8] {
-    part(case, after(114, count(case, 2)), count(case, 4))
+    part(case, after(122, count(case, 2)), count(case, 4))
 }
 
 // The record before the call.
 pub fn record(case: &[u8]) -> Session {
     Session {
-        kept: word(case, 90),
+        kept: word(case, 98),
         evaluations: 9,
-        blanks: word(case, 98),
+        blanks: word(case, 106),
     }
 }
 
@@ -68,7 +68,7 @@ fn try_filling(
     trial: &mut [i32],
     flags: &mut [u8],
 ) {
-    let route = word(case, 94);
+    let route = word(case, 102);
     let done = try_planned(
         record(case),
         count(case, 8),
@@ -78,6 +78,8 @@ fn try_filling(
         pool,
         row_signed32(values, plan, 24),
         row_signed16(coefs, plan, 22),
+        row_signed32(values, plan, 28),
+        row_signed32(values, plan, 30),
         stored,
         count(case, 14),
         row16(pool, plan, 18),
@@ -90,9 +92,9 @@ fn try_filling(
         flags,
     );
     print::tried(name(case), route, done);
-    print::values(b"; results", count(case, 86), results);
-    print::values(b"; trial", count(case, 88), trial);
-    print::flags(count(case, 88), flags);
+    print::values(b"; results", count(case, 94), results);
+    print::values(b"; trial", count(case, 96), trial);
+    print::flags(count(case, 96), flags);
 }
 
 // Tries the move of a case.
@@ -102,10 +104,10 @@ fn try_case(case: &[u8], plan: &[u16], pool: &[u16], coefs: &[i16], values: &[i3
     let mut trial = [77i32; 4097];
     let mut flags = [7u8; 4097];
     fill_signed32(&mut stored, values_of(case));
-    let s = least(count(case, 74), 4097);
-    let r = least(count(case, 76), 33);
-    let t = least(count(case, 78), 4097);
-    let f = least(count(case, 80), 4097);
+    let s = least(count(case, 82), 4097);
+    let r = least(count(case, 84), 33);
+    let t = least(count(case, 86), 4097);
+    let f = least(count(case, 88), 4097);
     try_filling(
         case,
         plan,
@@ -131,12 +133,12 @@ fn print_built(
     log_sizes: &[u16],
 ) {
     print::built(name(case), done);
-    numbers(b"; numbers", count(case, 88), row);
-    numbers(b"; order", count(case, 88), order);
-    print::values(b"; stored", count(case, 88), stored);
-    numbers(b"; reader starts", count(case, 86), reader_starts);
-    numbers(b"; reader places", count(case, 86), reader_places);
-    numbers(b"; log", count(case, 112), log_sizes);
+    numbers(b"; numbers", count(case, 96), row);
+    numbers(b"; order", count(case, 96), order);
+    print::values(b"; stored", count(case, 96), stored);
+    numbers(b"; reader starts", count(case, 94), reader_starts);
+    numbers(b"; reader places", count(case, 94), reader_places);
+    numbers(b"; log", count(case, 120), log_sizes);
 }
 
 // Builds the model of a case with the rows to fill that are lent, and prints what comes back and what is left.
@@ -163,6 +165,8 @@ fn build_filling(
         pool,
         row_signed32(values, plan, 24),
         row_signed16(coefs, plan, 22),
+        row_signed32(values, plan, 28),
+        row_signed32(values, plan, 30),
         starts,
         numbers,
         order,
@@ -193,13 +197,13 @@ fn build_case(case: &[u8], plan: &[u16], pool: &[u16], coefs: &[i16], values: &[
     let mut reader_places = [77u16; 16385];
     let mut log_sizes = [77u16; 66];
     fill_signed32(&mut starts, values_of(case));
-    let s = least(count(case, 74), 4097);
-    let n = least(count(case, 76), 4097);
-    let o = least(count(case, 78), 4097);
-    let t = least(count(case, 80), 4097);
-    let r = least(count(case, 82), 4098);
-    let p = least(count(case, 84), 16385);
-    let l = least(count(case, 102), 66);
+    let s = least(count(case, 82), 4097);
+    let n = least(count(case, 84), 4097);
+    let o = least(count(case, 86), 4097);
+    let t = least(count(case, 88), 4097);
+    let r = least(count(case, 90), 4098);
+    let p = least(count(case, 92), 16385);
+    let l = least(count(case, 110), 66);
     build_filling(
         case,
         plan,
@@ -218,8 +222,8 @@ fn build_case(case: &[u8], plan: &[u16], pool: &[u16], coefs: &[i16], values: &[
 
 // Makes the call of a case, and prints its line.
 pub fn make(case: &[u8], pool: &[u16], coefs: &[i16], values: &[i32]) {
-    let mut plan = [0u16; 28];
-    fill16(&mut plan, part(case, 18, 56));
+    let mut plan = [0u16; 32];
+    fill16(&mut plan, part(case, 18, 64));
     let which = half(case, 6);
     if which == 1 {
         try_case(case, &plan, pool, coefs, values);

@@ -24,8 +24,8 @@ use pools::rows::row16;
 fn sizes_of(case: &[u8]) -> &[u8] {
     part(
         case,
-        after(after(114, count(case, 2)), count(case, 4)),
-        count(case, 108),
+        after(after(122, count(case, 2)), count(case, 4)),
+        count(case, 116),
     )
 }
 
@@ -34,10 +34,10 @@ fn pairs_of(case: &[u8]) -> &[u8] {
     part(
         case,
         after(
-            after(after(114, count(case, 2)), count(case, 4)),
-            count(case, 108),
+            after(after(122, count(case, 2)), count(case, 4)),
+            count(case, 116),
         ),
-        count(case, 114),
+        count(case, 118),
     )
 }
 
@@ -61,9 +61,9 @@ fn print_left(
     log_vars: &[u16],
     log_values: &[i32],
 ) {
-    print::values(b"; stored", count(case, 88), stored);
-    print::flags(count(case, 88), flags);
-    numbers(b"; log", count(case, 112), log_sizes);
+    print::values(b"; stored", count(case, 96), stored);
+    print::flags(count(case, 96), flags);
+    numbers(b"; log", count(case, 120), log_sizes);
     print::pairs(log_vars, log_values);
 }
 
@@ -89,6 +89,8 @@ fn keep_case(
         pool,
         row_signed32(values, plan, 24),
         row_signed16(coefs, plan, 22),
+        row_signed32(values, plan, 28),
+        row_signed32(values, plan, 30),
         stored,
         count(case, 14),
         row16(pool, plan, 18),
@@ -124,6 +126,8 @@ fn take_case(
         pool,
         row_signed32(values, plan, 24),
         row_signed16(coefs, plan, 22),
+        row_signed32(values, plan, 28),
+        row_signed32(values, plan, 30),
         stored,
         flags,
         log_sizes,
@@ -185,11 +189,11 @@ pub fn change_case(case: &[u8], plan: &[u16], pool: &[u16], coefs: &[i16], value
     fill_signed32(&mut stored, values_of(case));
     fill16(&mut log_sizes, sizes_of(case));
     put_pairs(pairs_of(case), &mut log_vars, &mut log_values);
-    let s = least(count(case, 74), 4097);
-    let f = least(count(case, 80), 4097);
-    let a = least(count(case, 102), 66);
-    let b = least(count(case, 104), 4097);
-    let c = least(count(case, 106), 4097);
+    let s = least(count(case, 82), 4097);
+    let f = least(count(case, 88), 4097);
+    let a = least(count(case, 110), 66);
+    let b = least(count(case, 112), 4097);
+    let c = least(count(case, 114), 4097);
     change_filling(
         case,
         plan,

@@ -36,7 +36,7 @@ all-low n (suc k) [] h low = absurd (omega arith)
 all-low n (suc k) (x ∷ l) h low = ap₂ _&&_ (lt-ltb x n (low 0 (omega arith))) (all-low n k l (omega arith) (λ i m. low (suc i) (omega arith)))
 
 -- what is known of the model and the move, and flags that are lent
-keeping : (w : Model) (c : Kept) → ModelKnown w → MoveKnown (w .tables) (c .move) → w .tables .n ≤ length (c .flags) → Keeping (w .tables) (w .order) (w .index) (w .stored) c
+keeping : (w : Model) (c : Kept) → ModelKnown w → MoveKnown (w .tables) (w .bounds) (c .move) → w .tables .n ≤ length (c .flags) → Keeping (w .tables) (w .order) (w .index) (w .stored) c
 keeping w c k v h = let (starts, places) = index-long (w .tables) (w .index) (k .index-fits) in record {
   along = record { sound = k .sound; chains = k .chains; long = k .order-long; order-is = k .order-is };
   indexed = indexed-known (w .tables) (laid-of (w .tables) (k .sound)) (w .index .starts) (w .index .places) starts places (k .index-is);

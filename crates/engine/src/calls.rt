@@ -1,6 +1,7 @@
 // The calls over a lent session record, and for callers that hold none.
 ghost use mathlib.Core.Path.{_≡_};
 ghost use lib.ListN.{replicate};
+ghost use Rattle.paper.specs.Checks.{lowest, highest};
 ghost use Rattle.paper.specs.Log.{logIn};
 ghost use Rattle.paper.specs.Calls.{build as built, trial as tried, keep as kept, takeBack};
 ghost use Rattle.judges.specs.Lent.{noRecord, toBuild, toModel, toTry, toKeep};
@@ -12,6 +13,8 @@ use crate::counters::set_counts;
 use crate::keeping::keep_core;
 use crate::taking::take_back_core;
 use crate::trying::trial_core;
+use bounds::HIGHEST;
+use bounds::LOWEST;
 use tables::Answer;
 
 // Build: numbers, order, values and index of readers of a model whose tables and start values are lent.
@@ -27,6 +30,8 @@ pub fn build(
     counts: &[u16],
     vars: &[u16],
     coefs: &[i16],
+    lows: &[i32],
+    highs: &[i32],
     starts: &[i32],
     numbers: &mut [u16],
     order: &mut [u16],
@@ -35,7 +40,7 @@ pub fn build(
     reader_places: &mut [u16],
     log_sizes: &mut [u16],
 ) -> Answer
-    ensures { λ r. ⌜ leftByBuild (record { answer = r; session = now (session .exit) }) (now (numbers .exit)) (now (order .exit)) (now (stored .exit)) (now («reader_starts» .exit)) (now («reader_places» .exit)) (now («log_sizes» .exit)) ≡ built (toBuild (recordIn (now (session .entry))) n m e (now (kinds .entry)) (now (makes .entry)) (now (params .entry)) (now (firsts .entry)) (now (counts .entry)) (now (vars .entry)) (now (coefs .entry)) (now (starts .entry)) (now (numbers .entry)) (now (order .entry)) (now (stored .entry)) (now («reader_starts» .entry)) (now («reader_places» .entry)) (now («log_sizes» .entry))) ⌝ }
+    ensures { λ r. ⌜ leftByBuild (record { answer = r; session = now (session .exit) }) (now (numbers .exit)) (now (order .exit)) (now (stored .exit)) (now («reader_starts» .exit)) (now («reader_places» .exit)) (now («log_sizes» .exit)) ≡ built (toBuild (recordIn (now (session .entry))) n m e (now (kinds .entry)) (now (makes .entry)) (now (params .entry)) (now (firsts .entry)) (now (counts .entry)) (now (vars .entry)) (now (coefs .entry)) (now (lows .entry)) (now (highs .entry)) (now (starts .entry)) (now (numbers .entry)) (now (order .entry)) (now (stored .entry)) (now («reader_starts» .entry)) (now («reader_places» .entry)) (now («log_sizes» .entry))) ⌝ }
 {
     let done = build_core(
         *session,
@@ -49,6 +54,8 @@ pub fn build(
         counts,
         vars,
         coefs,
+        lows,
+        highs,
         starts,
         numbers,
         order,
@@ -66,7 +73,7 @@ pub fn build(
     done.answer
 }
 
-// Build over a record and a log of its own, for callers that keep no move.
+// Build over a record, full bounds and a log of its own, for callers that keep no move.
 pub fn build_new(
     n: usize,
     m: usize,
@@ -85,8 +92,10 @@ pub fn build_new(
     reader_starts: &mut [u16],
     reader_places: &mut [u16],
 ) -> Done
-    ensures { λ r. ⌜ leftByBuild r (now (numbers .exit)) (now (order .exit)) (now (stored .exit)) (now («reader_starts» .exit)) (now («reader_places» .exit)) (replicate 65 0) ≡ built (toBuild noRecord n m e (now (kinds .entry)) (now (makes .entry)) (now (params .entry)) (now (firsts .entry)) (now (counts .entry)) (now (vars .entry)) (now (coefs .entry)) (now (starts .entry)) (now (numbers .entry)) (now (order .entry)) (now (stored .entry)) (now («reader_starts» .entry)) (now («reader_places» .entry)) (replicate 65 0)) ⌝ }
+    ensures { λ r. ⌜ leftByBuild r (now (numbers .exit)) (now (order .exit)) (now (stored .exit)) (now («reader_starts» .exit)) (now («reader_places» .exit)) (replicate 65 0) ≡ built (toBuild noRecord n m e (now (kinds .entry)) (now (makes .entry)) (now (params .entry)) (now (firsts .entry)) (now (counts .entry)) (now (vars .entry)) (now (coefs .entry)) (replicate 4096 lowest) (replicate 4096 highest) (now (starts .entry)) (now (numbers .entry)) (now (order .entry)) (now (stored .entry)) (now («reader_starts» .entry)) (now («reader_places» .entry)) (replicate 65 0)) ⌝ }
 {
+    let lows = [LOWEST; 4096];
+    let highs = [HIGHEST; 4096];
     let mut log_sizes = [0u16; 65];
     build_core(
         Session {
@@ -104,6 +113,8 @@ pub fn build_new(
         counts,
         vars,
         coefs,
+        &lows,
+        &highs,
         starts,
         numbers,
         order,
@@ -127,6 +138,8 @@ pub fn trial(
     counts: &[u16],
     vars: &[u16],
     coefs: &[i16],
+    lows: &[i32],
+    highs: &[i32],
     numbers: &[u16],
     order: &[u16],
     stored: &[i32],
@@ -142,7 +155,7 @@ pub fn trial(
     trial: &mut [i32],
     flags: &mut [u8],
 ) -> Answer
-    ensures { λ r. ⌜ leftByTrial (record { answer = r; session = now (session .exit) }) (now (results .exit)) (now (trial .exit)) (now (flags .exit)) ≡ tried (recordIn (now (session .entry))) (toModel n m e (now (kinds .entry)) (now (makes .entry)) (now (params .entry)) (now (firsts .entry)) (now (counts .entry)) (now (vars .entry)) (now (coefs .entry)) (now (numbers .entry)) (now (order .entry)) (now (stored .entry)) (now («reader_starts» .entry)) (now («reader_places» .entry))) (toTry pairs (now («move_vars» .entry)) (now («move_values» .entry)) asked (now («asked_vars» .entry)) route (now (results .entry)) (now (trial .entry)) (now (flags .entry))) ⌝ }
+    ensures { λ r. ⌜ leftByTrial (record { answer = r; session = now (session .exit) }) (now (results .exit)) (now (trial .exit)) (now (flags .exit)) ≡ tried (recordIn (now (session .entry))) (toModel n m e (now (kinds .entry)) (now (makes .entry)) (now (params .entry)) (now (firsts .entry)) (now (counts .entry)) (now (vars .entry)) (now (coefs .entry)) (now (lows .entry)) (now (highs .entry)) (now (numbers .entry)) (now (order .entry)) (now (stored .entry)) (now («reader_starts» .entry)) (now («reader_places» .entry))) (toTry pairs (now («move_vars» .entry)) (now («move_values» .entry)) asked (now («asked_vars» .entry)) route (now (results .entry)) (now (trial .entry)) (now (flags .entry))) ⌝ }
 {
     let done = trial_core(
         *session,
@@ -156,6 +169,8 @@ pub fn trial(
         counts,
         vars,
         coefs,
+        lows,
+        highs,
         numbers,
         order,
         stored,
@@ -193,6 +208,8 @@ pub fn keep(
     counts: &[u16],
     vars: &[u16],
     coefs: &[i16],
+    lows: &[i32],
+    highs: &[i32],
     numbers: &[u16],
     order: &[u16],
     stored: &mut [i32],
@@ -206,7 +223,7 @@ pub fn keep(
     log_vars: &mut [u16],
     log_values: &mut [i32],
 ) -> Answer
-    ensures { λ r. ⌜ leftByKeep (record { answer = r; session = now (session .exit) }) (now (stored .exit)) (now (flags .exit)) (now («log_sizes» .exit)) (now («log_vars» .exit)) (now («log_values» .exit)) ≡ kept (recordIn (now (session .entry))) (logIn (now («log_sizes» .entry)) (now («log_vars» .entry)) (now («log_values» .entry))) (toModel n m e (now (kinds .entry)) (now (makes .entry)) (now (params .entry)) (now (firsts .entry)) (now (counts .entry)) (now (vars .entry)) (now (coefs .entry)) (now (numbers .entry)) (now (order .entry)) (now (stored .entry)) (now («reader_starts» .entry)) (now («reader_places» .entry))) (toKeep pairs (now («move_vars» .entry)) (now («move_values» .entry)) (now (flags .entry))) ⌝ }
+    ensures { λ r. ⌜ leftByKeep (record { answer = r; session = now (session .exit) }) (now (stored .exit)) (now (flags .exit)) (now («log_sizes» .exit)) (now («log_vars» .exit)) (now («log_values» .exit)) ≡ kept (recordIn (now (session .entry))) (logIn (now («log_sizes» .entry)) (now («log_vars» .entry)) (now («log_values» .entry))) (toModel n m e (now (kinds .entry)) (now (makes .entry)) (now (params .entry)) (now (firsts .entry)) (now (counts .entry)) (now (vars .entry)) (now (coefs .entry)) (now (lows .entry)) (now (highs .entry)) (now (numbers .entry)) (now (order .entry)) (now (stored .entry)) (now («reader_starts» .entry)) (now («reader_places» .entry))) (toKeep pairs (now («move_vars» .entry)) (now («move_values» .entry)) (now (flags .entry))) ⌝ }
 {
     let done = keep_core(
         *session,
@@ -220,6 +237,8 @@ pub fn keep(
         counts,
         vars,
         coefs,
+        lows,
+        highs,
         numbers,
         order,
         stored,
@@ -255,6 +274,8 @@ pub fn take_back(
     counts: &[u16],
     vars: &[u16],
     coefs: &[i16],
+    lows: &[i32],
+    highs: &[i32],
     numbers: &[u16],
     order: &[u16],
     stored: &mut [i32],
@@ -265,7 +286,7 @@ pub fn take_back(
     log_vars: &[u16],
     log_values: &[i32],
 ) -> Answer
-    ensures { λ r. ⌜ leftByKeep (record { answer = r; session = now (session .exit) }) (now (stored .exit)) (now (flags .exit)) (now («log_sizes» .exit)) (now («log_vars» .entry)) (now («log_values» .entry)) ≡ takeBack (recordIn (now (session .entry))) (logIn (now («log_sizes» .entry)) (now («log_vars» .entry)) (now («log_values» .entry))) (toModel n m e (now (kinds .entry)) (now (makes .entry)) (now (params .entry)) (now (firsts .entry)) (now (counts .entry)) (now (vars .entry)) (now (coefs .entry)) (now (numbers .entry)) (now (order .entry)) (now (stored .entry)) (now («reader_starts» .entry)) (now («reader_places» .entry))) (now (flags .entry)) ⌝ }
+    ensures { λ r. ⌜ leftByKeep (record { answer = r; session = now (session .exit) }) (now (stored .exit)) (now (flags .exit)) (now («log_sizes» .exit)) (now («log_vars» .entry)) (now («log_values» .entry)) ≡ takeBack (recordIn (now (session .entry))) (logIn (now («log_sizes» .entry)) (now («log_vars» .entry)) (now («log_values» .entry))) (toModel n m e (now (kinds .entry)) (now (makes .entry)) (now (params .entry)) (now (firsts .entry)) (now (counts .entry)) (now (vars .entry)) (now (coefs .entry)) (now (lows .entry)) (now (highs .entry)) (now (numbers .entry)) (now (order .entry)) (now (stored .entry)) (now («reader_starts» .entry)) (now («reader_places» .entry))) (now (flags .entry)) ⌝ }
 {
     let done = take_back_core(
         *session,
@@ -279,6 +300,8 @@ pub fn take_back(
         counts,
         vars,
         coefs,
+        lows,
+        highs,
         numbers,
         order,
         stored,

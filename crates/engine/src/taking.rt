@@ -28,6 +28,8 @@ pub fn take_back_core(
     counts: &[u16],
     vars: &[u16],
     coefs: &[i16],
+    lows: &[i32],
+    highs: &[i32],
     numbers: &[u16],
     order: &[u16],
     stored: &mut [i32],
@@ -38,7 +40,7 @@ pub fn take_back_core(
     log_vars: &[u16],
     log_values: &[i32],
 ) -> Done
-    ensures { λ r. ⌜ leftByKeep r (now (stored .exit)) (now (flags .exit)) (now («log_sizes» .exit)) (now («log_vars» .entry)) (now («log_values» .entry)) ≡ takeBack (recordIn session) (logIn (now («log_sizes» .entry)) (now («log_vars» .entry)) (now («log_values» .entry))) (toModel n m e (now (kinds .entry)) (now (makes .entry)) (now (params .entry)) (now (firsts .entry)) (now (counts .entry)) (now (vars .entry)) (now (coefs .entry)) (now (numbers .entry)) (now (order .entry)) (now (stored .entry)) (now («reader_starts» .entry)) (now («reader_places» .entry))) (now (flags .entry)) ⌝ }
+    ensures { λ r. ⌜ leftByKeep r (now (stored .exit)) (now (flags .exit)) (now («log_sizes» .exit)) (now («log_vars» .entry)) (now («log_values» .entry)) ≡ takeBack (recordIn session) (logIn (now («log_sizes» .entry)) (now («log_vars» .entry)) (now («log_values» .entry))) (toModel n m e (now (kinds .entry)) (now (makes .entry)) (now (params .entry)) (now (firsts .entry)) (now (counts .entry)) (now (vars .entry)) (now (coefs .entry)) (now (lows .entry)) (now (highs .entry)) (now (numbers .entry)) (now (order .entry)) (now (stored .entry)) (now («reader_starts» .entry)) (now («reader_places» .entry))) (now (flags .entry)) ⌝ }
 {
     let judged = judge_take_back(
         session.kept,
@@ -53,6 +55,8 @@ pub fn take_back_core(
         counts,
         vars,
         coefs,
+        lows,
+        highs,
         numbers,
         order,
         stored,

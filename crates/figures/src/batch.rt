@@ -93,6 +93,8 @@ fn try_all(
     counts: &[u16],
     vars: &[u16],
     coefs: &[i16],
+    lows: &[i32],
+    highs: &[i32],
     numbers: &[u16],
     order: &[u16],
     stored: &[i32],
@@ -106,7 +108,7 @@ fn try_all(
     by_number: &mut [u32],
 ) -> Totals
     requires { ⌜ (moves ≤ 1000) × (moves ≤ length (now «move_pairs»)) × (20 ≤ length (now «by_number»)) ⌝ }
-    ensures { λ r. ⌜ (r ≡ totals (outcomes (recordIn session) (toModel n m e (now (kinds .entry)) (now (makes .entry)) (now (params .entry)) (now (firsts .entry)) (now (counts .entry)) (now (vars .entry)) (now (coefs .entry)) (now (numbers .entry)) (now (order .entry)) (now (stored .entry)) (now («reader_starts» .entry)) (now («reader_places» .entry))) asked (batchOf moves (now («move_pairs» .entry)) (now («move_vars» .entry)) (now («move_values» .entry))))) × (now («by_number» .exit) ≡ tallies (outcomes (recordIn session) (toModel n m e (now (kinds .entry)) (now (makes .entry)) (now (params .entry)) (now (firsts .entry)) (now (counts .entry)) (now (vars .entry)) (now (coefs .entry)) (now (numbers .entry)) (now (order .entry)) (now (stored .entry)) (now («reader_starts» .entry)) (now («reader_places» .entry))) asked (batchOf moves (now («move_pairs» .entry)) (now («move_vars» .entry)) (now («move_values» .entry)))) (now («by_number» .entry))) ⌝ }
+    ensures { λ r. ⌜ (r ≡ totals (outcomes (recordIn session) (toModel n m e (now (kinds .entry)) (now (makes .entry)) (now (params .entry)) (now (firsts .entry)) (now (counts .entry)) (now (vars .entry)) (now (coefs .entry)) (now (lows .entry)) (now (highs .entry)) (now (numbers .entry)) (now (order .entry)) (now (stored .entry)) (now («reader_starts» .entry)) (now («reader_places» .entry))) asked (batchOf moves (now («move_pairs» .entry)) (now («move_vars» .entry)) (now («move_values» .entry))))) × (now («by_number» .exit) ≡ tallies (outcomes (recordIn session) (toModel n m e (now (kinds .entry)) (now (makes .entry)) (now (params .entry)) (now (firsts .entry)) (now (counts .entry)) (now (vars .entry)) (now (coefs .entry)) (now (lows .entry)) (now (highs .entry)) (now (numbers .entry)) (now (order .entry)) (now (stored .entry)) (now («reader_starts» .entry)) (now («reader_places» .entry))) asked (batchOf moves (now («move_pairs» .entry)) (now («move_vars» .entry)) (now («move_values» .entry)))) (now («by_number» .entry))) ⌝ }
 {
     let mut totals = none();
     let mut at: usize = 0;
@@ -125,6 +127,8 @@ fn try_all(
             counts,
             vars,
             coefs,
+            lows,
+            highs,
             numbers,
             order,
             stored,
@@ -156,6 +160,8 @@ pub fn figures(
     counts: &[u16],
     vars: &[u16],
     coefs: &[i16],
+    lows: &[i32],
+    highs: &[i32],
     numbers: &[u16],
     order: &[u16],
     stored: &[i32],
@@ -168,7 +174,7 @@ pub fn figures(
     asked: u16,
     by_number: &mut [u32],
 ) -> Counted
-    ensures { λ r. ⌜ (r, now («by_number» .exit)) ≡ counted (recordIn session) (toModel n m e (now (kinds .entry)) (now (makes .entry)) (now (params .entry)) (now (firsts .entry)) (now (counts .entry)) (now (vars .entry)) (now (coefs .entry)) (now (numbers .entry)) (now (order .entry)) (now (stored .entry)) (now («reader_starts» .entry)) (now («reader_places» .entry))) asked (batchOf moves (now («move_pairs» .entry)) (now («move_vars» .entry)) (now («move_values» .entry))) (now («by_number» .entry)) ⌝ }
+    ensures { λ r. ⌜ (r, now («by_number» .exit)) ≡ counted (recordIn session) (toModel n m e (now (kinds .entry)) (now (makes .entry)) (now (params .entry)) (now (firsts .entry)) (now (counts .entry)) (now (vars .entry)) (now (coefs .entry)) (now (lows .entry)) (now (highs .entry)) (now (numbers .entry)) (now (order .entry)) (now (stored .entry)) (now («reader_starts» .entry)) (now («reader_places» .entry))) asked (batchOf moves (now («move_pairs» .entry)) (now («move_vars» .entry)) (now («move_values» .entry))) (now («by_number» .entry)) ⌝ }
 {
     let fits = (moves <= 1000) & (moves <= move_pairs.len()) & (20 <= by_number.len());
     if !fits {
@@ -189,6 +195,8 @@ pub fn figures(
         counts,
         vars,
         coefs,
+        lows,
+        highs,
         numbers,
         order,
         stored,

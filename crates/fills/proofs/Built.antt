@@ -13,21 +13,13 @@ use Rattle.paper.specs.Checks.{accepted}
 use Rattle.paper.specs.Calls.{BuildLent, buildLeaves}
 use Rattle.paper.proofs.Buffers.{below-list, over-length, over-front, over-over}
 use Rattle.paper.proofs.Order.{order-length}
-use Rattle.paper.proofs.Known.{BuildKnown, build-known}
 use Rattle.order.proofs.Bare.{bareOf, number-bare, order-bare}
 use Rattle.routes.specs.Rows.{Along}
 use Rattle.fills.specs.Accepted.{Buildable}
-use Rattle.judges.proofs.Judging.{Fitting, fitting}
 
 module _ (l : BuildLent) (state : List ℕ) (b : Buildable l state) where
   abbrev t : Tables
   t = l .tables
-
-  pub known : BuildKnown l
-  known = build-known l (b .verdict)
-
-  pub room : Fitting l
-  room = fitting l (known .fits)
 
   pub numbers-left : (now : List ℕ) → now ≡ over (t .n) (number (net (bareOf t)) (t .n)) (l .numbers) → now ≡ buildLeaves l accepted .numbers
   numbers-left now e = e ∙ ap (λ f. over (t .n) f (l .numbers)) (number-bare t)
@@ -39,14 +31,14 @@ module _ (l : BuildLent) (state : List ℕ) (b : Buildable l state) where
   along now e =
       let is = order-left now e in let size = order-length t in
       record {
-        sound = known .sound;
-        chains = known .chains;
+        sound = b .sound;
+        chains = b .chains;
         long = let c = ap length is ∙ length-append (order t) (drop (t .m) (l .order)) in omega arith;
         order-is = ap (take (t .m)) is ∙ take-at (order t) (drop (t .m) (l .order)) (t .m) size;
       }
 
   pub stored-long : (mid : List ℤ) → mid ≡ over (t .n) (λ v. getD (l .starts) v (pos 0)) (l .stored) → t .n ≤ length mid
-  stored-long mid copied = let same = ap length copied ∙ over-length (λ v. getD (l .starts) v (pos 0)) (t .n) (l .stored) (room .stored) in omega (arith, room .stored)
+  stored-long mid copied = let same = ap length copied ∙ over-length (λ v. getD (l .starts) v (pos 0)) (t .n) (l .stored) (b .in-stored) in omega (arith, b .in-stored)
 
   abbrev worth : List ℤ → ℕ → ℤ
   worth row = afresh (net t) (valuesIn t row) (t .n)
@@ -54,7 +46,7 @@ module _ (l : BuildLent) (state : List ℕ) (b : Buildable l state) where
   pub stored-left : (mid now : List ℤ) → mid ≡ over (t .n) (λ v. getD (l .starts) v (pos 0)) (l .stored) → now ≡ over (t .n) (worth mid) mid → now ≡ buildLeaves l accepted .stored
   stored-left mid now copied worked =
       let start : ℕ → ℤ = λ v. getD (l .starts) v (pos 0) in
-      let front : take (t .n) mid ≡ take (t .n) (l .starts) = ap (take (t .n)) copied ∙ over-front start (t .n) (l .stored) ∙ below-list (l .starts) (pos 0) (t .n) (room .starts) in
+      let front : take (t .n) mid ≡ take (t .n) (l .starts) = ap (take (t .n)) copied ∙ over-front start (t .n) (l .stored) ∙ below-list (l .starts) (pos 0) (t .n) (b .in-starts) in
       worked
       ∙ ap (over (t .n) (worth mid)) copied
       ∙ over-over (worth mid) (t .n) (l .stored) start

@@ -1,6 +1,6 @@
 -- What an accepted call works over, and what stands in the rows of a trial or keep once it has written. The lent numbers play no part in either
 -- of these two. Assumes nothing.
-use Prim.Native.Nat.{ℕ, _≤_, _<_}
+use Prim.Native.Nat.{ℕ, suc, _≤_, _<_}
 use mathlib.Core.Bool.{true, false}
 use mathlib.Core.List.{List, []}
 use mathlib.Core.Path.{_≡_}
@@ -8,18 +8,27 @@ use lib.Dec.{ltb}
 use lib.IntN.{ℤ}
 use lib.ListN.{length}
 use Rattle.paper.specs.Lists.{all, nat}
-use Rattle.paper.specs.Tables.{Tables, Index, indexIn, isMade}
-use Rattle.paper.specs.Checks.{accepted}
-use Rattle.paper.specs.Calls.{evaluationsOf, BuildLent, buildVerdict, Tried, TrialLeft, askedList, trialLeaves, Kept, keptCount, keptStored, keptFlags}
+use Rattle.paper.specs.Net.{able}
+use Rattle.paper.specs.Tables.{Tables, Index, indexIn, isMade, inputsOf}
+use Rattle.paper.specs.Checks.{accepted, boundsIn, Sound}
+use Rattle.paper.specs.Calls.{evaluationsOf, BuildLent, Tried, TrialLeft, askedList, trialLeaves, Kept, keptCount, keptStored, keptFlags}
 use Rattle.copies.specs.Put.{PairsFit}
 use Rattle.order.specs.Formed.{bare}
 use Rattle.order.specs.Numbering.{Numbered}
 use Rattle.readers.specs.Index.{Indexed}
 use Rattle.routes.specs.Rows.{Along}
 
--- a build that is accepted, and the numbers found
+-- a build that is accepted: sound tables whose chains end, the rows to fill as long as they must be, and the numbers found; the bounds play no part
 pub record Buildable (l : BuildLent) (state : List ℕ) : Type 0 where
-  pub verdict : buildVerdict l ≡ accepted
+  pub sound : Sound (l .tables)
+  pub chains : (v : ℕ) → able (inputsOf (l .tables)) (l .tables .n) v ≡ true
+  pub in-starts : l .tables .n ≤ length (l .starts)
+  pub in-numbers : l .tables .n ≤ length (l .numbers)
+  pub in-order : l .tables .m ≤ length (l .order)
+  pub in-stored : l .tables .n ≤ length (l .stored)
+  pub index-starts : suc (l .tables .n) ≤ length (l .index .starts)
+  pub index-places : l .tables .e ≤ length (l .index .places)
+  pub in-log : 65 ≤ length (l .logSizes)
   pub numbered : let t = l .tables in Numbered (bare (t .n) (t .m) (t .makes) (t .firsts) (t .counts) (t .vars)) state
 
 module _ (t : Tables) (ord : List ℕ) (x : Index) (stored : List ℤ) where
@@ -43,7 +52,7 @@ module _ (t : Tables) (ord : List ℕ) (x : Index) (stored : List ℤ) where
 module _ (t : Tables) (stored : List ℤ) where
   -- what an accepted trial leaves
   abbrev pub trialLeft : Tried → TrialLeft
-  trialLeft c = trialLeaves (record { tables = t; numbers = []; order = []; stored = stored; index = indexIn [] [] }) c (record { kept = 0; evaluations = 0; blanks = 0 }) accepted
+  trialLeft c = trialLeaves (record { tables = t; bounds = boundsIn [] []; numbers = []; order = []; stored = stored; index = indexIn [] [] }) c (record { kept = 0; evaluations = 0; blanks = 0 }) accepted
 
   -- the count and the rows are what it leaves
   pub record TrialFilled (c : Tried) (count : ℕ) (results trial : List ℤ) (flags : List ℕ) : Type 0 where

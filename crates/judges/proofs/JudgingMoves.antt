@@ -10,19 +10,19 @@ use borrow.Author.Tests.{leb-true}
 use Rattle.paper.proofs.Lists.{and-left, and-right, each}
 use Rattle.paper.specs.Lists.{nat, between}
 use Rattle.paper.specs.Tables.{Tables}
-use Rattle.paper.specs.Checks.{Verdict, accepted, refused, check, require, sized, tableChecks, numbered, indexed, moveFits, moveChecks, Move, Sound}
+use Rattle.paper.specs.Checks.{Bounds, Verdict, accepted, refused, check, require, sized, tableChecks, numbered, indexed, moveFits, Move}
 use Rattle.paper.specs.Calls.{Model, Tried, modelFits, modelChecks}
 use Rattle.paper.proofs.Verdicts.{andThen, Chain, chain-after, require-then, refused-not, require-stops, require-next}
-use Rattle.paper.proofs.Accept.{tables-next, tables-then}
+use Rattle.paper.proofs.Accept.{tables-then}
 use Rattle.paper.proofs.Sizes.{Sized, sized-facts}
 use Rattle.tables.specs.Answers.{answerOf}
 use Rattle.tables.specs.Makers.{Makers}
 use Rattle.tables.specs.declared.Answer.{Answer}
 use Rattle.tables.specs.declared.Answer.the-variants.{Accepted, Refused}
 use Rattle.tables.proofs.Judged.{accepted-is, refused-is}
-use Rattle.moves.specs.Moves.{OfMakers, storedChecks}
-use Rattle.moves.proofs.Judged.{stored-then, move-then}
-use Rattle.judges.proofs.Lengths.{index-long}
+use Rattle.moves.specs.Moves.{OfMakers, storedChecks, pairChecks}
+use Rattle.moves.proofs.Judged.{stored-then, pair-then}
+use Rattle.judges.proofs.Lengths.{index-long, bounds-long}
 use Rattle.judges.specs.Judged.{ModelJudged, askChecks}
 
 -- ── an answer, and the checks that come next ──
@@ -50,7 +50,7 @@ module _ (w : Model) (blanks : ℕ) where
   eightToo = indexed t (w .index)
 
   abbrev fromEight : Verdict → Verdict
-  fromEight next = require 8 0 eight (require 8 0 eightToo (storedChecks blanks (w .stored) t next))
+  fromEight next = require 8 0 eight (require 8 0 eightToo (storedChecks blanks (w .bounds) (w .stored) t next))
 
   -- the buffers, as check 1 leaves them
   pub record ModelFitting : Type 0 where
@@ -60,6 +60,8 @@ module _ (w : Model) (blanks : ℕ) where
     pub stored : t .n ≤ length (w .stored)
     pub starts : suc (t .n) ≤ length (w .index .starts)
     pub places : t .e ≤ length (w .index .places)
+    pub lows : t .n ≤ length (w .bounds .lows)
+    pub highs : t .n ≤ length (w .bounds .highs)
 
   pub model-fitting : modelFits w ≡ true → ModelFitting
   model-fitting h =
@@ -71,31 +73,36 @@ module _ (w : Model) (blanks : ℕ) where
         stored = leb-true _ _ (long .1 .1 .0);
         starts = index-long t (w .index) (long .1 .1 .1 .0) .0;
         places = index-long t (w .index) (long .1 .1 .1 .0) .1;
+        lows = bounds-long t (w .bounds) (long .1 .1 .1 .1 .0) .0;
+        highs = bounds-long t (w .bounds) (long .1 .1 .1 .1 .0) .1;
       }
 
   pub model-refused : (by : List ℕ) (r : Answer) (number place : ℕ) → r ≡ Refused number place → modelChecks w blanks accepted ≡ refused number place → ModelJudged w blanks by r
   model-refused by r number place e h = record { verdict = e ∙ ap (answerOf 0) (sym h); makers = λ a. refused-not (sym h ∙ a) }
 
   -- 2 to 5
-  pub stops-tables : (number place : ℕ) → tableChecks t accepted ≡ refused number place → modelChecks w blanks accepted ≡ refused number place
-  stops-tables number place h = tables-then t (fromEight accepted) ∙ ap (λ v. andThen v (fromEight accepted)) h
+  pub stops-tables : (number place : ℕ) → tableChecks t (w .bounds) accepted ≡ refused number place → modelChecks w blanks accepted ≡ refused number place
+  stops-tables number place h = tables-then t (w .bounds) (fromEight accepted) ∙ ap (λ v. andThen v (fromEight accepted)) h
 
-  module _ (s : Sound t) where
+  module _ (passed : tableChecks t (w .bounds) accepted ≡ accepted) where
+    past-tables : modelChecks w blanks accepted ≡ fromEight accepted
+    past-tables = tables-then t (w .bounds) (fromEight accepted) ∙ ap (λ v. andThen v (fromEight accepted)) passed
+
     pub stops-8 : eight ≡ false → modelChecks w blanks accepted ≡ refused 8 0
-    stops-8 h = tables-next t s _ ∙ require-stops 8 0 eight _ h
+    stops-8 h = past-tables ∙ require-stops 8 0 eight _ h
 
     module _ (past₈ : eight ≡ true) where
       pub stops-index : eightToo ≡ false → modelChecks w blanks accepted ≡ refused 8 0
-      stops-index h = tables-next t s _ ∙ require-next 8 0 eight _ past₈ ∙ require-stops 8 0 eightToo _ h
+      stops-index h = past-tables ∙ require-next 8 0 eight _ past₈ ∙ require-stops 8 0 eightToo _ h
 
       module _ (indexed₈ : eightToo ≡ true) where
         -- 19 and 7 decide
-        pub from-stored : modelChecks w blanks accepted ≡ storedChecks blanks (w .stored) t accepted
-        from-stored = tables-next t s _ ∙ require-next 8 0 eight _ past₈ ∙ require-next 8 0 eightToo _ indexed₈
+        pub from-stored : modelChecks w blanks accepted ≡ storedChecks blanks (w .bounds) (w .stored) t accepted
+        from-stored = past-tables ∙ require-next 8 0 eight _ past₈ ∙ require-next 8 0 eightToo _ indexed₈
 
   model-then : Chain (modelChecks w blanks)
-  model-then = chain-after (tableChecks t) fromEight (tables-then t) (chain-after (require 8 0 eight) (λ next. require 8 0 eightToo (storedChecks blanks (w .stored) t next)) (require-then 8 0 eight)
-      (chain-after (require 8 0 eightToo) (storedChecks blanks (w .stored) t) (require-then 8 0 eightToo) (stored-then blanks (w .stored) t)))
+  model-then = chain-after (tableChecks t (w .bounds)) fromEight (tables-then t (w .bounds)) (chain-after (require 8 0 eight) (λ next. require 8 0 eightToo (storedChecks blanks (w .bounds) (w .stored) t next)) (require-then 8 0 eight)
+      (chain-after (require 8 0 eightToo) (storedChecks blanks (w .bounds) (w .stored) t) (require-then 8 0 eightToo) (stored-then blanks (w .bounds) (w .stored) t)))
 
   -- accepted: the row holds the makers
   module _ (by : List ℕ) (r : Answer) (judged : ModelJudged w blanks by r) (j : ℕ) (e : r ≡ Accepted j) where
@@ -127,12 +134,12 @@ module _ (w : Model) (blanks : ℕ) where
           h .of t refl (model-makers by r judged j e) ∙ ap (answerOf 0) (sym (after ∙ answer-next (modelChecks w blanks accepted) r (judged .verdict) (next t) j e))
 
 -- ── what is asked: checks 9 to 13 ──
-module _ (c : Tried) (t : Tables) where
+module _ (c : Tried) (bs : Bounds) (t : Tables) where
   abbrev pub fromThirteen : Verdict
   fromThirteen = check 13 (c .asked) (λ i. ltb (nat (c .askedVars) i) (t .n)) accepted
 
-  pub stops-9 : between 1 (c .route) 3 ≡ false → askChecks c t ≡ refused 9 0
+  pub stops-9 : between 1 (c .route) 3 ≡ false → askChecks c t bs ≡ refused 9 0
   stops-9 h = require-stops 9 0 (between 1 (c .route) 3) _ h
 
-  pub past-9 : between 1 (c .route) 3 ≡ true → askChecks c t ≡ andThen (moveChecks (c .move) t accepted) fromThirteen
-  past-9 h = require-next 9 0 (between 1 (c .route) 3) _ h ∙ move-then (c .move) t fromThirteen
+  pub past-9 : between 1 (c .route) 3 ≡ true → askChecks c t bs ≡ andThen (pairChecks (c .move) bs t accepted) fromThirteen
+  past-9 h = require-next 9 0 (between 1 (c .route) 3) _ h ∙ pair-then (c .move) bs t fromThirteen

@@ -8,7 +8,8 @@ use lib.ListN.{length}
 use borrow.Author.Tests.{leb-true}
 use Rattle.paper.specs.Lists.{every}
 use Rattle.paper.specs.Tables.{Tables, Index}
-use Rattle.paper.specs.Calls.{indexFits}
+use Rattle.paper.specs.Checks.{Bounds}
+use Rattle.paper.specs.Calls.{indexFits, boundsFit}
 use Rattle.paper.proofs.Lists.{and-left, and-right}
 use Rattle.tables.proofs.Tests.{joined, joined-every}
 
@@ -27,6 +28,10 @@ turned true true false bs = refl
 -- the test that is made first stands third in the paper's list
 pub third-first : (s a b c : Bool) (bs : List Bool) → joined s (c ∷ a ∷ b ∷ bs) ≡ (s && every (a ∷ b ∷ c ∷ bs))
 third-first s a b c bs = tests s (c ∷ a ∷ b ∷ bs) ∙ ap (s &&_) (turned a b c bs)
+
+-- the bounds, as check 1 leaves them
+pub bounds-long : (t : Tables) (bs : Bounds) → boundsFit t bs ≡ true → (t .n ≤ length (bs .lows)) × (t .n ≤ length (bs .highs))
+bounds-long t bs h = (leb-true _ _ (and-left _ _ h), leb-true _ _ (and-right (leb (t .n) (length (bs .lows))) _ h))
 
 -- the index, as check 1 leaves it
 pub index-long : (t : Tables) (x : Index) → indexFits t x ≡ true → (suc (t .n) ≤ length (x .starts)) × (t .e ≤ length (x .places))

@@ -5,9 +5,10 @@ use Prim.Native.Nat.{ℕ}
 use lib.Dec.{ltb}
 use Rattle.paper.specs.Lists.{nat, between}
 use Rattle.paper.specs.Tables.{Tables}
-use Rattle.paper.specs.Checks.{Verdict, accepted, check, require, moveChecks}
+use Rattle.paper.specs.Checks.{Verdict, accepted, check, require, Bounds}
 use Rattle.paper.specs.Log.{Log, logGood}
 use Rattle.paper.specs.Calls.{BuildLent, buildVerdict, Model, modelChecks, Tried}
+use Rattle.moves.specs.Moves.{pairChecks}
 use Rattle.tables.specs.Answers.{answerOf}
 use Rattle.tables.specs.Makers.{Makers}
 use Rattle.tables.specs.declared.Answer.{Answer}
@@ -24,10 +25,10 @@ pub record ModelJudged (w : Model) (blanks : ℕ) (by : List ℕ) (r : Answer) :
   pub verdict : r ≡ answerOf 0 (modelChecks w blanks accepted)
   pub makers : modelChecks w blanks accepted ≡ accepted → Makers (w .tables) by
 
--- checks 9 to 13 of a trial
-abbrev pub askChecks : Tried → Tables → Verdict
-askChecks c t = require 9 0 (between 1 (c .route) 3) (moveChecks (c .move) t (check 13 (c .asked) (λ i. ltb (nat (c .askedVars) i) (t .n)) accepted))
+-- checks 9 to 13 of a trial, 17 behind 12
+abbrev pub askChecks : Tried → Tables → Bounds → Verdict
+askChecks c t bs = require 9 0 (between 1 (c .route) 3) (pairChecks (c .move) bs t (check 13 (c .asked) (λ i. ltb (nat (c .askedVars) i) (t .n)) accepted))
 
 -- check 16 of a log
-abbrev pub logChecks : Log → Tables → ℕ → Verdict → Verdict
-logChecks l t kept = require 16 0 (logGood l t kept)
+abbrev pub logChecks : Log → Tables → Bounds → ℕ → Verdict → Verdict
+logChecks l t bs kept = require 16 0 (logGood l t bs kept)

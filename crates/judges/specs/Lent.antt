@@ -3,17 +3,19 @@ use Prim.Native.Nat.{ℕ}
 use mathlib.Core.List.{List}
 use lib.IntN.{ℤ}
 use Rattle.paper.specs.Tables.{lent, indexIn}
+use Rattle.paper.specs.Checks.{boundsIn}
 use Rattle.paper.specs.Calls.{Session, BuildLent, Model, Tried, Kept}
 
 -- a record that nobody holds
 abbrev pub noRecord : Session
 noRecord = record { kept = 0; evaluations = 0; blanks = 0 }
 
--- to build: the record, the tables, start values, the rows to fill, and the sizes of the log
-abbrev pub toBuild : Session → ℕ → ℕ → ℕ → List ℕ → List ℕ → List ℤ → List ℕ → List ℕ → List ℕ → List ℤ → List ℤ → List ℕ → List ℕ → List ℤ → List ℕ → List ℕ → List ℕ → BuildLent
-toBuild session n m e kinds makes params firsts counts vars coefs starts numbers order stored readerStarts readerPlaces logSizes = record {
+-- to build: the record, the tables, the bounds, start values, the rows to fill, and the sizes of the log
+abbrev pub toBuild : Session → ℕ → ℕ → ℕ → List ℕ → List ℕ → List ℤ → List ℕ → List ℕ → List ℕ → List ℤ → List ℤ → List ℤ → List ℤ → List ℕ → List ℕ → List ℤ → List ℕ → List ℕ → List ℕ → BuildLent
+toBuild session n m e kinds makes params firsts counts vars coefs lows highs starts numbers order stored readerStarts readerPlaces logSizes = record {
   session = session;
   tables = lent n m e kinds makes params firsts counts vars coefs;
+  bounds = boundsIn lows highs;
   starts = starts;
   numbers = numbers;
   order = order;
@@ -23,9 +25,16 @@ toBuild session n m e kinds makes params firsts counts vars coefs starts numbers
 }
 
 -- to trial, keep and taking back: the model
-abbrev pub toModel : ℕ → ℕ → ℕ → List ℕ → List ℕ → List ℤ → List ℕ → List ℕ → List ℕ → List ℤ → List ℕ → List ℕ → List ℤ → List ℕ → List ℕ → Model
-toModel n m e kinds makes params firsts counts vars coefs numbers order stored readerStarts readerPlaces =
-    record { tables = lent n m e kinds makes params firsts counts vars coefs; numbers = numbers; order = order; stored = stored; index = indexIn readerStarts readerPlaces }
+abbrev pub toModel : ℕ → ℕ → ℕ → List ℕ → List ℕ → List ℤ → List ℕ → List ℕ → List ℕ → List ℤ → List ℤ → List ℤ → List ℕ → List ℕ → List ℤ → List ℕ → List ℕ → Model
+toModel n m e kinds makes params firsts counts vars coefs lows highs numbers order stored readerStarts readerPlaces =
+    record {
+      tables = lent n m e kinds makes params firsts counts vars coefs;
+      bounds = boundsIn lows highs;
+      numbers = numbers;
+      order = order;
+      stored = stored;
+      index = indexIn readerStarts readerPlaces;
+    }
 
 -- to trial beside it: the move, what is asked, the route, and the rows to fill
 abbrev pub toTry : ℕ → List ℕ → List ℤ → ℕ → List ℕ → ℕ → List ℤ → List ℤ → List ℕ → Tried

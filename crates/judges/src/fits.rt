@@ -17,6 +17,13 @@ fn index_fits(n: usize, e: usize, reader_starts: &[u16], reader_places: &[u16]) 
     (n < reader_starts.len()) & (e <= reader_places.len())
 }
 
+// Check 1 of the bounds: a lowest and a highest number of each variable.
+fn bounds_fit(n: usize, lows: &[i32], highs: &[i32]) -> bool
+    ensures { λ r. ⌜ r ≡ (leb n (length (now (lows .entry))) && leb n (length (now (highs .entry)))) ⌝ }
+{
+    (n <= lows.len()) & (n <= highs.len())
+}
+
 // Check 1 of build.
 pub fn build_fits(
     n: usize,
@@ -29,6 +36,8 @@ pub fn build_fits(
     counts: &[u16],
     vars: &[u16],
     coefs: &[i16],
+    lows: &[i32],
+    highs: &[i32],
     starts: &[i32],
     numbers: &[u16],
     order: &[u16],
@@ -37,7 +46,7 @@ pub fn build_fits(
     reader_places: &[u16],
     log_sizes: &[u16],
 ) -> bool
-    ensures { λ r. ⌜ r ≡ buildFits (toBuild noRecord n m e (now (kinds .entry)) (now (makes .entry)) (now (params .entry)) (now (firsts .entry)) (now (counts .entry)) (now (vars .entry)) (now (coefs .entry)) (now (starts .entry)) (now (numbers .entry)) (now (order .entry)) (now (stored .entry)) (now («reader_starts» .entry)) (now («reader_places» .entry)) (now («log_sizes» .entry))) ⌝ }
+    ensures { λ r. ⌜ r ≡ buildFits (toBuild noRecord n m e (now (kinds .entry)) (now (makes .entry)) (now (params .entry)) (now (firsts .entry)) (now (counts .entry)) (now (vars .entry)) (now (coefs .entry)) (now (lows .entry)) (now (highs .entry)) (now (starts .entry)) (now (numbers .entry)) (now (order .entry)) (now (stored .entry)) (now («reader_starts» .entry)) (now («reader_places» .entry)) (now («log_sizes» .entry))) ⌝ }
 {
     sizes(
         n,
@@ -57,6 +66,7 @@ pub fn build_fits(
         & (n <= stored.len())
         & index_fits(n, e, reader_starts, reader_places)
         & (65 <= log_sizes.len())
+        & bounds_fit(n, lows, highs)
 }
 
 // Check 1 of the model that trial and keep are lent.
@@ -71,13 +81,15 @@ fn model_fits(
     counts: &[u16],
     vars: &[u16],
     coefs: &[i16],
+    lows: &[i32],
+    highs: &[i32],
     numbers: &[u16],
     order: &[u16],
     stored: &[i32],
     reader_starts: &[u16],
     reader_places: &[u16],
 ) -> bool
-    ensures { λ r. ⌜ r ≡ modelFits (toModel n m e (now (kinds .entry)) (now (makes .entry)) (now (params .entry)) (now (firsts .entry)) (now (counts .entry)) (now (vars .entry)) (now (coefs .entry)) (now (numbers .entry)) (now (order .entry)) (now (stored .entry)) (now («reader_starts» .entry)) (now («reader_places» .entry))) ⌝ }
+    ensures { λ r. ⌜ r ≡ modelFits (toModel n m e (now (kinds .entry)) (now (makes .entry)) (now (params .entry)) (now (firsts .entry)) (now (counts .entry)) (now (vars .entry)) (now (coefs .entry)) (now (lows .entry)) (now (highs .entry)) (now (numbers .entry)) (now (order .entry)) (now (stored .entry)) (now («reader_starts» .entry)) (now («reader_places» .entry))) ⌝ }
 {
     sizes(
         n,
@@ -95,6 +107,7 @@ fn model_fits(
         & (n <= numbers.len())
         & (m <= order.len())
         & index_fits(n, e, reader_starts, reader_places)
+        & bounds_fit(n, lows, highs)
 }
 
 // Check 1 of trial.
@@ -109,6 +122,8 @@ pub fn trial_fits(
     counts: &[u16],
     vars: &[u16],
     coefs: &[i16],
+    lows: &[i32],
+    highs: &[i32],
     numbers: &[u16],
     order: &[u16],
     stored: &[i32],
@@ -124,7 +139,7 @@ pub fn trial_fits(
     trial: &[i32],
     flags: &[u8],
 ) -> bool
-    ensures { λ r. ⌜ r ≡ trialFits (toModel n m e (now (kinds .entry)) (now (makes .entry)) (now (params .entry)) (now (firsts .entry)) (now (counts .entry)) (now (vars .entry)) (now (coefs .entry)) (now (numbers .entry)) (now (order .entry)) (now (stored .entry)) (now («reader_starts» .entry)) (now («reader_places» .entry))) (toTry pairs (now («move_vars» .entry)) (now («move_values» .entry)) asked (now («asked_vars» .entry)) route (now (results .entry)) (now (trial .entry)) (now (flags .entry))) ⌝ }
+    ensures { λ r. ⌜ r ≡ trialFits (toModel n m e (now (kinds .entry)) (now (makes .entry)) (now (params .entry)) (now (firsts .entry)) (now (counts .entry)) (now (vars .entry)) (now (coefs .entry)) (now (lows .entry)) (now (highs .entry)) (now (numbers .entry)) (now (order .entry)) (now (stored .entry)) (now («reader_starts» .entry)) (now («reader_places» .entry))) (toTry pairs (now («move_vars» .entry)) (now («move_values» .entry)) asked (now («asked_vars» .entry)) route (now (results .entry)) (now (trial .entry)) (now (flags .entry))) ⌝ }
 {
     model_fits(
         n,
@@ -137,6 +152,8 @@ pub fn trial_fits(
         counts,
         vars,
         coefs,
+        lows,
+        highs,
         numbers,
         order,
         stored,
@@ -170,6 +187,8 @@ pub fn keep_fits(
     counts: &[u16],
     vars: &[u16],
     coefs: &[i16],
+    lows: &[i32],
+    highs: &[i32],
     numbers: &[u16],
     order: &[u16],
     stored: &[i32],
@@ -183,7 +202,7 @@ pub fn keep_fits(
     log_vars: &[u16],
     log_values: &[i32],
 ) -> bool
-    ensures { λ r. ⌜ r ≡ keepFits (logIn (now («log_sizes» .entry)) (now («log_vars» .entry)) (now («log_values» .entry))) (toModel n m e (now (kinds .entry)) (now (makes .entry)) (now (params .entry)) (now (firsts .entry)) (now (counts .entry)) (now (vars .entry)) (now (coefs .entry)) (now (numbers .entry)) (now (order .entry)) (now (stored .entry)) (now («reader_starts» .entry)) (now («reader_places» .entry))) (toKeep pairs (now («move_vars» .entry)) (now («move_values» .entry)) (now (flags .entry))) ⌝ }
+    ensures { λ r. ⌜ r ≡ keepFits (logIn (now («log_sizes» .entry)) (now («log_vars» .entry)) (now («log_values» .entry))) (toModel n m e (now (kinds .entry)) (now (makes .entry)) (now (params .entry)) (now (firsts .entry)) (now (counts .entry)) (now (vars .entry)) (now (coefs .entry)) (now (lows .entry)) (now (highs .entry)) (now (numbers .entry)) (now (order .entry)) (now (stored .entry)) (now («reader_starts» .entry)) (now («reader_places» .entry))) (toKeep pairs (now («move_vars» .entry)) (now («move_values» .entry)) (now (flags .entry))) ⌝ }
 {
     model_fits(
         n,
@@ -196,6 +215,8 @@ pub fn keep_fits(
         counts,
         vars,
         coefs,
+        lows,
+        highs,
         numbers,
         order,
         stored,
@@ -219,6 +240,8 @@ pub fn take_fits(
     counts: &[u16],
     vars: &[u16],
     coefs: &[i16],
+    lows: &[i32],
+    highs: &[i32],
     numbers: &[u16],
     order: &[u16],
     stored: &[i32],
@@ -229,7 +252,7 @@ pub fn take_fits(
     log_vars: &[u16],
     log_values: &[i32],
 ) -> bool
-    ensures { λ r. ⌜ r ≡ takeFits (logIn (now («log_sizes» .entry)) (now («log_vars» .entry)) (now («log_values» .entry))) (toModel n m e (now (kinds .entry)) (now (makes .entry)) (now (params .entry)) (now (firsts .entry)) (now (counts .entry)) (now (vars .entry)) (now (coefs .entry)) (now (numbers .entry)) (now (order .entry)) (now (stored .entry)) (now («reader_starts» .entry)) (now («reader_places» .entry))) (now (flags .entry)) ⌝ }
+    ensures { λ r. ⌜ r ≡ takeFits (logIn (now («log_sizes» .entry)) (now («log_vars» .entry)) (now («log_values» .entry))) (toModel n m e (now (kinds .entry)) (now (makes .entry)) (now (params .entry)) (now (firsts .entry)) (now (counts .entry)) (now (vars .entry)) (now (coefs .entry)) (now (lows .entry)) (now (highs .entry)) (now (numbers .entry)) (now (order .entry)) (now (stored .entry)) (now («reader_starts» .entry)) (now («reader_places» .entry))) (now (flags .entry)) ⌝ }
 {
     model_fits(
         n,
@@ -242,6 +265,8 @@ pub fn take_fits(
         counts,
         vars,
         coefs,
+        lows,
+        highs,
         numbers,
         order,
         stored,

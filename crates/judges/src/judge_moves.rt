@@ -5,11 +5,11 @@ ghost use mathlib.Core.Path.{_≡_};
 ghost use Prim.Native.Nat.{_≤_};
 ghost use lib.Dec.{ltb};
 ghost use lib.ListN.{length};
-ghost use Rattle.paper.specs.Checks.{accepted, require, moveChecks};
+ghost use Rattle.paper.specs.Checks.{accepted, boundsIn, require};
 ghost use Rattle.paper.specs.Log.{logIn, logged, logFits};
 ghost use Rattle.paper.specs.Calls.{trialVerdict, keepVerdict, takeVerdict};
 ghost use Rattle.tables.specs.Answers.{answerOf};
-ghost use Rattle.moves.specs.Moves.{OfMakers, moveOf};
+ghost use Rattle.moves.specs.Moves.{OfMakers, moveOf, pairChecks};
 ghost use Rattle.judges.specs.Lent.{toModel, toTry, toKeep};
 ghost use Rattle.judges.specs.Judged.{askChecks, logChecks};
 use crate::fits::keep_fits;
@@ -22,10 +22,12 @@ use tables::Answer;
 use tables::first_unknown;
 use tables::refused;
 
-// Checks 9 to 13: the route, the move and the variables asked.
+// Checks 9 to 12, 17 and 13: the route, the move and the variables asked.
 fn ask_checks(
     n: usize,
     by: &[u16],
+    lows: &[i32],
+    highs: &[i32],
     pairs: usize,
     move_vars: &[u16],
     move_values: &[i32],
@@ -35,12 +37,12 @@ fn ask_checks(
 ) -> Answer
     requires { ⌜ (n ≤ length (now by)) × (pairs ≤ 64) × (pairs ≤ length (now «move_vars»)) × (pairs ≤ length (now «move_values»)) ⌝ }
     requires { ⌜ (asked ≤ 32) × (asked ≤ length (now «asked_vars»)) ⌝ }
-    ensures { λ r. ⌜ OfMakers n (now (by .entry)) (λ t. r ≡ answerOf 0 (askChecks (toTry pairs (now («move_vars» .entry)) (now («move_values» .entry)) asked (now («asked_vars» .entry)) route [] [] []) t)) ⌝ }
+    ensures { λ r. ⌜ OfMakers n (now (by .entry)) (λ t. r ≡ answerOf 0 (askChecks (toTry pairs (now («move_vars» .entry)) (now («move_values» .entry)) asked (now («asked_vars» .entry)) route [] [] []) t (boundsIn (now (lows .entry)) (now (highs .entry))))) ⌝ }
 {
     if !((1 <= route) & (route <= 3)) {
         return refused(9, 0);
     }
-    let moved = move_checks(n, by, pairs, move_vars, move_values);
+    let moved = move_checks(n, by, lows, highs, pairs, move_vars, move_values);
     let Answer::Accepted { .. } = moved else {
         return moved;
     };
@@ -51,10 +53,12 @@ fn ask_checks(
     moved
 }
 
-// Checks 10 to 12, and 16: the move and the log.
+// Checks 10 to 12, 17 and 16: the move and the log.
 fn keep_checks(
     n: usize,
     by: &[u16],
+    lows: &[i32],
+    highs: &[i32],
     kept: u32,
     pairs: usize,
     move_vars: &[u16],
@@ -65,13 +69,13 @@ fn keep_checks(
 ) -> Answer
     requires { ⌜ (n ≤ length (now by)) × (pairs ≤ 64) × (pairs ≤ length (now «move_vars»)) × (pairs ≤ length (now «move_values»)) ⌝ }
     requires { ⌜ logFits (logIn (now «log_sizes») (now «log_vars») (now «log_values»)) ≡ true ⌝ }
-    ensures { λ r. ⌜ OfMakers n (now (by .entry)) (λ t. r ≡ answerOf 0 (moveChecks (moveOf pairs (now («move_vars» .entry)) (now («move_values» .entry))) t (logChecks (logIn (now («log_sizes» .entry)) (now («log_vars» .entry)) (now («log_values» .entry))) t kept accepted))) ⌝ }
+    ensures { λ r. ⌜ OfMakers n (now (by .entry)) (λ t. r ≡ answerOf 0 (pairChecks (moveOf pairs (now («move_vars» .entry)) (now («move_values» .entry))) (boundsIn (now (lows .entry)) (now (highs .entry))) t (logChecks (logIn (now («log_sizes» .entry)) (now («log_vars» .entry)) (now («log_values» .entry))) t (boundsIn (now (lows .entry)) (now (highs .entry))) kept accepted))) ⌝ }
 {
-    let moved = move_checks(n, by, pairs, move_vars, move_values);
+    let moved = move_checks(n, by, lows, highs, pairs, move_vars, move_values);
     let Answer::Accepted { .. } = moved else {
         return moved;
     };
-    if !log_good(n, by, kept, log_sizes, log_vars, log_values) {
+    if !log_good(n, by, lows, highs, kept, log_sizes, log_vars, log_values) {
         return refused(16, 0);
     }
     moved
@@ -81,6 +85,8 @@ fn keep_checks(
 fn take_checks(
     n: usize,
     by: &[u16],
+    lows: &[i32],
+    highs: &[i32],
     kept: u32,
     log_sizes: &[u16],
     log_vars: &[u16],
@@ -88,9 +94,9 @@ fn take_checks(
 ) -> Answer
     requires { ⌜ n ≤ length (now by) ⌝ }
     requires { ⌜ logFits (logIn (now «log_sizes») (now «log_vars») (now «log_values»)) ≡ true ⌝ }
-    ensures { λ r. ⌜ OfMakers n (now (by .entry)) (λ t. r ≡ answerOf 0 (logChecks (logIn (now («log_sizes» .entry)) (now («log_vars» .entry)) (now («log_values» .entry))) t kept (require 15 0 (ltb 0 (logged (logIn (now («log_sizes» .entry)) (now («log_vars» .entry)) (now («log_values» .entry))))) accepted))) ⌝ }
+    ensures { λ r. ⌜ OfMakers n (now (by .entry)) (λ t. r ≡ answerOf 0 (logChecks (logIn (now («log_sizes» .entry)) (now («log_vars» .entry)) (now («log_values» .entry))) t (boundsIn (now (lows .entry)) (now (highs .entry))) kept (require 15 0 (ltb 0 (logged (logIn (now («log_sizes» .entry)) (now («log_vars» .entry)) (now («log_values» .entry))))) accepted))) ⌝ }
 {
-    if !log_good(n, by, kept, log_sizes, log_vars, log_values) {
+    if !log_good(n, by, lows, highs, kept, log_sizes, log_vars, log_values) {
         return refused(16, 0);
     }
     if log_sizes[0] == 0 {
@@ -99,7 +105,7 @@ fn take_checks(
     Answer::Accepted { evaluations: 0 }
 }
 
-// The verdict of trial: checks 1 to 13 without 6, and 8 and 19 before 7. `blanks` is the record's number of blanks, here and below.
+// The verdict of trial: checks 1 to 13 without 6, 8 and 19 before 7, and 17 behind 12. `blanks` is the record's number of blanks, here and below.
 pub fn judge_trial(
     blanks: u32,
     n: usize,
@@ -112,6 +118,8 @@ pub fn judge_trial(
     counts: &[u16],
     vars: &[u16],
     coefs: &[i16],
+    lows: &[i32],
+    highs: &[i32],
     numbers: &[u16],
     order: &[u16],
     stored: &[i32],
@@ -127,7 +135,7 @@ pub fn judge_trial(
     trial: &[i32],
     flags: &[u8],
 ) -> Answer
-    ensures { λ r. ⌜ r ≡ answerOf 0 (trialVerdict (record { kept = 0; evaluations = 0; blanks = blanks }) (toModel n m e (now (kinds .entry)) (now (makes .entry)) (now (params .entry)) (now (firsts .entry)) (now (counts .entry)) (now (vars .entry)) (now (coefs .entry)) (now (numbers .entry)) (now (order .entry)) (now (stored .entry)) (now («reader_starts» .entry)) (now («reader_places» .entry))) (toTry pairs (now («move_vars» .entry)) (now («move_values» .entry)) asked (now («asked_vars» .entry)) route (now (results .entry)) (now (trial .entry)) (now (flags .entry)))) ⌝ }
+    ensures { λ r. ⌜ r ≡ answerOf 0 (trialVerdict (record { kept = 0; evaluations = 0; blanks = blanks }) (toModel n m e (now (kinds .entry)) (now (makes .entry)) (now (params .entry)) (now (firsts .entry)) (now (counts .entry)) (now (vars .entry)) (now (coefs .entry)) (now (lows .entry)) (now (highs .entry)) (now (numbers .entry)) (now (order .entry)) (now (stored .entry)) (now («reader_starts» .entry)) (now («reader_places» .entry))) (toTry pairs (now («move_vars» .entry)) (now («move_values» .entry)) asked (now («asked_vars» .entry)) route (now (results .entry)) (now (trial .entry)) (now (flags .entry)))) ⌝ }
 {
     if !trial_fits(
         n,
@@ -140,6 +148,8 @@ pub fn judge_trial(
         counts,
         vars,
         coefs,
+        lows,
+        highs,
         numbers,
         order,
         stored,
@@ -170,6 +180,8 @@ pub fn judge_trial(
         counts,
         vars,
         coefs,
+        lows,
+        highs,
         numbers,
         order,
         stored,
@@ -183,6 +195,8 @@ pub fn judge_trial(
     ask_checks(
         n,
         &by,
+        lows,
+        highs,
         pairs,
         move_vars,
         move_values,
@@ -206,6 +220,8 @@ pub fn judge_keep(
     counts: &[u16],
     vars: &[u16],
     coefs: &[i16],
+    lows: &[i32],
+    highs: &[i32],
     numbers: &[u16],
     order: &[u16],
     stored: &[i32],
@@ -219,7 +235,7 @@ pub fn judge_keep(
     log_vars: &[u16],
     log_values: &[i32],
 ) -> Answer
-    ensures { λ r. ⌜ r ≡ answerOf 0 (keepVerdict (record { kept = kept; evaluations = 0; blanks = blanks }) (logIn (now («log_sizes» .entry)) (now («log_vars» .entry)) (now («log_values» .entry))) (toModel n m e (now (kinds .entry)) (now (makes .entry)) (now (params .entry)) (now (firsts .entry)) (now (counts .entry)) (now (vars .entry)) (now (coefs .entry)) (now (numbers .entry)) (now (order .entry)) (now (stored .entry)) (now («reader_starts» .entry)) (now («reader_places» .entry))) (toKeep pairs (now («move_vars» .entry)) (now («move_values» .entry)) (now (flags .entry)))) ⌝ }
+    ensures { λ r. ⌜ r ≡ answerOf 0 (keepVerdict (record { kept = kept; evaluations = 0; blanks = blanks }) (logIn (now («log_sizes» .entry)) (now («log_vars» .entry)) (now («log_values» .entry))) (toModel n m e (now (kinds .entry)) (now (makes .entry)) (now (params .entry)) (now (firsts .entry)) (now (counts .entry)) (now (vars .entry)) (now (coefs .entry)) (now (lows .entry)) (now (highs .entry)) (now (numbers .entry)) (now (order .entry)) (now (stored .entry)) (now («reader_starts» .entry)) (now («reader_places» .entry))) (toKeep pairs (now («move_vars» .entry)) (now («move_values» .entry)) (now (flags .entry)))) ⌝ }
 {
     if !keep_fits(
         n,
@@ -232,6 +248,8 @@ pub fn judge_keep(
         counts,
         vars,
         coefs,
+        lows,
+        highs,
         numbers,
         order,
         stored,
@@ -260,6 +278,8 @@ pub fn judge_keep(
         counts,
         vars,
         coefs,
+        lows,
+        highs,
         numbers,
         order,
         stored,
@@ -273,6 +293,8 @@ pub fn judge_keep(
     keep_checks(
         n,
         &by,
+        lows,
+        highs,
         kept,
         pairs,
         move_vars,
@@ -297,6 +319,8 @@ pub fn judge_take_back(
     counts: &[u16],
     vars: &[u16],
     coefs: &[i16],
+    lows: &[i32],
+    highs: &[i32],
     numbers: &[u16],
     order: &[u16],
     stored: &[i32],
@@ -307,7 +331,7 @@ pub fn judge_take_back(
     log_vars: &[u16],
     log_values: &[i32],
 ) -> Answer
-    ensures { λ r. ⌜ r ≡ answerOf 0 (takeVerdict (record { kept = kept; evaluations = 0; blanks = blanks }) (logIn (now («log_sizes» .entry)) (now («log_vars» .entry)) (now («log_values» .entry))) (toModel n m e (now (kinds .entry)) (now (makes .entry)) (now (params .entry)) (now (firsts .entry)) (now (counts .entry)) (now (vars .entry)) (now (coefs .entry)) (now (numbers .entry)) (now (order .entry)) (now (stored .entry)) (now («reader_starts» .entry)) (now («reader_places» .entry))) (now (flags .entry))) ⌝ }
+    ensures { λ r. ⌜ r ≡ answerOf 0 (takeVerdict (record { kept = kept; evaluations = 0; blanks = blanks }) (logIn (now («log_sizes» .entry)) (now («log_vars» .entry)) (now («log_values» .entry))) (toModel n m e (now (kinds .entry)) (now (makes .entry)) (now (params .entry)) (now (firsts .entry)) (now (counts .entry)) (now (vars .entry)) (now (coefs .entry)) (now (lows .entry)) (now (highs .entry)) (now (numbers .entry)) (now (order .entry)) (now (stored .entry)) (now («reader_starts» .entry)) (now («reader_places» .entry))) (now (flags .entry))) ⌝ }
 {
     if !take_fits(
         n,
@@ -320,6 +344,8 @@ pub fn judge_take_back(
         counts,
         vars,
         coefs,
+        lows,
+        highs,
         numbers,
         order,
         stored,
@@ -345,6 +371,8 @@ pub fn judge_take_back(
         counts,
         vars,
         coefs,
+        lows,
+        highs,
         numbers,
         order,
         stored,
@@ -355,5 +383,5 @@ pub fn judge_take_back(
     let Answer::Accepted { .. } = checked else {
         return checked;
     };
-    take_checks(n, &by, kept, log_sizes, log_vars, log_values)
+    take_checks(n, &by, lows, highs, kept, log_sizes, log_vars, log_values)
 }

@@ -17,7 +17,7 @@ use files::ends_at;
 use files::entries_at;
 use integers::wide;
 use repeats::mark;
-use sound::table_checks;
+use sound::row_checks;
 use tables::Answer;
 
 // The row is whole in the file.
@@ -40,7 +40,7 @@ fn entries_whole(bytes: &[u8], n: usize, m: usize, e: usize, first: u16, count: 
     ends_at(n, m, end) <= bytes.len()
 }
 
-// The row is good on its own: checks 2 to 5 accept a table of this row alone.
+// The row is good on its own: checks 2 to 4 accept a table of this row alone.
 fn alone_good(
     n: usize,
     m: usize,
@@ -64,7 +64,7 @@ fn alone_good(
     let count = wide(counts[row]);
     let end = first + count;
     let none = [0u16; 1];
-    let told = table_checks(
+    let told = row_checks(
         n,
         1,
         count,

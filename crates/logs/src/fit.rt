@@ -3,16 +3,19 @@ ghost use mathlib.Core.Bool.{true};
 ghost use mathlib.Core.Path.{_≡_};
 ghost use Prim.Native.Nat.{_≤_, _<_};
 ghost use lib.ListN.{length};
+ghost use Rattle.paper.specs.Checks.{boundsIn};
 ghost use Rattle.paper.specs.Log.{logIn, logFits, moveGood, back, logGood};
 ghost use Rattle.moves.specs.Moves.{OfMakers};
 use integers::wide;
 use moves::move_checks;
 use tables::Answer;
 
-// Move k of the log has at most 64 pairs, of search variables, each named once, and no value is blank.
+// Move k of the log has at most 64 pairs, of search variables, each named once, and no value is blank or outside its bounds.
 fn logged_good(
     n: usize,
     by: &[u16],
+    lows: &[i32],
+    highs: &[i32],
     k: usize,
     log_sizes: &[u16],
     log_vars: &[u16],
@@ -20,13 +23,21 @@ fn logged_good(
 ) -> bool
     requires { ⌜ (n ≤ length (now by)) × (k < 64) ⌝ }
     requires { ⌜ logFits (logIn (now «log_sizes») (now «log_vars») (now «log_values»)) ≡ true ⌝ }
-    ensures { λ r. ⌜ OfMakers n (now (by .entry)) (λ t. r ≡ moveGood t (back (logIn (now («log_sizes» .entry)) (now («log_vars» .entry)) (now («log_values» .entry))) k)) ⌝ }
+    ensures { λ r. ⌜ OfMakers n (now (by .entry)) (λ t. r ≡ moveGood t (boundsIn (now (lows .entry)) (now (highs .entry))) (back (logIn (now («log_sizes» .entry)) (now («log_vars» .entry)) (now («log_values» .entry))) k)) ⌝ }
 {
     let pairs = wide(log_sizes[k + 1]);
     if 64 < pairs {
         return false;
     }
-    let checked = move_checks(n, by, pairs, &log_vars[64 * k..], &log_values[64 * k..]);
+    let checked = move_checks(
+        n,
+        by,
+        lows,
+        highs,
+        pairs,
+        &log_vars[64 * k..],
+        &log_values[64 * k..],
+    );
     let Answer::Accepted { .. } = checked else {
         return false;
     };
@@ -37,6 +48,8 @@ fn logged_good(
 pub fn log_good(
     n: usize,
     by: &[u16],
+    lows: &[i32],
+    highs: &[i32],
     kept: u32,
     log_sizes: &[u16],
     log_vars: &[u16],
@@ -44,7 +57,7 @@ pub fn log_good(
 ) -> bool
     requires { ⌜ n ≤ length (now by) ⌝ }
     requires { ⌜ logFits (logIn (now «log_sizes») (now «log_vars») (now «log_values»)) ≡ true ⌝ }
-    ensures { λ r. ⌜ OfMakers n (now (by .entry)) (λ t. r ≡ logGood (logIn (now («log_sizes» .entry)) (now («log_vars» .entry)) (now («log_values» .entry))) t kept) ⌝ }
+    ensures { λ r. ⌜ OfMakers n (now (by .entry)) (λ t. r ≡ logGood (logIn (now («log_sizes» .entry)) (now («log_vars» .entry)) (now («log_values» .entry))) t (boundsIn (now (lows .entry)) (now (highs .entry))) kept) ⌝ }
 {
     let held = wide(log_sizes[0]);
     if 64 < held {
@@ -54,7 +67,7 @@ pub fn log_good(
         return false;
     }
     for k in 0..held {
-        if !logged_good(n, by, k, log_sizes, log_vars, log_values) {
+        if !logged_good(n, by, lows, highs, k, log_sizes, log_vars, log_values) {
             return false;
         }
     }

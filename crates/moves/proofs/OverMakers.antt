@@ -1,6 +1,6 @@
 -- The tests over the row of makers are the paper's over the tables. Assumes nothing.
 use Prim.Native.Nat.{ℕ, _≤_, _<_}
-use mathlib.Core.Bool.{Bool, true, false, cond, not, _&&_}
+use mathlib.Core.Bool.{Bool, true, false, cond, not, _&&_, and-true}
 use mathlib.Core.List.{List}
 use mathlib.Core.Path.{_≡_, refl, ap, ap₂, sym, _∙_}
 use lib.IntN.{ℤ, pos}
@@ -10,7 +10,7 @@ use lib.Seq.{getD-take}
 use borrow.Author.Tests.{lt-ltb, le-ltb}
 use Rattle.paper.specs.Lists.{nat}
 use Rattle.paper.specs.Tables.{Tables, isMade, valuesIn}
-use Rattle.paper.specs.Checks.{startGood, storedGood, Move, movable}
+use Rattle.paper.specs.Checks.{Bounds, low, high, startAllowed, storedAllowed, Move, movable}
 use Rattle.paper.specs.Formula.{blank}
 use Rattle.paper.specs.Calls.{blanksAmong}
 use Rattle.paper.proofs.Count.{size-same}
@@ -25,13 +25,14 @@ blanks-same t values = size-same _ _ (t .n) (λ v l. ap (λ z. eqZ z blank) (sym
 
 module _ (t : Tables) (by : List ℕ) (k : Makers t by) where
   -- 7
-  pub value-same : (building : Bool) (values : List ℤ) (v : ℕ) → v < t .n
-      → valueGood building (not (eqb (nat by v) 0)) (getD values v (pos 0)) ≡ cond building (startGood t) (storedGood t) (valuesIn t values) v
-  value-same building values v l =
-      ap₂ (λ b z. valueGood building (not b) z) (maker-zero t by k v l) (sym (getD-take (t .n) values v (pos 0) l)) ∙ go building (isMade t v) refl
+  pub value-same : (building : Bool) (bs : Bounds) (values : List ℤ) (v : ℕ) → v < t .n
+      → valueGood building (not (eqb (nat by v) 0)) (low bs v) (getD values v (pos 0)) (high bs v) ≡ cond building (startAllowed t) (storedAllowed t) bs (valuesIn t values) v
+  value-same building bs values v l =
+      ap₂ (λ b z. valueGood building (not b) (low bs v) z (high bs v)) (maker-zero t by k v l) (sym (getD-take (t .n) values v (pos 0) l)) ∙ go building (isMade t v) refl
     where
-      go : (b made : Bool) → isMade t v ≡ made → valueGood b (not (not (isMade t v))) (valuesIn t values v) ≡ cond b (startGood t) (storedGood t) (valuesIn t values) v
-      go true true e = rw e refl
+      go : (b made : Bool) → isMade t v ≡ made
+          → valueGood b (not (not (isMade t v))) (low bs v) (valuesIn t values v) (high bs v) ≡ cond b (startAllowed t) (storedAllowed t) bs (valuesIn t values) v
+      go true true e = rw e (sym (and-true _))
       go true false e = rw e refl
       go false true e = rw e refl
       go false false e = rw e refl

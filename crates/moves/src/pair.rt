@@ -1,13 +1,14 @@
-// Check 1 of a move, and checks 10 to 12.
+// Check 1 of a move, and checks 10 to 12 and 17.
 ghost use mathlib.Core.List.{[]};
 ghost use mathlib.Core.Path.{_≡_};
 ghost use Prim.Native.Nat.{_≤_};
 ghost use lib.ListN.{length};
 ghost use Rattle.paper.specs.Lists.{firstFail};
-ghost use Rattle.paper.specs.Checks.{accepted, moveFits, movable, hasValue, moveChecks};
+ghost use Rattle.paper.specs.Checks.{accepted, boundsIn, moveFits, movable, hasValue, pairWithin};
 ghost use Rattle.tables.specs.Answers.{answerOf};
-ghost use Rattle.moves.specs.Moves.{OfMakers, moveOf};
+ghost use Rattle.moves.specs.Moves.{OfMakers, moveOf, pairChecks};
 use blanks::is_blank;
+use bounds::within;
 use integers::wide;
 use repeats::first_again;
 use tables::Answer;
@@ -50,10 +51,37 @@ pub fn first_blank(pairs: usize, values: &[i32]) -> usize
     pairs
 }
 
-// Checks 10 to 12, each over all pairs before the next.
-pub fn move_checks(n: usize, by: &[u16], pairs: usize, vars: &[u16], values: &[i32]) -> Answer
+// The first pair whose new value lies outside its variable's bounds.
+pub fn first_outside(
+    pairs: usize,
+    vars: &[u16],
+    values: &[i32],
+    lows: &[i32],
+    highs: &[i32],
+) -> usize
+    requires { ⌜ (pairs ≤ length (now vars)) × (pairs ≤ length (now values)) ⌝ }
+    ensures { λ r. ⌜ r ≡ firstFail (pairWithin (moveOf pairs (now (vars .entry)) (now (values .entry))) (boundsIn (now (lows .entry)) (now (highs .entry)))) pairs ⌝ }
+{
+    for pair in 0..pairs {
+        if !within(lows, highs, wide(vars[pair]), values[pair]) {
+            return pair;
+        }
+    }
+    pairs
+}
+
+// Checks 10 to 12 and 17, each over all pairs before the next.
+pub fn move_checks(
+    n: usize,
+    by: &[u16],
+    lows: &[i32],
+    highs: &[i32],
+    pairs: usize,
+    vars: &[u16],
+    values: &[i32],
+) -> Answer
     requires { ⌜ (n ≤ length (now by)) × (pairs ≤ 64) × (pairs ≤ length (now vars)) × (pairs ≤ length (now values)) ⌝ }
-    ensures { λ r. ⌜ OfMakers n (now (by .entry)) (λ t. r ≡ answerOf 0 (moveChecks (moveOf pairs (now (vars .entry)) (now (values .entry))) t accepted)) ⌝ }
+    ensures { λ r. ⌜ OfMakers n (now (by .entry)) (λ t. r ≡ answerOf 0 (pairChecks (moveOf pairs (now (vars .entry)) (now (values .entry))) (boundsIn (now (lows .entry)) (now (highs .entry))) t accepted)) ⌝ }
 {
     let fixed = first_unmovable(n, by, pairs, vars);
     if fixed < pairs {
@@ -66,6 +94,10 @@ pub fn move_checks(n: usize, by: &[u16], pairs: usize, vars: &[u16], values: &[i
     let empty = first_blank(pairs, values);
     if empty < pairs {
         return refused(12, empty);
+    }
+    let outside = first_outside(pairs, vars, values, lows, highs);
+    if outside < pairs {
+        return refused(17, outside);
     }
     Answer::Accepted { evaluations: 0 }
 }

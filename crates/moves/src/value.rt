@@ -5,46 +5,61 @@ ghost use Prim.Native.Nat.{_≤_};
 ghost use lib.ListN.{length};
 ghost use Rattle.paper.specs.Lists.{firstFail};
 ghost use Rattle.paper.specs.Tables.{valuesIn};
-ghost use Rattle.paper.specs.Checks.{accepted, startGood, storedGood};
+ghost use Rattle.paper.specs.Checks.{accepted, boundsIn, startAllowed, storedAllowed};
 ghost use Rattle.tables.specs.Answers.{answerOf};
 ghost use Rattle.moves.specs.Moves.{OfMakers, valueGood, storedChecks};
 use blanks::blanks_among;
 use blanks::is_blank;
+use bounds::between;
 use tables::Answer;
 use tables::refused;
 
-// A variable may have the value: a search variable any but blank; a made one any, and 0 where a model is built.
-fn value_good(building: bool, made: bool, value: i32) -> bool
-    ensures { λ r. ⌜ r ≡ valueGood building made value ⌝ }
+// A variable may have the value: a search variable any but blank that lies within its bounds; a made one any, and 0 where a model is built.
+fn value_good(building: bool, made: bool, low: i32, value: i32, high: i32) -> bool
+    ensures { λ r. ⌜ r ≡ valueGood building made low value high ⌝ }
 {
     if made {
         return !building | (value == 0);
     }
-    !is_blank(value)
+    !is_blank(value) & between(low, value, high)
 }
 
 // The first variable that may not have its start value, where a model is built, or else its stored one.
-pub fn first_bad_value(building: bool, n: usize, by: &[u16], values: &[i32]) -> usize
-    requires { ⌜ (n ≤ length (now by)) × (n ≤ length (now values)) ⌝ }
-    ensures { λ r. ⌜ OfMakers n (now (by .entry)) (λ t. r ≡ firstFail (cond building (startGood t) (storedGood t) (valuesIn t (now (values .entry)))) n) ⌝ }
+pub fn first_bad_value(
+    building: bool,
+    n: usize,
+    by: &[u16],
+    lows: &[i32],
+    highs: &[i32],
+    values: &[i32],
+) -> usize
+    requires { ⌜ (n ≤ length (now by)) × (n ≤ length (now lows)) × (n ≤ length (now highs)) × (n ≤ length (now values)) ⌝ }
+    ensures { λ r. ⌜ OfMakers n (now (by .entry)) (λ t. r ≡ firstFail (cond building (startAllowed t) (storedAllowed t) (boundsIn (now (lows .entry)) (now (highs .entry))) (valuesIn t (now (values .entry)))) n) ⌝ }
 {
     for v in 0..n {
-        if !value_good(building, by[v] != 0, values[v]) {
+        if !value_good(building, by[v] != 0, lows[v], values[v], highs[v]) {
             return v;
         }
     }
     n
 }
 
-// Checks 19 and 7 of stored values: `blanks` is how many of them are blank, and no search variable is.
-pub fn stored_checks(blanks: u32, n: usize, by: &[u16], stored: &[i32]) -> Answer
-    requires { ⌜ (n ≤ length (now by)) × (n ≤ length (now stored)) × (n ≤ 4096) ⌝ }
-    ensures { λ r. ⌜ OfMakers n (now (by .entry)) (λ t. r ≡ answerOf 0 (storedChecks blanks (now (stored .entry)) t accepted)) ⌝ }
+// Checks 19 and 7 of stored values: `blanks` is how many of them are blank, and no search variable is, or lies outside its bounds.
+pub fn stored_checks(
+    blanks: u32,
+    n: usize,
+    by: &[u16],
+    lows: &[i32],
+    highs: &[i32],
+    stored: &[i32],
+) -> Answer
+    requires { ⌜ (n ≤ length (now by)) × (n ≤ length (now lows)) × (n ≤ length (now highs)) × (n ≤ length (now stored)) × (n ≤ 4096) ⌝ }
+    ensures { λ r. ⌜ OfMakers n (now (by .entry)) (λ t. r ≡ answerOf 0 (storedChecks blanks (boundsIn (now (lows .entry)) (now (highs .entry))) (now (stored .entry)) t accepted)) ⌝ }
 {
     if blanks != blanks_among(n, stored) {
         return refused(19, 0);
     }
-    let bad = first_bad_value(false, n, by, stored);
+    let bad = first_bad_value(false, n, by, lows, highs, stored);
     if bad < n {
         return refused(7, bad);
     }

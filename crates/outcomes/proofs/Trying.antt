@@ -20,12 +20,12 @@ use Rattle.outcomes.specs.declared.Tried as code
 -- ── any trial ──
 module _ (s : Session) (w : Model) (c : Tried) where
   number-low : numberOf (trial s w c .answer) < 20
-  number-low = go (leb (numberOf (trial s w c .answer)) 13 && not (eqb (numberOf (trial s w c .answer)) 6)) refl (trial-judged s w c .given)
+  number-low = go (leb (numberOf (trial s w c .answer)) 13 && not (eqb (numberOf (trial s w c .answer)) 6)) (eqb (numberOf (trial s w c .answer)) 17) refl refl (trial-judged s w c .given)
     where
-      go : (b : Bool) → (leb (numberOf (trial s w c .answer)) 13 && not (eqb (numberOf (trial s w c .answer)) 6)) ≡ b → (b || eqb (numberOf (trial s w c .answer)) 19) ≡ true
-          → numberOf (trial s w c .answer) < 20
-      go true e h = let k = leb-true (numberOf (trial s w c .answer)) 13 (and-left _ _ e) in omega arith
-      go false e h = let k = eqb-true (numberOf (trial s w c .answer)) 19 h in omega arith
+      go : (x y : Bool) → (leb (numberOf (trial s w c .answer)) 13 && not (eqb (numberOf (trial s w c .answer)) 6)) ≡ x → eqb (numberOf (trial s w c .answer)) 17 ≡ y → ((x || y) || eqb (numberOf (trial s w c .answer)) 19) ≡ true → numberOf (trial s w c .answer) < 20
+      go true y e q h = let k = leb-true (numberOf (trial s w c .answer)) 13 (and-left _ _ e) in omega arith
+      go false true e q h = let k = eqb-true (numberOf (trial s w c .answer)) 17 q in omega arith
+      go false false e q h = let k = eqb-true (numberOf (trial s w c .answer)) 19 h in omega arith
 
   evaluations-low : evaluationsOf (trial s w c .answer) ≤ 4096
   evaluations-low = go (trialVerdict s w c) refl

@@ -59,6 +59,8 @@ fn try_by(
     counts: &[u16],
     vars: &[u16],
     coefs: &[i16],
+    lows: &[i32],
+    highs: &[i32],
     numbers: &[u16],
     order: &[u16],
     stored: &[i32],
@@ -70,7 +72,7 @@ fn try_by(
     asked: u16,
     route: u32,
 ) -> Tried
-    ensures { λ r. ⌜ (r ≡ tried (recordIn session) (toModel n m e (now (kinds .entry)) (now (makes .entry)) (now (params .entry)) (now (firsts .entry)) (now (counts .entry)) (now (vars .entry)) (now (coefs .entry)) (now (numbers .entry)) (now (order .entry)) (now (stored .entry)) (now («reader_starts» .entry)) (now («reader_places» .entry))) asked route (moveOf pairs (now («move_vars» .entry)) (now («move_values» .entry)))) × (r .number < 20) × (r .evaluations ≤ 4096) × (away (r .result) ≤ 2147483648) ⌝ }
+    ensures { λ r. ⌜ (r ≡ tried (recordIn session) (toModel n m e (now (kinds .entry)) (now (makes .entry)) (now (params .entry)) (now (firsts .entry)) (now (counts .entry)) (now (vars .entry)) (now (coefs .entry)) (now (lows .entry)) (now (highs .entry)) (now (numbers .entry)) (now (order .entry)) (now (stored .entry)) (now («reader_starts» .entry)) (now («reader_places» .entry))) asked route (moveOf pairs (now («move_vars» .entry)) (now («move_values» .entry)))) × (r .number < 20) × (r .evaluations ≤ 4096) × (away (r .result) ≤ 2147483648) ⌝ }
 {
     let asked_vars = [asked; 1];
     let mut results = [0i32; 1];
@@ -88,6 +90,8 @@ fn try_by(
         counts,
         vars,
         coefs,
+        lows,
+        highs,
         numbers,
         order,
         stored,
@@ -124,6 +128,8 @@ pub fn try_move(
     counts: &[u16],
     vars: &[u16],
     coefs: &[i16],
+    lows: &[i32],
+    highs: &[i32],
     numbers: &[u16],
     order: &[u16],
     stored: &[i32],
@@ -134,7 +140,7 @@ pub fn try_move(
     move_values: &[i32],
     asked: u16,
 ) -> Outcome
-    ensures { λ r. ⌜ (r ≡ outcome (recordIn session) (toModel n m e (now (kinds .entry)) (now (makes .entry)) (now (params .entry)) (now (firsts .entry)) (now (counts .entry)) (now (vars .entry)) (now (coefs .entry)) (now (numbers .entry)) (now (order .entry)) (now (stored .entry)) (now («reader_starts» .entry)) (now («reader_places» .entry))) asked (moveOf pairs (now («move_vars» .entry)) (now («move_values» .entry)))) × Small r ⌝ }
+    ensures { λ r. ⌜ (r ≡ outcome (recordIn session) (toModel n m e (now (kinds .entry)) (now (makes .entry)) (now (params .entry)) (now (firsts .entry)) (now (counts .entry)) (now (vars .entry)) (now (coefs .entry)) (now (lows .entry)) (now (highs .entry)) (now (numbers .entry)) (now (order .entry)) (now (stored .entry)) (now («reader_starts» .entry)) (now («reader_places» .entry))) asked (moveOf pairs (now («move_vars» .entry)) (now («move_values» .entry)))) × Small r ⌝ }
 {
     let first = try_by(
         session,
@@ -148,6 +154,8 @@ pub fn try_move(
         counts,
         vars,
         coefs,
+        lows,
+        highs,
         numbers,
         order,
         stored,
@@ -171,6 +179,8 @@ pub fn try_move(
         counts,
         vars,
         coefs,
+        lows,
+        highs,
         numbers,
         order,
         stored,
@@ -194,6 +204,8 @@ pub fn try_move(
         counts,
         vars,
         coefs,
+        lows,
+        highs,
         numbers,
         order,
         stored,

@@ -12,7 +12,7 @@ use lib.Seq.{getD-take}
 use borrow.Author.Tests.{ltb-true, leb-true, eqb-true, eq-eqb, ne-eqb, lt-ltb, not-true}
 use Rattle.paper.specs.Lists.{any, all, between, total, nat, seek}
 use Rattle.paper.specs.Tables.{Tables, part, rowOf, isMade, inputsOf}
-use Rattle.paper.specs.Checks.{Verdict, accepted, refused, check, require, arity, sized, kindGood, shapeGood, numberGood, madeOnce, tableChecks, Sound}
+use Rattle.paper.specs.Checks.{Verdict, accepted, refused, check, require, arity, sized, kindGood, shapeGood, numberGood, Bounds, boundsGood, madeOnce, rowChecks, tableChecks, Sound}
 use Rattle.paper.proofs.Lists.{clash, and-left, and-right, each, all-in, all-at, any-at}
 use Rattle.paper.proofs.Scan.{part-length}
 use Rattle.paper.proofs.Verdicts.{Chain, chain-after, check-then, require-then, check-next, check-rest, check-held, check-other, require-next, require-rest, require-held, require-other}
@@ -23,26 +23,35 @@ module _ (t : Tables) where
   abbrev filled : Bool
   filled = eqb (total (take (t .m) (t .counts))) (t .e)
 
+  -- the bounds are good at every variable
+  abbrev pub BoundsGood : Bounds → Type 0
+  BoundsGood bs = (v : ℕ) → v < t .n → boundsGood t bs v ≡ true
+
   -- passed: the next decides
-  pub tables-next : Sound t → (next : Verdict) → tableChecks t next ≡ next
-  tables-next s next =
+  pub tables-next : (bs : Bounds) → Sound t → BoundsGood bs → (next : Verdict) → tableChecks t bs next ≡ next
+  tables-next bs s good next =
       check-next 2 (t .m) (kindGood t) _ (s .kinds) ∙ check-next 3 (t .m) (shapeGood t) _ (s .shapes) ∙ require-next 3 (pred (t .m)) filled _ (s .whole)
-      ∙ check-next 4 (t .m) (numberGood t) _ (s .numbers) ∙ check-next 5 (t .m) (madeOnce t) next (s .once)
+      ∙ check-next 4 (t .m) (numberGood t) _ (s .numbers) ∙ check-next 4 (t .n) (boundsGood t bs) _ good ∙ check-next 5 (t .m) (madeOnce t) next (s .once)
 
   -- they decide where they refuse, and the next where they accept
-  pub tables-then : Chain (tableChecks t)
-  tables-then =
+  pub rows-then : Chain (rowChecks t)
+  rows-then =
       chain-after (check 2 (t .m) (kindGood t)) _ (check-then 2 (t .m) (kindGood t)) (chain-after (check 3 (t .m) (shapeGood t)) _ (check-then 3 (t .m) (shapeGood t))
-      (chain-after (require 3 (pred (t .m)) filled) _ (require-then 3 (pred (t .m)) filled) (chain-after (check 4 (t .m) (numberGood t)) (check 5 (t .m) (madeOnce t))
-      (check-then 4 (t .m) (numberGood t)) (check-then 5 (t .m) (madeOnce t)))))
+      (chain-after (require 3 (pred (t .m)) filled) (check 4 (t .m) (numberGood t)) (require-then 3 (pred (t .m)) filled) (check-then 4 (t .m) (numberGood t))))
+
+  pub tables-then : (bs : Bounds) → Chain (tableChecks t bs)
+  tables-then bs =
+      chain-after (rowChecks t) (λ next. check 4 (t .n) (boundsGood t bs) (check 5 (t .m) (madeOnce t) next)) rows-then
+      (chain-after (check 4 (t .n) (boundsGood t bs)) (check 5 (t .m) (madeOnce t)) (check-then 4 (t .n) (boundsGood t bs)) (check-then 5 (t .m) (madeOnce t)))
 
   -- accepted: passed, and so was the next
-  pub tables-passed : sized t ≡ true → (next : Verdict) → tableChecks t next ≡ accepted → Sound t × (next ≡ accepted)
-  tables-passed fits next e =
+  pub tables-passed : (bs : Bounds) → sized t ≡ true → (next : Verdict) → tableChecks t bs next ≡ accepted → Sound t × BoundsGood bs × (next ≡ accepted)
+  tables-passed bs fits next e =
       let e₃ = check-rest 2 (t .m) (kindGood t) _ e in
       let e₃′ = check-rest 3 (t .m) (shapeGood t) _ e₃ in
       let e₄ = require-rest 3 (pred (t .m)) filled _ e₃′ in
-      let e₅ = check-rest 4 (t .m) (numberGood t) _ e₄ in (
+      let e₄′ = check-rest 4 (t .m) (numberGood t) _ e₄ in
+      let e₅ = check-rest 4 (t .n) (boundsGood t bs) _ e₄′ in (
         record {
           sized = fits;
           kinds = check-held 2 (t .m) (kindGood t) _ e;
@@ -51,18 +60,20 @@ module _ (t : Tables) where
           numbers = check-held 4 (t .m) (numberGood t) _ e₄;
           once = check-held 5 (t .m) (madeOnce t) _ e₅;
         },
+        check-held 4 (t .n) (boundsGood t bs) _ e₄′,
         check-rest 5 (t .m) (madeOnce t) _ e₅,
       )
 
   -- refused with a number above 5: passed, and the refusal is the next one's
-  pub tables-other : sized t ≡ true → (next : Verdict) (c p : ℕ) → 5 < c → tableChecks t next ≡ refused c p → Sound t × (next ≡ refused c p)
-  tables-other fits next c p l e =
+  pub tables-other : (bs : Bounds) → sized t ≡ true → (next : Verdict) (c p : ℕ) → 5 < c → tableChecks t bs next ≡ refused c p → Sound t × BoundsGood bs × (next ≡ refused c p)
+  tables-other bs fits next c p l e =
       let r₂ = check-other 2 (t .m) (kindGood t) _ c p (λ q. omega arith) e in
       let r₃ = check-other 3 (t .m) (shapeGood t) _ c p (λ q. omega arith) (r₂ .1) in
       let r₃′ = require-other 3 (pred (t .m)) filled _ c p (λ q. omega arith) (r₃ .1) in
       let r₄ = check-other 4 (t .m) (numberGood t) _ c p (λ q. omega arith) (r₃′ .1) in
-      let r₅ = check-other 5 (t .m) (madeOnce t) _ c p (λ q. omega arith) (r₄ .1) in
-      (record { sized = fits; kinds = r₂ .0; shapes = r₃ .0; whole = r₃′ .0; numbers = r₄ .0; once = r₅ .0 }, r₅ .1)
+      let r₄′ = check-other 4 (t .n) (boundsGood t bs) _ c p (λ q. omega arith) (r₄ .1) in
+      let r₅ = check-other 5 (t .m) (madeOnce t) _ c p (λ q. omega arith) (r₄′ .1) in
+      (record { sized = fits; kinds = r₂ .0; shapes = r₃ .0; whole = r₃′ .0; numbers = r₄ .0; once = r₅ .0 }, r₄′ .0, r₅ .1)
 
 -- ── what a row that passed them says ──
 pub record SoundRow (t : Tables) (r : ℕ) : Type 0 where

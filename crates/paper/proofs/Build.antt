@@ -6,14 +6,14 @@ use mathlib.Core.Bool.{true}
 use mathlib.Core.Path.{_≡_, refl, ap, sym, _∙_, subst}
 use Rattle.paper.specs.Lists.{firstFail}
 use Rattle.paper.specs.Tables.{Tables, net, inputsOf, ends}
-use Rattle.paper.specs.Checks.{Verdict, accepted, refused, check, sized, startGood, Sound}
+use Rattle.paper.specs.Checks.{Verdict, accepted, refused, check, sized, startAllowed, Sound}
 use Rattle.paper.specs.Calls.{numberOf, placeOf, BuildLent, BuildLeft, buildFits, startValues, buildVerdict, buildLeaves, build}
 use Rattle.paper.specs.Demands.{Circular, FivePassed, LeastUnnumbered, CircularExactly, BuildRight}
 use Rattle.paper.proofs.Lists.{clash, and-left}
 use Rattle.paper.proofs.Least.{firstFail-before, firstFail-fails}
 use Rattle.paper.proofs.Verdicts.{refused-not, check-stops, check-other, check-own, require-next, require-rest, require-held, require-other}
 use Rattle.paper.proofs.Sizes.{sized-facts}
-use Rattle.paper.proofs.Accept.{tables-next, tables-passed, tables-other, made-below, inputs-below}
+use Rattle.paper.proofs.Accept.{BoundsGood, tables-next, tables-passed, tables-other, made-below, inputs-below}
 use Rattle.paper.proofs.Lawful.{lawful}
 use Rattle.paper.proofs.Numbers.{number-right}
 use Rattle.paper.proofs.Circle.{circle-unable, fails-circle, circle-fails, able-has, has-able}
@@ -54,17 +54,20 @@ module _ (b : BuildLent) where
   pub record Five : Type 0 where
     pub fits : buildFits b ≡ true
     pub sound : Sound t
+    pub bounds : BoundsGood t (b .bounds)
 
   five : FivePassed b → Five
-  five e = let fits = require-held 1 0 (buildFits b) _ e in record { fits = fits; sound = tables-passed t (and-left (sized t) _ fits) accepted (require-rest 1 0 (buildFits b) _ e) .0 }
+  five e =
+      let fits = require-held 1 0 (buildFits b) _ e in let p = tables-passed t (b .bounds) (and-left (sized t) _ fits) accepted (require-rest 1 0 (buildFits b) _ e) in
+      record { fits = fits; sound = p .0; bounds = p .1 }
 
   five-passed : Five → FivePassed b
-  five-passed f = require-next 1 0 (buildFits b) _ (f .fits) ∙ tables-next t (f .sound) accepted
+  five-passed f = require-next 1 0 (buildFits b) _ (f .fits) ∙ tables-next t (b .bounds) (f .sound) (f .bounds) accepted
 
   -- once they are passed, 6 and 7 decide
-  late : Five → buildVerdict b ≡ check 6 (t .n) (ends t) (check 7 (t .n) (startGood t (startValues b)) accepted)
+  late : Five → buildVerdict b ≡ check 6 (t .n) (ends t) (check 7 (t .n) (startAllowed t (b .bounds) (startValues b)) accepted)
   unfolding buildVerdict
-  late f = require-next 1 0 (buildFits b) _ (f .fits) ∙ tables-next t (f .sound) _
+  late f = require-next 1 0 (buildFits b) _ (f .fits) ∙ tables-next t (b .bounds) (f .sound) (f .bounds) _
 
   -- ── refusal 6 ──
   circular-six : Five → Circular b → buildVerdict b ≡ refused 6 least
@@ -81,12 +84,12 @@ module _ (b : BuildLent) where
   unfolding buildVerdict
   six p e =
       let r₁ = require-other 1 0 (buildFits b) _ 6 p (λ q. omega arith) e in
-      let r₅ = tables-other t (and-left (sized t) _ (r₁ .0)) _ 6 p (omega arith) (r₁ .1) in
-      let r₆ = check-own 6 (t .n) (ends t) _ p later (r₅ .1) in
-      record { five = record { fits = r₁ .0; sound = r₅ .0 }; low = r₆ .0; place = r₆ .1 }
+      let r₅ = tables-other t (b .bounds) (and-left (sized t) _ (r₁ .0)) _ 6 p (omega arith) (r₁ .1) in
+      let r₆ = check-own 6 (t .n) (ends t) _ p later (r₅ .2) in
+      record { five = record { fits = r₁ .0; sound = r₅ .0; bounds = r₅ .1 }; low = r₆ .0; place = r₆ .1 }
     where
-      later : check 7 (t .n) (startGood t (startValues b)) accepted ≡ refused 6 p → ⊥
-      later h = refused-not (sym (check-other 7 (t .n) (startGood t (startValues b)) accepted 6 p (λ q. omega arith) h .1))
+      later : check 7 (t .n) (startAllowed t (b .bounds) (startValues b)) accepted ≡ refused 6 p → ⊥
+      later h = refused-not (sym (check-other 7 (t .n) (startAllowed t (b .bounds) (startValues b)) accepted 6 p (λ q. omega arith) h .1))
 
   -- the answer's number and place are the verdict's
   answer-six : numberOf (build b .answer) ≡ 6 → Six (placeOf (build b .answer))

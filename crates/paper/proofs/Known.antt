@@ -13,15 +13,15 @@ use Rattle.paper.specs.Lists.{any, between, nat, below}
 use Rattle.paper.specs.Formula.{blank}
 use Rattle.paper.specs.Net.{able, number, names}
 use Rattle.paper.specs.Tables.{Tables, net, isMade, inputsOf, ends, order}
-use Rattle.paper.specs.Checks.{Verdict, accepted, sized, startGood, storedGood, numbered, indexed, Move, movePairs, moveFits, movable, namedOnce, hasValue, moveChecks, Sound}
+use Rattle.paper.specs.Checks.{Verdict, accepted, check, sized, Bounds, startGood, storedGood, inBounds, startAllowed, storedAllowed, numbered, indexed, Move, movePairs, moveFits, movable, namedOnce, hasValue, pairWithin, moveChecks, Sound}
 use Rattle.paper.specs.Log.{Log, moveGood, logged, back, logFits, logGood}
-use Rattle.paper.specs.Calls.{Session, blanksAmong, BuildLent, indexFits, buildFits, startValues, buildVerdict, Model, modelFits, storedValues, modelChecks, Tried, trialFits, trialVerdict, Kept, keepFits, keepVerdict, latest, takeFits, takeVerdict}
+use Rattle.paper.specs.Calls.{Session, blanksAmong, BuildLent, indexFits, boundsFit, buildFits, startValues, buildVerdict, Model, modelFits, storedValues, modelChecks, Tried, trialFits, trialVerdict, Kept, keepFits, keepVerdict, latest, takeFits, takeVerdict}
 use Rattle.paper.proofs.Lists.{and-left, and-right, each, all-yes}
 use Rattle.paper.proofs.Least.{allBelow-at}
 use Rattle.paper.proofs.Verdicts.{check-rest, check-held, require-rest, require-held}
 use Rattle.paper.proofs.Scan.{any-append}
 use Rattle.paper.proofs.Sizes.{sized-facts}
-use Rattle.paper.proofs.Accept.{tables-passed, made-below, inputs-below}
+use Rattle.paper.proofs.Accept.{BoundsGood, tables-passed, made-below, inputs-below}
 use Rattle.paper.proofs.Lawful.{lawful}
 use Rattle.paper.proofs.Circle.{ends-everywhere}
 use Rattle.paper.proofs.Eight.{numbered-ends, numbered-numbers, numbered-order}
@@ -35,19 +35,24 @@ pub record BuildKnown (b : BuildLent) : Type 0 where
   pub fits : buildFits b ≡ true
   pub sound : Sound (b .tables)
   pub chains : (v : ℕ) → able (inputsOf (b .tables)) (b .tables .n) v ≡ true
+  pub bounds : BoundsGood (b .tables) (b .bounds)
   pub starts : (v : ℕ) → v < b .tables .n → startGood (b .tables) (startValues b) v ≡ true
+  pub inside : (v : ℕ) → v < b .tables .n → inBounds (b .tables) (b .bounds) (startValues b) v ≡ true
 
 pub build-known : (b : BuildLent) → buildVerdict b ≡ accepted → BuildKnown b
 unfolding buildVerdict
 build-known b e =
     let t = b .tables in
     let fits = require-held 1 0 (buildFits b) _ e in
-    let p = tables-passed t (and-left (sized t) _ fits) _ (require-rest 1 0 (buildFits b) _ e) in
+    let p = tables-passed t (b .bounds) (and-left (sized t) _ fits) _ (require-rest 1 0 (buildFits b) _ e) in
+    let seven = check-held 7 (t .n) (startAllowed t (b .bounds) (startValues b)) accepted (check-rest 6 (t .n) (ends t) _ (p .2)) in
     record {
       fits = fits;
       sound = p .0;
-      chains = sound-ends t (p .0) (check-held 6 (t .n) (ends t) _ (p .1));
-      starts = check-held 7 (t .n) (startGood t (startValues b)) accepted (check-rest 6 (t .n) (ends t) _ (p .1));
+      chains = sound-ends t (p .0) (check-held 6 (t .n) (ends t) _ (p .2));
+      bounds = p .1;
+      starts = λ v l. and-left _ _ (seven v l);
+      inside = λ v l. and-right (startGood t (startValues b) v) _ (seven v l);
     }
 
 -- ── the model of a trial, keep or taking back: checks 1 to 5, 8, 19 and 7 ──
@@ -61,7 +66,10 @@ pub record ModelKnown (w : Model) : Type 0 where
   pub order-is : take (w .tables .m) (w .order) ≡ order (w .tables)
   pub index-fits : indexFits (w .tables) (w .index) ≡ true
   pub index-is : indexed (w .tables) (w .index) ≡ true
+  pub bounds-fit : boundsFit (w .tables) (w .bounds) ≡ true
+  pub bounds : BoundsGood (w .tables) (w .bounds)
   pub stored : (v : ℕ) → v < w .tables .n → storedGood (w .tables) (storedValues w) v ≡ true
+  pub inside : (v : ℕ) → v < w .tables .n → inBounds (w .tables) (w .bounds) (storedValues w) v ≡ true
 
 -- the record has the number of its blank values
 abbrev pub BlanksKnown : ℕ → Model → Type 0
@@ -70,12 +78,13 @@ BlanksKnown blanks w = blanks ≡ blanksAmong (w .tables .n) (storedValues w)
 pub model-known : (w : Model) (blanks : ℕ) (next : Verdict) → modelFits w ≡ true → modelChecks w blanks next ≡ accepted → ModelKnown w × BlanksKnown blanks w × (next ≡ accepted)
 model-known w blanks next fits e =
     let t = w .tables in
-    let p = tables-passed t (and-left (sized t) _ fits) _ e in
-    let eight = require-held 8 0 (numbered t (w .numbers) (w .order)) _ (p .1) in
-    let more = require-rest 8 0 (numbered t (w .numbers) (w .order)) _ (p .1) in
+    let p = tables-passed t (w .bounds) (and-left (sized t) _ fits) _ e in
+    let eight = require-held 8 0 (numbered t (w .numbers) (w .order)) _ (p .2) in
+    let more = require-rest 8 0 (numbered t (w .numbers) (w .order)) _ (p .2) in
     let count = require-rest 8 0 (indexed t (w .index)) _ more in
     let right = eqb blanks (blanksAmong (t .n) (storedValues w)) in
     let seven = require-rest 19 0 right _ count in
+    let allowed = check-held 7 (t .n) (storedAllowed t (w .bounds) (storedValues w)) next seven in
     let long = each _ (and-right (sized t) _ fits) in (
       record {
         sound = p .0;
@@ -87,14 +96,17 @@ model-known w blanks next fits e =
         order-is = numbered-order t (w .numbers) (w .order) eight (leb-true (t .m) (length (w .order)) (long .1 .0));
         index-fits = long .1 .1 .1 .0;
         index-is = require-held 8 0 (indexed t (w .index)) _ more;
-        stored = check-held 7 (t .n) (storedGood t (storedValues w)) next seven;
+        bounds-fit = long .1 .1 .1 .1 .0;
+        bounds = p .1;
+        stored = λ v l. and-left _ _ (allowed v l);
+        inside = λ v l. and-right (storedGood t (storedValues w) v) _ (allowed v l);
       },
       eqb-true blanks (blanksAmong (t .n) (storedValues w)) (require-held 19 0 right _ count),
-      check-rest 7 (t .n) (storedGood t (storedValues w)) next seven,
+      check-rest 7 (t .n) (storedAllowed t (w .bounds) (storedValues w)) next seven,
     )
 
--- ── a move: checks 1 and 10 to 12 ──
-pub record MoveKnown (t : Tables) (mv : Move) : Type 0 where
+-- ── a move: checks 1, 10 to 12 and 17 ──
+pub record MoveKnown (t : Tables) (bs : Bounds) (mv : Move) : Type 0 where
   pub few : mv .pairs ≤ 64
   pub vars-long : mv .pairs ≤ length (mv .vars)
   pub values-long : mv .pairs ≤ length (mv .values)
@@ -102,11 +114,14 @@ pub record MoveKnown (t : Tables) (mv : Move) : Type 0 where
   pub search : (i : ℕ) → i < mv .pairs → isMade t (nat (mv .vars) i) ≡ false
   pub once : (i : ℕ) → i < mv .pairs → any (eqb (nat (mv .vars) i)) (take i (mv .vars)) ≡ false
   pub full : (i : ℕ) → i < mv .pairs → eqZ (getD (mv .values) i (pos 0)) blank ≡ false
+  pub inside : (i : ℕ) → i < mv .pairs → pairWithin mv bs i ≡ true
 
-pub move-known : (t : Tables) (mv : Move) (next : Verdict) → moveFits mv ≡ true → moveChecks mv t next ≡ accepted → MoveKnown t mv × (next ≡ accepted)
-move-known t mv next fits e =
+pub move-known : (t : Tables) (bs : Bounds) (mv : Move) (next : Verdict) → moveFits mv ≡ true → moveChecks mv t (check 17 (mv .pairs) (pairWithin mv bs) next) ≡ accepted
+    → MoveKnown t bs mv × (next ≡ accepted)
+move-known t bs mv next fits e =
     let e₁₁ = check-rest 10 (mv .pairs) (movable mv t) _ e in
     let e₁₂ = check-rest 11 (mv .pairs) (namedOnce mv) _ e₁₁ in
+    let e₁₇ = check-rest 12 (mv .pairs) (hasValue mv) _ e₁₂ in
     let long = each _ fits in
     let e₁₀ = check-held 10 (mv .pairs) (movable mv t) _ e in (
       record {
@@ -116,9 +131,10 @@ move-known t mv next fits e =
         low = λ i l. ltb-true (nat (mv .vars) i) (t .n) (and-left (ltb (nat (mv .vars) i) (t .n)) _ (e₁₀ i l));
         search = λ i l. not-true (isMade t (nat (mv .vars) i)) (and-right (ltb (nat (mv .vars) i) (t .n)) _ (e₁₀ i l));
         once = λ i l. not-true (any (eqb (nat (mv .vars) i)) (take i (mv .vars))) (check-held 11 (mv .pairs) (namedOnce mv) _ e₁₁ i l);
-        full = λ i l. not-true (eqZ (getD (mv .values) i (pos 0)) blank) (check-held 12 (mv .pairs) (hasValue mv) next e₁₂ i l);
+        full = λ i l. not-true (eqZ (getD (mv .values) i (pos 0)) blank) (check-held 12 (mv .pairs) (hasValue mv) _ e₁₂ i l);
+        inside = check-held 17 (mv .pairs) (pairWithin mv bs) next e₁₇;
       },
-      check-rest 12 (mv .pairs) (hasValue mv) next e₁₂,
+      check-rest 17 (mv .pairs) (pairWithin mv bs) next e₁₇,
     )
 
 -- a test that some f i below p passes is passed by one
@@ -136,8 +152,8 @@ below-has test f (suc p) e = go (any test (below f p)) refl (sym (any-append tes
         or-last false z = z
 
 -- so an accepted move names variables of the model
-pub named-below : (t : Tables) (mv : Move) → MoveKnown t mv → (v : ℕ) → names (movePairs mv) v ≡ true → v < t .n
-named-below t mv k v e =
+pub named-below : (t : Tables) (bs : Bounds) (mv : Move) → MoveKnown t bs mv → (v : ℕ) → names (movePairs mv) v ≡ true → v < t .n
+named-below t bs mv k v e =
     let (i, l, r) = below-has (λ (p : ℕ × ℤ). eqb (p .0) v) (λ i. (nat (mv .vars) i, getD (mv .values) i (pos 0))) (mv .pairs) e in
     rw (eqb-true (nat (mv .vars) i) v r) at (k .low i l)
 
@@ -145,7 +161,7 @@ named-below t mv k v e =
 pub record TrialKnown (w : Model) (c : Tried) : Type 0 where
   pub model : ModelKnown w
   pub route : between 1 (c .route) 3 ≡ true
-  pub move : MoveKnown (w .tables) (c .move)
+  pub move : MoveKnown (w .tables) (w .bounds) (c .move)
   pub few : c .asked ≤ 32
   pub asked : (i : ℕ) → i < c .asked → nat (c .askedVars) i < w .tables .n
 
@@ -155,7 +171,7 @@ trial-known s w c e =
     let n = w .tables .n in
     let fits = each _ (require-held 1 0 (trialFits w c) _ e) in
     let a = model-known w (s .blanks) _ (fits .0) (require-rest 1 0 (trialFits w c) _ e) in
-    let m = move-known (w .tables) (c .move) _ (fits .1 .0) (require-rest 9 0 (between 1 (c .route) 3) _ (a .2)) in
+    let m = move-known (w .tables) (w .bounds) (c .move) _ (fits .1 .0) (require-rest 9 0 (between 1 (c .route) 3) _ (a .2)) in
     record {
       model = a .0;
       route = require-held 9 0 (between 1 (c .route) 3) _ (a .2);
@@ -182,15 +198,15 @@ pub long-fits : (l : Log) → Long l → logFits l ≡ true
 long-fits l long = all-yes _ (le-leb 65 (length (l .sizes)) (long .in-sizes), (le-leb 4096 (length (l .vars)) (long .in-vars), (le-leb 4096 (length (l .values)) (long .in-values), tt)))
 
 -- it has room for 64 moves and not more than that or than the number kept, and each passes the checks of a move
-pub record LogKnown (l : Log) (t : Tables) (kept : ℕ) : Type 0 where
+pub record LogKnown (l : Log) (t : Tables) (bs : Bounds) (kept : ℕ) : Type 0 where
   pub fits : logFits l ≡ true
   pub few : logged l ≤ 64
   pub low : logged l ≤ kept
-  pub moves : (k : ℕ) → k < logged l → MoveKnown t (back l k)
+  pub moves : (k : ℕ) → k < logged l → MoveKnown t bs (back l k)
 
--- what is good as a logged move has passed checks 10 to 12
-pub good-known : (t : Tables) (mv : Move) → moveGood t mv ≡ true → (mv .pairs ≤ 64 → (mv .pairs ≤ length (mv .vars)) × (mv .pairs ≤ length (mv .values))) → MoveKnown t mv
-good-known t mv good long =
+-- what is good as a logged move has passed checks 10 to 12 and 17
+pub good-known : (t : Tables) (bs : Bounds) (mv : Move) → moveGood t bs mv ≡ true → (mv .pairs ≤ 64 → (mv .pairs ≤ length (mv .vars)) × (mv .pairs ≤ length (mv .values))) → MoveKnown t bs mv
+good-known t bs mv good long =
     let held = each _ good in
     let most = leb-true (mv .pairs) 64 (held .0) in
     let ten-at = allBelow-at (movable mv t) (mv .pairs) (held .1 .0) in
@@ -202,37 +218,38 @@ good-known t mv good long =
       search = λ i l. not-true (isMade t (nat (mv .vars) i)) (and-right (ltb (nat (mv .vars) i) (t .n)) _ (ten-at i l));
       once = λ i l. not-true (any (eqb (nat (mv .vars) i)) (take i (mv .vars))) (allBelow-at (namedOnce mv) (mv .pairs) (held .1 .1 .0) i l);
       full = λ i l. not-true (eqZ (getD (mv .values) i (pos 0)) blank) (allBelow-at (hasValue mv) (mv .pairs) (held .1 .1 .1 .0) i l);
+      inside = allBelow-at (pairWithin mv bs) (mv .pairs) (held .1 .1 .1 .1 .0);
     }
 
-pub log-known : (l : Log) (t : Tables) (kept : ℕ) → logFits l ≡ true → logGood l t kept ≡ true → LogKnown l t kept
-log-known l t kept fits good =
+pub log-known : (l : Log) (t : Tables) (bs : Bounds) (kept : ℕ) → logFits l ≡ true → logGood l t bs kept ≡ true → LogKnown l t bs kept
+log-known l t bs kept fits good =
     let held = each _ good in let long = fits-long l fits in
     let most = leb-true (logged l) 64 (held .0) in
     record {
       fits = fits;
       few = most;
       low = leb-true (logged l) kept (held .1 .0);
-      moves = λ k h. good-known t (back l k) (allBelow-at (λ j. moveGood t (back l j)) (logged l) (held .1 .1 .0) k h)
+      moves = λ k h. good-known t bs (back l k) (allBelow-at (λ j. moveGood t bs (back l j)) (logged l) (held .1 .1 .0) k h)
           (λ p. (simp length-drop (omega arith), simp length-drop (omega arith)));
     }
 
 pub record KeepKnown (s : Session) (l : Log) (w : Model) (c : Kept) : Type 0 where
   pub model : ModelKnown w
   pub blanks : BlanksKnown (s .blanks) w
-  pub move : MoveKnown (w .tables) (c .move)
-  pub log : LogKnown l (w .tables) (s .kept)
+  pub move : MoveKnown (w .tables) (w .bounds) (c .move)
+  pub log : LogKnown l (w .tables) (w .bounds) (s .kept)
 
 pub keep-known : (s : Session) (l : Log) (w : Model) (c : Kept) → keepVerdict s l w c ≡ accepted → KeepKnown s l w c
 unfolding keepVerdict
 keep-known s l w c e =
     let fits = each _ (require-held 1 0 (keepFits l w c) _ e) in
     let a = model-known w (s .blanks) _ (fits .0) (require-rest 1 0 (keepFits l w c) _ e) in
-    let b = move-known (w .tables) (c .move) _ (fits .1 .0) (a .2) in
-    record { model = a .0; blanks = a .1; move = b .0; log = log-known l (w .tables) (s .kept) (fits .1 .1 .1 .0) (require-held 16 0 (logGood l (w .tables) (s .kept)) accepted (b .1)) }
+    let b = move-known (w .tables) (w .bounds) (c .move) _ (fits .1 .0) (a .2) in
+    record { model = a .0; blanks = a .1; move = b .0; log = log-known l (w .tables) (w .bounds) (s .kept) (fits .1 .1 .1 .0) (require-held 16 0 (logGood l (w .tables) (w .bounds) (s .kept)) accepted (b .1)) }
 
 pub record TakeKnown (s : Session) (l : Log) (w : Model) (flags : List ℕ) : Type 0 where
   pub model : ModelKnown w
-  pub log : LogKnown l (w .tables) (s .kept)
+  pub log : LogKnown l (w .tables) (w .bounds) (s .kept)
   pub some : 0 < logged l
 
 pub take-known : (s : Session) (l : Log) (w : Model) (flags : List ℕ) → takeVerdict s l w flags ≡ accepted → TakeKnown s l w flags
@@ -240,13 +257,13 @@ unfolding takeVerdict
 take-known s l w flags e =
     let fits = each _ (require-held 1 0 (takeFits l w flags) _ e) in
     let a = model-known w (s .blanks) _ (fits .0) (require-rest 1 0 (takeFits l w flags) _ e) in
-    let good = logGood l (w .tables) (s .kept) in
+    let good = logGood l (w .tables) (w .bounds) (s .kept) in
     record {
       model = a .0;
-      log = log-known l (w .tables) (s .kept) (fits .1 .1 .0) (require-held 16 0 good _ (a .2));
+      log = log-known l (w .tables) (w .bounds) (s .kept) (fits .1 .1 .0) (require-held 16 0 good _ (a .2));
       some = ltb-true 0 (logged l) (require-held 15 0 (ltb 0 (logged l)) accepted (require-rest 16 0 good _ (a .2)));
     }
 
 -- the move that takes the latest back passes the checks of a move
-pub latest-known : (s : Session) (l : Log) (w : Model) (flags : List ℕ) → TakeKnown s l w flags → MoveKnown (w .tables) (latest l flags .move)
+pub latest-known : (s : Session) (l : Log) (w : Model) (flags : List ℕ) → TakeKnown s l w flags → MoveKnown (w .tables) (w .bounds) (latest l flags .move)
 latest-known s l w flags known = let some = known .some in known .log .moves (pred (logged l)) (omega arith)

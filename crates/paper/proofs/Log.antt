@@ -15,7 +15,7 @@ use Rattle.paper.specs.Lists.{any, every, nat, firstFail, below, over}
 use Rattle.paper.specs.Formula.{blank}
 use Rattle.paper.specs.Net.{Values, moved}
 use Rattle.paper.specs.Tables.{Tables, isMade}
-use Rattle.paper.specs.Checks.{Move, movePairs, movable, namedOnce, hasValue}
+use Rattle.paper.specs.Checks.{Bounds, within, Move, movePairs, movable, namedOnce, hasValue, pairWithin}
 use Rattle.paper.specs.Moves.{pairAt}
 use Rattle.paper.specs.Log.{Log, logIn, moveGood, slid, laidAt, logged, back, logFits, logGood, roomMade, noted, dropped}
 use Rattle.paper.specs.Demands.{rest, applied}
@@ -55,8 +55,8 @@ bare-same a b p v w = λ i. record { pairs = p i; vars = (ap (λ n. take n (a .v
 bare-pairs : (mv : Move) → movePairs (bare mv) ≡ movePairs mv
 bare-pairs mv = below-same (pairAt (bare mv)) (pairAt mv) (mv .pairs) (λ i l. pair-same (getD-take (mv .pairs) (mv .vars) i 0 l) (getD-take (mv .pairs) (mv .values) i (pos 0) l))
 
-bare-good : (t : Tables) (mv : Move) → moveGood t (bare mv) ≡ moveGood t mv
-bare-good t mv = λ i. every (leb (mv .pairs) 64 ∷ eqb (ten i) (mv .pairs) ∷ eqb (eleven i) (mv .pairs) ∷ eqb (twelve i) (mv .pairs) ∷ [])
+bare-good : (t : Tables) (bs : Bounds) (mv : Move) → moveGood t bs (bare mv) ≡ moveGood t bs mv
+bare-good t bs mv = λ i. every (leb (mv .pairs) 64 ∷ eqb (ten i) (mv .pairs) ∷ eqb (eleven i) (mv .pairs) ∷ eqb (twelve i) (mv .pairs) ∷ eqb (seventeen i) (mv .pairs) ∷ [])
   where
     var-at : (k : ℕ) → k < mv .pairs → nat (take (mv .pairs) (mv .vars)) k ≡ nat (mv .vars) k
     var-at k l = getD-take (mv .pairs) (mv .vars) k 0 l
@@ -71,27 +71,34 @@ bare-good t mv = λ i. every (leb (mv .pairs) 64 ∷ eqb (ten i) (mv .pairs) ∷
     twelve : firstFail (hasValue (bare mv)) (mv .pairs) ≡ firstFail (hasValue mv) (mv .pairs)
     twelve = firstFail-same (hasValue (bare mv)) (hasValue mv) (mv .pairs) (λ k l. ap (λ z. not (eqZ z blank)) (getD-take (mv .pairs) (mv .values) k (pos 0) l))
 
+    seventeen : firstFail (pairWithin (bare mv) bs) (mv .pairs) ≡ firstFail (pairWithin mv bs) (mv .pairs)
+    seventeen = firstFail-same (pairWithin (bare mv) bs) (pairWithin mv bs) (mv .pairs) (λ k l. ap₂ (within bs) (var-at k l) (getD-take (mv .pairs) (mv .values) k (pos 0) l))
+
 same-pairs : (a b : Move) → bare a ≡ bare b → movePairs a ≡ movePairs b
 same-pairs a b e = sym (bare-pairs a) ∙ ap movePairs e ∙ bare-pairs b
 
-same-good : (t : Tables) (a b : Move) → bare a ≡ bare b → moveGood t b ≡ true → moveGood t a ≡ true
-same-good t a b e h = sym (bare-good t a) ∙ ap (moveGood t) e ∙ bare-good t b ∙ h
+same-good : (t : Tables) (bs : Bounds) (a b : Move) → bare a ≡ bare b → moveGood t bs b ≡ true → moveGood t bs a ≡ true
+same-good t bs a b e h = sym (bare-good t bs a) ∙ ap (moveGood t bs) e ∙ bare-good t bs b ∙ h
 
--- a move that passes its checks is one that a log may hold, and so is the one that takes it back if no value before it is blank
-module _ (t : Tables) (mv : Move) (known : MoveKnown t mv) where
-  good-with : (values : List ℤ) → ((i : ℕ) → i < mv .pairs → eqZ (getD values i (pos 0)) blank ≡ false) → moveGood t (record { pairs = mv .pairs; vars = mv .vars; values = values }) ≡ true
-  good-with values full =
-      let ten = below-all (movable mv t) (mv .pairs) (movable-at t mv known) in
+-- a move that passes its checks is one that a log may hold, and so is the one that takes it back if no value before it is blank or outside
+module _ (t : Tables) (bs : Bounds) (mv : Move) (known : MoveKnown t bs mv) where
+  good-with : (values : List ℤ) → ((i : ℕ) → i < mv .pairs → eqZ (getD values i (pos 0)) blank ≡ false) → ((i : ℕ) → i < mv .pairs → within bs (nat (mv .vars) i) (getD values i (pos 0)) ≡ true)
+      → moveGood t bs (record { pairs = mv .pairs; vars = mv .vars; values = values }) ≡ true
+  good-with values full inside =
+      let ten = below-all (movable mv t) (mv .pairs) (movable-at t bs mv known) in
       let eleven = below-all (namedOnce mv) (mv .pairs) (λ i l. ap not (known .once i l)) in
       let twelve = below-all (λ i. not (eqZ (getD values i (pos 0)) blank)) (mv .pairs) (λ i l. ap not (full i l)) in
-      all-yes _ (le-leb (mv .pairs) 64 (known .few), (ten, (eleven, (twelve, tt))))
+      let seventeen = below-all (λ i. within bs (nat (mv .vars) i) (getD values i (pos 0))) (mv .pairs) inside in
+      all-yes _ (le-leb (mv .pairs) 64 (known .few), (ten, (eleven, (twelve, (seventeen, tt)))))
 
-  known-good : moveGood t mv ≡ true
-  known-good = good-with (mv .values) (known .full)
+  known-good : moveGood t bs mv ≡ true
+  known-good = good-with (mv .values) (known .full) (known .inside)
 
-  undo-good : (old : Values) → ((i : ℕ) → i < mv .pairs → eqZ (old (nat (mv .vars) i)) blank ≡ false) → moveGood t (undo old mv) ≡ true
-  undo-good old full = let f : ℕ → ℤ = λ i. old (nat (mv .vars) i) in
+  undo-good : (old : Values) → ((i : ℕ) → i < mv .pairs → eqZ (old (nat (mv .vars) i)) blank ≡ false) → ((i : ℕ) → i < mv .pairs → within bs (nat (mv .vars) i) (old (nat (mv .vars) i)) ≡ true)
+      → moveGood t bs (undo old mv) ≡ true
+  undo-good old full inside = let f : ℕ → ℤ = λ i. old (nat (mv .vars) i) in
       good-with (below f (mv .pairs)) (λ i l. ap (λ z. eqZ z blank) (getD-below f (mv .pairs) i (pos 0) l) ∙ full i l)
+      (λ i l. ap (within bs (nat (mv .vars) i)) (getD-below f (mv .pairs) i (pos 0) l) ∙ inside i l)
 
 -- ── what a log undoes ──
 -- moves 0 to n - 1 of u take the latest of a history back: the last of them its head, and each other the one before
@@ -121,8 +128,8 @@ module _ (s : Values) where
   )
 
 -- ── a log without its latest move, or with one more ──
-pub good-log : (l : Log) (t : Tables) (kept : ℕ) → logged l ≤ 64 → logged l ≤ kept → ((k : ℕ) → k < logged l → moveGood t (back l k) ≡ true) → logGood l t kept ≡ true
-good-log l t kept few low good = all-yes _ (le-leb (logged l) 64 few, (le-leb (logged l) kept low, (below-all (λ k. moveGood t (back l k)) (logged l) good, tt)))
+pub good-log : (l : Log) (t : Tables) (bs : Bounds) (kept : ℕ) → logged l ≤ 64 → logged l ≤ kept → ((k : ℕ) → k < logged l → moveGood t bs (back l k) ≡ true) → logGood l t bs kept ≡ true
+good-log l t bs kept few low good = all-yes _ (le-leb (logged l) 64 few, (le-leb (logged l) kept low, (below-all (λ k. moveGood t bs (back l k)) (logged l) good, tt)))
 
 -- where the next move is noted
 abbrev place : Log → ℕ
@@ -139,7 +146,7 @@ record Made (l m : Log) (k : ℕ) : Type 0 where
   all : logged l ≡ k + d
   moves : (j : ℕ) → j < k → bare (back m j) ≡ bare (back l (j + d))
 
-module _ (t : Tables) (l : Log) (kept : ℕ) (known : LogKnown l t kept) where
+module _ (t : Tables) (bs : Bounds) (l : Log) (kept : ℕ) (known : LogKnown l t bs kept) where
   -- ── without the latest ──
   pub dropped-logged : logged (dropped l) ≡ pred (logged l)
   dropped-logged = let long = fits-long l (known .fits) in getD-set-same (l .sizes) 0 (pred (logged l)) 0 (omega arith)
@@ -147,10 +154,10 @@ module _ (t : Tables) (l : Log) (kept : ℕ) (known : LogKnown l t kept) where
   dropped-back : (k : ℕ) → back (dropped l) k ≡ back l k
   dropped-back k = ap (λ p. record { pairs = p; vars = drop (64 * k) (l .vars); values = drop (64 * k) (l .values) }) (getD-set-other (l .sizes) 0 (suc k) (pred (logged l)) 0 (λ e. omega arith))
 
-  pub dropped-good : (fewer : ℕ) → pred (logged l) ≤ fewer → logGood (dropped l) t fewer ≡ true
+  pub dropped-good : (fewer : ℕ) → pred (logged l) ≤ fewer → logGood (dropped l) t bs fewer ≡ true
   dropped-good fewer h =
       let few = known .few in let is = dropped-logged in
-      good-log (dropped l) t fewer (omega arith) (omega arith) (λ k low. ap (moveGood t) (dropped-back k) ∙ known-good t (back l k) (known .moves k (omega arith)))
+      good-log (dropped l) t bs fewer (omega arith) (omega arith) (λ k low. ap (moveGood t bs) (dropped-back k) ∙ known-good t bs (back l k) (known .moves k (omega arith)))
 
   pub dropped-undoes : (s : Values) (moves : List (List (ℕ × ℤ))) → Undoes s (back l) (pred (logged l)) moves → Undoes s (back (dropped l)) (logged (dropped l)) moves
   dropped-undoes s moves h = undoes-later s (back l) (back (dropped l)) 0 (logged (dropped l)) (pred (logged l)) moves
@@ -184,7 +191,7 @@ module _ (t : Tables) (l : Log) (kept : ℕ) (known : LogKnown l t kept) where
       go false e = slid-made (ltb-false (logged l) 64 e)
 
   -- ── with a move as its latest, over the values before it ──
-  module _ (old : Values) (mv : Move) (move : MoveKnown t mv) where
+  module _ (old : Values) (mv : Move) (move : MoveKnown t bs mv) where
     abbrev k : ℕ
     k = place l
 
@@ -217,16 +224,17 @@ module _ (t : Tables) (l : Log) (kept : ℕ) (known : LogKnown l t kept) where
         (laid-before (m .values) (64 * k) (mv .pairs) before (64 * j) p (omega arith) (omega arith))
         ∙ room-made .moves j low
 
-    pub noted-good : (more : ℕ) → suc (min (logged l) 63) ≤ more → ((i : ℕ) → i < mv .pairs → eqZ (old (nat (mv .vars) i)) blank ≡ false) → logGood (noted l old mv) t more ≡ true
-    noted-good more h full = let is = noted-logged in good-log (noted l old mv) t more (omega arith) (omega arith) (λ j low. go j (ltb j k) refl low)
+    pub noted-good : (more : ℕ) → suc (min (logged l) 63) ≤ more → ((i : ℕ) → i < mv .pairs → eqZ (old (nat (mv .vars) i)) blank ≡ false)
+        → ((i : ℕ) → i < mv .pairs → within bs (nat (mv .vars) i) (old (nat (mv .vars) i)) ≡ true) → logGood (noted l old mv) t bs more ≡ true
+    noted-good more h full inside = let is = noted-logged in good-log (noted l old mv) t bs more (omega arith) (omega arith) (λ j low. go j (ltb j k) refl low)
       where
-        go : (j : ℕ) (x : Bool) → ltb j (place l) ≡ x → j < logged (noted l old mv) → moveGood t (back (noted l old mv) j) ≡ true
+        go : (j : ℕ) (x : Bool) → ltb j (place l) ≡ x → j < logged (noted l old mv) → moveGood t bs (back (noted l old mv) j) ≡ true
         go j true e low =
             let h = ltb-true j k e in let all = room-made .all in let i = j + room-made .d in
-            same-good t (back (noted l old mv) j) (back l i) (noted-earlier j h) (known-good t (back l i) (known .moves i (omega arith)))
+            same-good t bs (back (noted l old mv) j) (back l i) (noted-earlier j h) (known-good t bs (back l i) (known .moves i (omega arith)))
         go j false e low =
             let h = ltb-false j k e in let is = noted-logged in let last : j ≡ k = omega arith in
-            subst⁻¹ (λ i. moveGood t (back (noted l old mv) i) ≡ true) last (same-good t (back (noted l old mv) k) (undo old mv) noted-latest (undo-good t mv move old full))
+            subst⁻¹ (λ i. moveGood t bs (back (noted l old mv) i) ≡ true) last (same-good t bs (back (noted l old mv) k) (undo old mv) noted-latest (undo-good t bs mv move old full inside))
 
     pub noted-undoes : (s : Values) (moves : List (List (ℕ × ℤ))) → ((i : ℕ) → i < mv .pairs → old (nat (mv .vars) i) ≡ applied s moves (nat (mv .vars) i))
         → Undoes s (back l) (logged l) moves → Undoes s (back (noted l old mv)) (logged (noted l old mv)) (movePairs mv ∷ moves)

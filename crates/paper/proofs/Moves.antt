@@ -16,7 +16,7 @@ use Rattle.paper.specs.Lists.{any, nat, below, over}
 use Rattle.paper.specs.Formula.{blank}
 use Rattle.paper.specs.Net.{Net, Values, Route, input-to-output, able, new, moved, names}
 use Rattle.paper.specs.Tables.{Tables, net, isMade, valuesIn}
-use Rattle.paper.specs.Checks.{accepted, numbered, indexed, storedGood, Move, movePairs, moveFits, movable, namedOnce, hasValue}
+use Rattle.paper.specs.Checks.{accepted, Bounds, within, numbered, indexed, storedGood, inBounds, storedAllowed, Move, movePairs, moveFits, movable, namedOnce, hasValue, pairWithin}
 use Rattle.paper.specs.Log.{Log, logFits, logGood}
 use Rattle.paper.specs.Calls.{Session, blanksAmong, newValues, Model, modelFits, storedValues, Kept, keptBlanks, keptStored, keepFits, keepVerdict}
 use Rattle.paper.proofs.Lists.{clash, eqb-self, all-yes, any-at}
@@ -127,7 +127,7 @@ taken-back mv old s same = fun-ext (λ v. go v (names (movePairs (undo old mv)) 
         let h = named-has mv s v e in
         clash (subst (λ (p : ℕ × ℤ). names (movePairs (undo old mv)) (p .0) ≡ true) (h .is) (names-place (pairAt (undo old mv)) (mv .pairs) (h .place) (h .low))) q))
 
-module _ (t : Tables) (mv : Move) (known : MoveKnown t mv) where
+module _ (t : Tables) (bs : Bounds) (mv : Move) (known : MoveKnown t bs mv) where
   pub movable-at : (i : ℕ) → i < mv .pairs → movable mv t i ≡ true
   movable-at i l = ap₂ _&&_ (lt-ltb (nat (mv .vars) i) (t .n) (known .low i l)) (ap not (known .search i l))
 
@@ -151,7 +151,7 @@ module _ (t : Tables) (mv : Move) (known : MoveKnown t mv) where
   at-place s i l = moved-at (pairAt mv) (mv .pairs) single s i l
 
 -- ── two moves ──
-module _ (t : Tables) (a b : Move) (known-a : MoveKnown t a) (known-b : MoveKnown t b) (apart : Apart a b) where
+module _ (t : Tables) (bs : Bounds) (a b : Move) (known-a : MoveKnown t bs a) (known-b : MoveKnown t bs b) (apart : Apart a b) where
   apart-names : (v : ℕ) → names (movePairs a) v ≡ true → names (movePairs b) v ≡ true → ⊥
   apart-names v e q =
       let p = named-has a (λ u. pos 0) v e in let r = named-has b (λ u. pos 0) v q in
@@ -172,10 +172,10 @@ module _ (t : Tables) (a b : Move) (known-a : MoveKnown t a) (known-b : MoveKnow
         go (inr h) = subst P (h .is) (q (h .place) (h .low))
 
     both-at : (s : Values) (i : ℕ) → i < one .pairs → moved (movePairs a) (moved (movePairs b) s) (pairAt one i .0) ≡ pairAt one i .1
-    both-at s = each-pair (λ p. moved (movePairs a) (moved (movePairs b) s) (p .0) ≡ p .1) (at-place t a known-a (moved (movePairs b) s)) (λ i l.
+    both-at s = each-pair (λ p. moved (movePairs a) (moved (movePairs b) s) (p .0) ≡ p .1) (at-place t bs a known-a (moved (movePairs b) s)) (λ i l.
         unnamed (movePairs a) (moved (movePairs b) s) (nat (b .vars) i)
         (not-so (names (movePairs a) (nat (b .vars) i)) (λ e. apart-names (nat (b .vars) i) e (names-place (pairAt b) (b .pairs) i l)))
-        ∙ at-place t b known-b s i l)
+        ∙ at-place t bs b known-b s i l)
 
     -- a move all of whose pairs are among the one's names no other variable
     among : (mv : Move) → ((i : ℕ) → i < mv .pairs → Has one (pairAt mv i)) → (v : ℕ) → names (movePairs one) v ≡ false → names (movePairs mv) v ≡ false
@@ -198,7 +198,7 @@ module _ (t : Tables) (a b : Move) (known-a : MoveKnown t a) (known-b : MoveKnow
     same-pair i k l h e = let s : Values = λ u. pos 0 in
         pair-same e (sym (both-at s i l) ∙ ap (moved (movePairs a) (moved (movePairs b) s)) e ∙ both-at s k h)
 
-    pub one-known : MoveKnown t one
+    pub one-known : MoveKnown t bs one
     one-known = record {
       few = all .few;
       vars-long = all .vars-long;
@@ -212,6 +212,7 @@ module _ (t : Tables) (a b : Move) (known-a : MoveKnown t a) (known-b : MoveKnow
           ap (eqb (nat (one .vars) i)) (getD-take i (one .vars) k 0 low)
           ∙ ne-eqb (nat (one .vars) i) (nat (one .vars) k) (λ e. all .once k i low l (same-pair k i (omega arith) l (sym e))));
       full = each-pair (λ p. eqZ (p .1) blank ≡ false) (known-a .full) (known-b .full);
+      inside = each-pair (λ p. within bs (p .0) (p .1) ≡ true) (known-a .inside) (known-b .inside);
     }
 
   -- ── the pairs of the first and then those of the second ──
@@ -258,33 +259,34 @@ module _ (t : Tables) (a b : Move) (known-a : MoveKnown t a) (known-b : MoveKnow
           → (x : Bool) → ltb i (a .pairs) ≡ x → (y : Bool) → ltb k (a .pairs) ≡ y → ⊥
       twice i k l h e x q true r =
           let y = ltb-true k (a .pairs) r in let z : i < a .pairs = omega arith in
-          earlier t a known-a i k l y (sym (ap (λ (p : ℕ × ℤ). p .0) (first-at i z)) ∙ e ∙ ap (λ (p : ℕ × ℤ). p .0) (first-at k y))
+          earlier t bs a known-a i k l y (sym (ap (λ (p : ℕ × ℤ). p .0) (first-at i z)) ∙ e ∙ ap (λ (p : ℕ × ℤ). p .0) (first-at k y))
       twice i k l h e true q false r =
           let z = ltb-true i (a .pairs) q in let y = ltb-false k (a .pairs) r in
           apart .differ i (k - a .pairs) z (omega arith) (sym (ap (λ (p : ℕ × ℤ). p .0) (first-at i z)) ∙ e ∙ ap (λ (p : ℕ × ℤ). p .0) (later-at k y h))
       twice i k l h e false q false r =
           let z = ltb-false i (a .pairs) q in let y = ltb-false k (a .pairs) r in
-          earlier t b known-b (i - a .pairs) (k - a .pairs) (omega arith) (omega arith)
+          earlier t bs b known-b (i - a .pairs) (k - a .pairs) (omega arith) (omega arith)
           (sym (ap (λ (p : ℕ × ℤ). p .0) (later-at i z (omega arith))) ∙ e ∙ ap (λ (p : ℕ × ℤ). p .0) (later-at k y h))
 
 -- ── what is accepted ──
 -- a keep whose model, move and log pass their checks
-pub keep-accepts : (s : Session) (g : Log) (w : Model) (c : Kept) → ModelKnown w → BlanksKnown (s .blanks) w → MoveKnown (w .tables) (c .move) → w .tables .n ≤ length (c .flags)
-    → logFits g ≡ true → logGood g (w .tables) (s .kept) ≡ true → keepVerdict s g w c ≡ accepted
+pub keep-accepts : (s : Session) (g : Log) (w : Model) (c : Kept) → ModelKnown w → BlanksKnown (s .blanks) w → MoveKnown (w .tables) (w .bounds) (c .move) → w .tables .n ≤ length (c .flags)
+    → logFits g ≡ true → logGood g (w .tables) (w .bounds) (s .kept) ≡ true → keepVerdict s g w c ≡ accepted
 unfolding keepVerdict
 keep-accepts s g w c model blanks move room log-fits log-good = let t = w .tables in let mv = c .move in
-    require-next 1 0 (keepFits g w c) _ fits ∙ tables-next t (model .sound) _
+    require-next 1 0 (keepFits g w c) _ fits ∙ tables-next t (w .bounds) (model .sound) (model .bounds) _
     ∙ require-next 8 0 (numbered t (w .numbers) (w .order)) _ (numbered-of t (w .numbers) (w .order) (λ v l. model .chains v) (model .numbers-are) (model .order-is))
     ∙ require-next 8 0 (indexed t (w .index)) _ (model .index-is)
     ∙ require-next 19 0 (eqb (s .blanks) (blanksAmong (t .n) (storedValues w))) _ (eq-eqb (s .blanks) (blanksAmong (t .n) (storedValues w)) blanks)
-    ∙ check-next 7 (t .n) (storedGood t (storedValues w)) _ (model .stored)
-    ∙ check-next 10 (mv .pairs) (movable mv t) _ (movable-at t mv move)
+    ∙ check-next 7 (t .n) (storedAllowed t (w .bounds) (storedValues w)) _ (λ v l. ap₂ _&&_ (model .stored v l) (model .inside v l))
+    ∙ check-next 10 (mv .pairs) (movable mv t) _ (movable-at t (w .bounds) mv move)
     ∙ check-next 11 (mv .pairs) (namedOnce mv) _ (λ i l. ap not (move .once i l))
     ∙ check-next 12 (mv .pairs) (hasValue mv) _ (λ i l. ap not (move .full i l))
-    ∙ require-next 16 0 (logGood g t (s .kept)) accepted log-good
+    ∙ check-next 17 (mv .pairs) (pairWithin mv (w .bounds)) _ (move .inside)
+    ∙ require-next 16 0 (logGood g t (w .bounds) (s .kept)) accepted log-good
   where
     model-fits : modelFits w ≡ true
-    model-fits = ap₂ _&&_ (model .sound .sized) (all-yes _ (le-leb _ _ (model .numbers-long), (le-leb _ _ (model .order-long), (le-leb _ _ (model .stored-long), (model .index-fits, tt)))))
+    model-fits = ap₂ _&&_ (model .sound .sized) (all-yes _ (le-leb _ _ (model .numbers-long), (le-leb _ _ (model .order-long), (le-leb _ _ (model .stored-long), (model .index-fits, (model .bounds-fit, tt))))))
 
     move-fits : moveFits (c .move) ≡ true
     move-fits = all-yes _ (le-leb _ _ (move .few), (le-leb _ _ (move .vars-long), (le-leb _ _ (move .values-long), tt)))
@@ -307,7 +309,7 @@ pub kept-blanks : (w : Model) (c : Kept) → keptBlanks (w .tables) (w .stored) 
 kept-blanks w c = size-same _ _ (w .tables .n) (λ v l. ap (λ z. eqZ z blank) (sym (kept-value w c v l)))
 
 -- the model as an accepted keep leaves it passes the same checks
-pub keep-leaves-known : (w : Model) (c : Kept) → ModelKnown w → MoveKnown (w .tables) (c .move) → ModelKnown (record { tables = w .tables; numbers = w .numbers; order = w .order; stored = keptStored (w .tables) (w .stored) c; index = w .index })
+pub keep-leaves-known : (w : Model) (c : Kept) → ModelKnown w → MoveKnown (w .tables) (w .bounds) (c .move) → ModelKnown (record { tables = w .tables; bounds = w .bounds; numbers = w .numbers; order = w .order; stored = keptStored (w .tables) (w .stored) c; index = w .index })
 keep-leaves-known w c m move = record {
   sound = m .sound;
   numbers-long = m .numbers-long;
@@ -318,7 +320,10 @@ keep-leaves-known w c m move = record {
   order-is = m .order-is;
   index-fits = m .index-fits;
   index-is = m .index-is;
+  bounds-fit = m .bounds-fit;
+  bounds = m .bounds;
   stored = λ v l. good v l (isMade t v) refl;
+  inside = λ v l. allowed v l (isMade t v) refl;
 }
   where
     t : Tables
@@ -347,3 +352,14 @@ keep-leaves-known w c m move = record {
     good v l false e =
         ap₂ (λ b z. b || not (eqZ z blank)) e (kept-value w c v l ∙ new-search (net t) (lawful t) (t .n) (m .chains) input-to-output old (moved mv old) v e)
         ∙ ap not (full v l e (names mv v) refl)
+
+    inside : (v : ℕ) → v < w .tables .n → isMade (w .tables) v ≡ false → (x : Bool) → names (movePairs (c .move)) v ≡ x → within (w .bounds) v (moved (movePairs (c .move)) (storedValues w) v) ≡ true
+    inside v l e true q = let h = named-has (c .move) old v q in
+        subst (λ (p : ℕ × ℤ). within (w .bounds) (p .0) (p .1) ≡ true) (h .is) (move .inside (h .place) (h .low))
+    inside v l e false q = ap (within (w .bounds) v) (unnamed mv old v q) ∙ sym (ap (_|| within (w .bounds) v (old v)) e) ∙ m .inside v l
+
+    allowed : (v : ℕ) → v < w .tables .n → (x : Bool) → isMade (w .tables) v ≡ x → inBounds (w .tables) (w .bounds) (valuesIn (w .tables) (keptStored (w .tables) (w .stored) c)) v ≡ true
+    allowed v l true e = ap (λ b. b || within (w .bounds) v (valuesIn t (keptStored (w .tables) (w .stored) c) v)) e
+    allowed v l false e =
+        ap₂ (λ b z. b || within (w .bounds) v z) e (kept-value w c v l ∙ new-search (net t) (lawful t) (t .n) (m .chains) input-to-output old (moved mv old) v e)
+        ∙ inside v l e (names mv v) refl

@@ -17,7 +17,7 @@ use Rattle.paper.specs.Lists.{tally, nat, size, below, over}
 use Rattle.paper.specs.Formula.{blank}
 use Rattle.paper.specs.Net.{Net, Values, Route, input-to-output, afresh, new, moved, names, evaluated}
 use Rattle.paper.specs.Tables.{Tables, net, isMade, valuesIn}
-use Rattle.paper.specs.Checks.{Verdict, accepted, refused, leaves, sized, movePairs}
+use Rattle.paper.specs.Checks.{Verdict, accepted, refused, leaves, sized, within, movePairs}
 use Rattle.paper.specs.Log.{Log, logIn, logged, back, logGood, dropped}
 use Rattle.paper.specs.Calls.{Session, blanksAmong, Answer, Refused, numberOf, evaluationsOf, newValues, evaluates, BuildLent, BuildLeft, startValues, build, Model, Tried, TrialLeft, askedList, routeOf, trialVerdict, trialLeaves, trial, Kept, KeepLeft, storedValues, keptBlanks, keptStored, keepVerdict, keepLeaves, keep, latest, takeVerdict, takeLeaves, takeBack}
 use Rattle.paper.specs.Demands.{keepAsWas, evaluatedBy, Lent, own, another, Lends, Call, tries, keeps, takes, State, lentOf, ownAfter, rest, modelOf, verdictOf, lendsOf, logOf, passedOn, step, standing, applied, ownModel, fresh, after, history, Proper, old, renewed, tried, triedSet, TrialRight, kept, KeepRight, taken, TakeRight, Told, Demand3}
@@ -97,7 +97,7 @@ module _ (b : BuildLent) (ok : numberOf (build b .answer) ≡ 0) where
       ∙ fun-ext (step-fresh N (lawful t) (t .n) (known .chains) r mv (afresh N s (t .n)) s (λ v. refl))
 
   -- ── a move put into such a row by route 1, as keep and taking back do ──
-  move-holds : (row : List ℤ) (s : Values) → Holds row s → (c : Kept) → MoveKnown t (c .move) → Holds (keptStored t row c) (moved (movePairs (c .move)) s)
+  move-holds : (row : List ℤ) (s : Values) → Holds row s → (c : Kept) → MoveKnown t (b .bounds) (c .move) → Holds (keptStored t row c) (moved (movePairs (c .move)) s)
   move-holds row s h c move = record {
     row-is =
         ap (λ f. over (t .n) f row) (new-fresh row s h input-to-output (movePairs (c .move)))
@@ -107,7 +107,7 @@ module _ (b : BuildLent) (ok : numberOf (build b .answer) ≡ 0) where
   }
     where
       go : (v : ℕ) → t .n ≤ v → (x : Bool) → names (movePairs (c .move)) v ≡ x → moved (movePairs (c .move)) s v ≡ pos 0
-      go v l true q = let k = named-below t (c .move) move v q in absurd (lt-irrefl v (omega arith))
+      go v l true q = let k = named-below t (b .bounds) (c .move) move v q in absurd (lt-irrefl v (omega arith))
       go v l false q = unnamed (movePairs (c .move)) s v q ∙ h .ended v l
 
   -- the number of blanks that it leaves
@@ -120,7 +120,7 @@ module _ (b : BuildLent) (ok : numberOf (build b .answer) ≡ 0) where
   record Stands (kept blanks : ℕ) (stored : List ℤ) (log : Log) (moves : List (List (ℕ × ℤ))) (calls : ℕ) : Type 0 where
     holds : Holds stored (applied (startValues b) moves)
     blank : blanks ≡ blanksAmong (t .n) (afresh N (applied (startValues b) moves) (t .n))
-    good : logGood log t kept ≡ true
+    good : logGood log t (b .bounds) kept ≡ true
     undoes : Undoes (startValues b) (back log) (logged log) moves
     counted : calls < 4294967295 → kept ≡ length moves
     within : kept ≤ calls
@@ -148,8 +148,8 @@ module _ (b : BuildLent) (ok : numberOf (build b .answer) ≡ 0) where
           (let log = has .log in let within = h .within in record {
             holds = move-holds (now .stored) (applied (startValues b) moves) (h .holds) c (has .move);
             blank = move-blanks (now .stored) (applied (startValues b) moves) (h .holds) c;
-            good = noted-good t (now .log) (now .session .kept) (has .log) (storedValues (mine now)) (c .move) (has .move) (min (suc (now .session .kept)) 4294967295) (omega arith) full;
-            undoes = noted-undoes t (now .log) (now .session .kept) (has .log) (storedValues (mine now)) (c .move) (has .move) (startValues b) moves same (h .undoes);
+            good = noted-good t (b .bounds) (now .log) (now .session .kept) (has .log) (storedValues (mine now)) (c .move) (has .move) (min (suc (now .session .kept)) 4294967295) (omega arith) full within-bounds;
+            undoes = noted-undoes t (b .bounds) (now .log) (now .session .kept) (has .log) (storedValues (mine now)) (c .move) (has .move) (startValues b) moves same (h .undoes);
             counted = λ l. let k = h .counted (omega arith) in omega arith;
             within = omega arith;
           })
@@ -160,6 +160,10 @@ module _ (b : BuildLent) (ok : numberOf (build b .answer) ≡ 0) where
           full : (i : ℕ) → i < c .move .pairs → eqZ (valuesIn (b .tables) (now .stored) (nat (c .move .vars) i)) blank ≡ false
           full i l = let v = nat (c .move .vars) i in
               not-true (eqZ (storedValues (mine now) v) blank) (sym (ap (_|| not (eqZ (storedValues (mine now) v) blank)) (has .move .search i l)) ∙ has .model .stored v (has .move .low i l))
+
+          within-bounds : (i : ℕ) → i < c .move .pairs → within (b .bounds) (nat (c .move .vars) i) (valuesIn (b .tables) (now .stored) (nat (c .move .vars) i)) ≡ true
+          within-bounds i l = let v = nat (c .move .vars) i in
+              sym (ap (_|| within (b .bounds) v (storedValues (mine now) v)) (has .move .search i l)) ∙ has .model .inside v (has .move .low i l)
 
           same : (i : ℕ) → i < c .move .pairs → valuesIn (b .tables) (now .stored) (nat (c .move .vars) i) ≡ applied (startValues b) moves (nat (c .move .vars) i)
           same i l = let v = nat (c .move .vars) i in let s = applied (startValues b) moves in
@@ -185,8 +189,8 @@ module _ (b : BuildLent) (ok : numberOf (build b .answer) ≡ 0) where
             holds = subst (Holds (keptStored t (now .stored) (latest (now .log) flags))) (undone .0)
                 (move-holds (now .stored) (applied (startValues b) moves) (h .holds) (latest (now .log) flags) (latest-known (now .session) (now .log) (mine now) flags has));
             blank = move-blanks (now .stored) (applied (startValues b) moves) (h .holds) (latest (now .log) flags) ∙ ap (λ s. blanksAmong (t .n) (afresh N s (t .n))) (undone .0);
-            good = dropped-good t (now .log) (now .session .kept) (has .log) fewer low;
-            undoes = dropped-undoes t (now .log) (now .session .kept) (has .log) (startValues b) (rest moves) (undone .1);
+            good = dropped-good t (b .bounds) (now .log) (now .session .kept) (has .log) fewer low;
+            undoes = dropped-undoes t (b .bounds) (now .log) (now .session .kept) (has .log) (startValues b) (rest moves) (undone .1);
             counted = counted;
             within = within;
           }
@@ -243,7 +247,7 @@ module _ (b : BuildLent) (ok : numberOf (build b .answer) ≡ 0) where
         (record {
           holds = record { row-is = refl; ended = λ v l. List·getD-eq-default (take (t .n) (b .starts)) (pos 0) (simp length-take (omega arith)) };
           blank = refl;
-          good = good-log (logIn (set (b .logSizes) 0 0) (room .0) (room .1)) t 0 (omega (arith, none)) (omega (arith, none)) (λ k l. let z = none in absurd (lt-irrefl 0 (omega arith)));
+          good = good-log (logIn (set (b .logSizes) 0 0) (room .0) (room .1)) t (b .bounds) 0 (omega (arith, none)) (omega (arith, none)) (λ k l. let z = none in absurd (lt-irrefl 0 (omega arith)));
           undoes = subst⁻¹ (λ n. Undoes (startValues b) (back (logIn (set (b .logSizes) 0 0) (room .0) (room .1))) n []) none tt;
           counted = λ l. refl;
           within = omega arith;
@@ -325,7 +329,7 @@ module _ (b : BuildLent) (ok : numberOf (build b .answer) ≡ 0) where
             ∙ ap (λ k. record { kept = min (suc (now .session .kept)) 4294967295; evaluations = evaluationsOf (kept b room cs (ownModel b room) own c .answer); blanks = k })
             (move-blanks (now .stored) (applied (startValues b) (history b room cs)) holds c);
         more =
-            ap (λ (x : KeepLeft). logged (x .log)) left ∙ noted-logged t (now .log) (now .session .kept) (has .log) (storedValues (mine now)) (c .move) (has .move) ∙ omega arith;
+            ap (λ (x : KeepLeft). logged (x .log)) left ∙ noted-logged t (b .bounds) (now .log) (now .session .kept) (has .log) (storedValues (mine now)) (c .move) (has .move) ∙ omega arith;
       }
         where
           good : keepVerdict (after b room cs .session) (after b room cs .log) (mine (after b room cs)) c ≡ accepted
@@ -348,7 +352,7 @@ module _ (b : BuildLent) (ok : numberOf (build b .answer) ≡ 0) where
             ap (λ (x : KeepLeft). x .session) left ∙ sym (ap (λ (x : KeepLeft). record { kept = cond (ltb k 4294967295) (pred k) k; evaluations = evaluationsOf (x .answer); blanks = x .session .blanks }) left)
             ∙ ap (λ z. record { kept = cond (ltb k 4294967295) (pred k) k; evaluations = evaluationsOf (taken b room cs (ownModel b room) own flags .answer); blanks = z })
             (take-stands now (history b room cs) (length cs) (stands cs p) flags good .blank);
-        fewer = ap (λ (x : KeepLeft). logged (x .log)) left ∙ dropped-logged t (now .log) (now .session .kept) (take-known (now .session) (now .log) (mine now) flags good .log);
+        fewer = ap (λ (x : KeepLeft). logged (x .log)) left ∙ dropped-logged t (b .bounds) (now .log) (now .session .kept) (take-known (now .session) (now .log) (mine now) flags good .log);
       }
         where
           good : takeVerdict (after b room cs .session) (after b room cs .log) (mine (after b room cs)) flags ≡ accepted

@@ -12,7 +12,7 @@ use Rattle.paper.specs.Lists.{every, between, nat, size, over}
 use Rattle.paper.specs.Formula.{blank}
 use Rattle.paper.specs.Net.{Values, Route, input-to-output, output-to-input, mark-guided, number, afresh, new, evaluated, moved, names}
 use Rattle.paper.specs.Tables.{Tables, Index, net, valuesIn, ends, order, index}
-use Rattle.paper.specs.Checks.{Verdict, accepted, refused, check, require, leaves, sized, tableChecks, startGood, numbered, indexed, storedGood, Move, movePairs, moveFits, moveChecks}
+use Rattle.paper.specs.Checks.{Verdict, accepted, refused, check, require, leaves, sized, Bounds, tableChecks, numbered, indexed, startAllowed, storedAllowed, Move, movePairs, moveFits, pairWithin, moveChecks}
 use Rattle.paper.specs.Log.{Log, logged, back, logFits, logGood, noted, dropped}
 
 -- the session record: moves kept, evaluations of the last accepted call, and how many stored values are blank
@@ -70,9 +70,14 @@ abbrev pub indexFits : Tables → Index → Bool
 indexFits t x = leb (suc (t .n)) (length (x .starts)) && leb (t .e) (length (x .places))
 
 -- ── build ──
+-- 1: bounds for n variables
+abbrev pub boundsFit : Tables → Bounds → Bool
+boundsFit t b = leb (t .n) (length (b .lows)) && leb (t .n) (length (b .highs))
+
 pub record BuildLent : Type 0 where
   pub session : Session
   pub tables : Tables
+  pub bounds : Bounds
   pub starts : List ℤ
   pub numbers : List ℕ
   pub order : List ℕ
@@ -95,14 +100,14 @@ module _ (l : BuildLent) where
       sized t
       && every (
       leb (t .n) (length (l .starts)) ∷ leb (t .n) (length (l .numbers)) ∷ leb (t .m) (length (l .order)) ∷ leb (t .n) (length (l .stored)) ∷ indexFits t (l .index)
-      ∷ leb 65 (length (l .logSizes)) ∷ [])
+      ∷ leb 65 (length (l .logSizes)) ∷ boundsFit t (l .bounds) ∷ [])
 
   abbrev pub startValues : Values
   startValues = valuesIn (l .tables) (l .starts)
 
   unfoldable pub buildVerdict : Verdict
   buildVerdict = let t = l .tables in
-      require 1 0 buildFits (tableChecks t (check 6 (t .n) (ends t) (check 7 (t .n) (startGood t startValues) accepted)))
+      require 1 0 buildFits (tableChecks t (l .bounds) (check 6 (t .n) (ends t) (check 7 (t .n) (startAllowed t (l .bounds) startValues) accepted)))
 
   abbrev pub buildLeaves : Verdict → BuildLeft
   buildLeaves v = let t = l .tables in record {
@@ -121,6 +126,7 @@ module _ (l : BuildLent) where
 -- ── trial, keep and taking back: the model as it is lent to each ──
 pub record Model : Type 0 where
   pub tables : Tables
+  pub bounds : Bounds
   pub numbers : List ℕ
   pub order : List ℕ
   pub stored : List ℤ
@@ -129,7 +135,7 @@ pub record Model : Type 0 where
 module _ (w : Model) where
   abbrev pub modelFits : Bool
   modelFits = let t = w .tables in
-      sized t && every (leb (t .n) (length (w .numbers)) ∷ leb (t .m) (length (w .order)) ∷ leb (t .n) (length (w .stored)) ∷ indexFits t (w .index) ∷ [])
+      sized t && every (leb (t .n) (length (w .numbers)) ∷ leb (t .m) (length (w .order)) ∷ leb (t .n) (length (w .stored)) ∷ indexFits t (w .index) ∷ boundsFit t (w .bounds) ∷ [])
 
   abbrev pub storedValues : Values
   storedValues = valuesIn (w .tables) (w .stored)
@@ -137,8 +143,12 @@ module _ (w : Model) where
   -- checks 2, 3, 4, 5, 8, 19, 7; `blanks` is the record's number of blanks
   abbrev pub modelChecks : ℕ → Verdict → Verdict
   modelChecks blanks next = let t = w .tables in
-      tableChecks t (require 8 0 (numbered t (w .numbers) (w .order)) (require 8 0 (indexed t (w .index))
-      (require 19 0 (eqb blanks (blanksAmong (t .n) storedValues)) (check 7 (t .n) (storedGood t storedValues) next))))
+      tableChecks t (w .bounds) (require 8 0 (numbered t (w .numbers) (w .order)) (require 8 0 (indexed t (w .index))
+      (require 19 0 (eqb blanks (blanksAmong (t .n) storedValues)) (check 7 (t .n) (storedAllowed t (w .bounds) storedValues) next))))
+
+  -- checks 10, 11, 12, 17 of a move
+  abbrev pub changeChecks : Move → Verdict → Verdict
+  changeChecks mv next = moveChecks mv (w .tables) (check 17 (mv .pairs) (pairWithin mv (w .bounds)) next)
 
 -- ── trial ──
 pub record Tried : Type 0 where
@@ -186,7 +196,7 @@ module _ (w : Model) (c : Tried) where
 unfoldable pub trialVerdict : Session → Model → Tried → Verdict
 trialVerdict s w c = let t = w .tables in
     require 1 0 (trialFits w c) (modelChecks w (s .blanks) (require 9 0 (between 1 (c .route) 3)
-    (moveChecks (c .move) t (check 13 (c .asked) (λ i. ltb (nat (c .askedVars) i) (t .n)) accepted))))
+    (changeChecks w (c .move) (check 13 (c .asked) (λ i. ltb (nat (c .askedVars) i) (t .n)) accepted))))
 
 unfoldable pub trial : Session → Model → Tried → TrialLeft
 trial s w c = trialLeaves w c s (trialVerdict s w c)
@@ -234,7 +244,7 @@ keepFits l w c = every (modelFits w ∷ moveFits (c .move) ∷ leb (w .tables .n
 module _ (s : Session) (l : Log) (w : Model) (c : Kept) where
   unfoldable pub keepVerdict : Verdict
   keepVerdict = let t = w .tables in
-      require 1 0 (keepFits l w c) (modelChecks w (s .blanks) (moveChecks (c .move) t (require 16 0 (logGood l t (s .kept)) accepted)))
+      require 1 0 (keepFits l w c) (modelChecks w (s .blanks) (changeChecks w (c .move) (require 16 0 (logGood l t (w .bounds) (s .kept)) accepted)))
 
   -- one more move kept, and it is noted
   abbrev pub keepLeaves : Verdict → KeepLeft
@@ -253,7 +263,7 @@ takeFits l w flags = every (modelFits w ∷ leb (w .tables .n) (length flags) �
 module _ (s : Session) (l : Log) (w : Model) (flags : List ℕ) where
   unfoldable pub takeVerdict : Verdict
   takeVerdict = let t = w .tables in
-      require 1 0 (takeFits l w flags) (modelChecks w (s .blanks) (require 16 0 (logGood l t (s .kept)) (require 15 0 (ltb 0 (logged l)) accepted)))
+      require 1 0 (takeFits l w flags) (modelChecks w (s .blanks) (require 16 0 (logGood l t (w .bounds) (s .kept)) (require 15 0 (ltb 0 (logged l)) accepted)))
 
   -- one move kept fewer unless the number stands at its ceiling, and the log is without it
   abbrev pub takeLeaves : Verdict → KeepLeft

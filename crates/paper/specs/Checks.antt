@@ -1,14 +1,15 @@
--- The checks on tables and moves, and what passed ones say. Assumes nothing.
+-- The checks on tables, bounds and moves, and what passed ones say. Assumes nothing.
 use Prim.Native.Nat.{ℕ, suc, pred, _+_, _<_}
 use mathlib.Core.Bool.{Bool, true, cond, not, _&&_, _||_}
 use mathlib.Core.List.{List, [], _∷_}
 use mathlib.Core.Path.{_≡_}
-use lib.IntN.{ℤ, pos, natAbs}
+use lib.IntN.{ℤ, pos, negsuc, natAbs}
 use lib.Dec.{eqb, leb, ltb}
+use lib.Signed.{leZ}
 use lib.ListN.{length, getD, take}
 use Rattle.integers.specs.Integers.{eqZ}
 use Rattle.paper.specs.Lists.{any, all, every, between, total, nat, firstFail, joined, allBelow, below}
-use Rattle.paper.specs.Formula.{blank}
+use Rattle.paper.specs.Formula.{blank, inRange}
 use Rattle.paper.specs.Net.{Values, number}
 use Rattle.paper.specs.Tables.{Tables, Index, part, isMade, net, ends, order, readers, readersStart}
 
@@ -29,6 +30,36 @@ require code place good next = cond good next (refused code place)
 abbrev pub leaves : {A : Type 0} → Verdict → A → A → A
 leaves accepted after before = after
 leaves (refused number place) after before = before
+
+-- ── bounds on what may be moved: the lowest and the highest allowed number of each variable ──
+pub record Bounds : Type 0 where
+  pub lows : List ℤ
+  pub highs : List ℤ
+
+abbrev pub boundsIn : List ℤ → List ℤ → Bounds
+boundsIn lows highs = record { lows = lows; highs = highs }
+
+-- the full range
+abbrev pub lowest : ℤ
+lowest = negsuc 2147483646
+
+abbrev pub highest : ℤ
+highest = pos 2147483647
+
+-- both inside the value range, and the lowest not above the highest; a made variable's are full
+abbrev pub boundGood : Bool → ℤ → ℤ → Bool
+boundGood made low high = cond made (eqZ low lowest && eqZ high highest) (every (inRange low ∷ inRange high ∷ leZ low high ∷ []))
+
+module _ (b : Bounds) where
+  abbrev pub low : ℕ → ℤ
+  low v = getD (b .lows) v (pos 0)
+
+  abbrev pub high : ℕ → ℤ
+  high v = getD (b .highs) v (pos 0)
+
+  -- a number that variable v may have
+  abbrev pub within : ℕ → ℤ → Bool
+  within v x = leZ (low v) x && leZ x (high v)
 
 -- how many inputs a kind takes
 abbrev pub arity : ℕ → ℕ → Bool
@@ -63,11 +94,19 @@ module _ (t : Tables) where
   abbrev pub madeOnce : ℕ → Bool
   madeOnce r = not (any (eqb (nat (t .makes) r)) (take r (t .makes)))
 
-  -- checks 2 to 5, the same for every call
-  abbrev pub tableChecks : Verdict → Verdict
-  tableChecks next =
+  -- checks 2 to 4 of the rows
+  abbrev pub rowChecks : Verdict → Verdict
+  rowChecks next =
       check 2 (t .m) kindGood (check 3 (t .m) shapeGood (require 3 (pred (t .m)) (eqb (total (take (t .m) (t .counts))) (t .e))
-      (check 4 (t .m) numberGood (check 5 (t .m) madeOnce next))))
+      (check 4 (t .m) numberGood next)))
+
+  -- 4, of the bounds: each pair as said, and full at a variable that some row makes
+  abbrev pub boundsGood : Bounds → ℕ → Bool
+  boundsGood b v = boundGood (isMade t v) (low b v) (high b v)
+
+  -- checks 2 to 5, the same for every call
+  abbrev pub tableChecks : Bounds → Verdict → Verdict
+  tableChecks b next = rowChecks (check 4 (t .n) (boundsGood b) (check 5 (t .m) madeOnce next))
 
   -- 7 in build: a search variable is not blank, a made one starts at 0
   abbrev pub startGood : Values → ℕ → Bool
@@ -76,6 +115,17 @@ module _ (t : Tables) where
   -- 7 in trial and keep: a search variable is not blank
   abbrev pub storedGood : Values → ℕ → Bool
   storedGood old v = isMade t v || not (eqZ (old v) blank)
+
+  -- 7: a search variable's value lies within its bounds
+  abbrev pub inBounds : Bounds → Values → ℕ → Bool
+  inBounds b s v = isMade t v || within b v (s v)
+
+  -- 7, of one variable
+  abbrev pub startAllowed : Bounds → Values → ℕ → Bool
+  startAllowed b s v = startGood s v && inBounds b s v
+
+  abbrev pub storedAllowed : Bounds → Values → ℕ → Bool
+  storedAllowed b old v = storedGood old v && inBounds b old v
 
   -- 8: chains of inputs end, and the lent numbers and order are what build gives
   abbrev pub numbered : List ℕ → List ℕ → Bool
@@ -117,6 +167,10 @@ module _ (mv : Move) where
   -- 12: the new value is not blank
   abbrev pub hasValue : ℕ → Bool
   hasValue i = not (eqZ (getD (mv .values) i (pos 0)) blank)
+
+  -- 17: the new value lies within the variable's bounds
+  abbrev pub pairWithin : Bounds → ℕ → Bool
+  pairWithin b i = within b (nat (mv .vars) i) (getD (mv .values) i (pos 0))
 
   -- checks 10 to 12
   abbrev pub moveChecks : Tables → Verdict → Verdict

@@ -11,7 +11,7 @@ use mir.Val.{SFits}
 use Rattle.paper.specs.Lists.{nat, size, tally, over}
 use Rattle.paper.specs.Net.{Net, Values, Route, Depends, numbering, number, valuation, afresh, moved, names, evaluated, input-to-output}
 use Rattle.paper.specs.Tables.{Tables, Index, lent, net, inputsOf, order, index}
-use Rattle.paper.specs.Checks.{Verdict, accepted, refused, require, leaves, tableChecks, Move, movePairs}
+use Rattle.paper.specs.Checks.{Verdict, accepted, refused, require, leaves, Bounds, tableChecks, Move, movePairs}
 use Rattle.paper.specs.Log.{Log, logIn, logged, logGood}
 use Rattle.paper.specs.Calls.{Session, blanksAmong, Answer, Accepted, numberOf, placeOf, evaluationsOf, BuildLent, BuildLeft, startValues, buildFits, build, Model, Tried, TrialLeft, askedList, routeOf, trial, trialVerdict, Kept, KeepLeft, keep, keepVerdict, latest, takeBack, takeVerdict}
 use Rattle.paper.specs.File.{endsAt, held, write, counted, read}
@@ -28,14 +28,14 @@ trialAsWas s c answer = record { answer = answer; session = s; results = c .resu
 abbrev pub keepAsWas : Session → Log → Model → List ℕ → Answer → KeepLeft
 keepAsWas s l w flags answer = record { answer = answer; session = s; stored = w .stored; flags = flags; log = l }
 
--- build gives 1 to 7; trial all of 1 to 13 but 6, and 19; keep the same except 9 and 13, and 16; taking back 1 to 8 but 6, 15, 16 and 19
+-- build gives 1 to 7; trial all of 1 to 13 but 6, 17 and 19; keep the same except 9 and 13, and 16; taking back 1 to 8 but 6, 15, 16 and 19
 pub record Demand1 : Type 0 where
   pub build-number : (l : BuildLent) → leb (numberOf (build l .answer)) 7 ≡ true
   pub build-refused : (l : BuildLent) → (numberOf (build l .answer) ≡ 0 → ⊥) → build l ≡ buildAsWas l (build l .answer)
-  pub trial-number : (s : Session) (w : Model) (c : Tried) → let k = numberOf (trial s w c .answer) in ((leb k 13 && not (eqb k 6)) || eqb k 19) ≡ true
+  pub trial-number : (s : Session) (w : Model) (c : Tried) → let k = numberOf (trial s w c .answer) in ((leb k 13 && not (eqb k 6)) || eqb k 17 || eqb k 19) ≡ true
   pub trial-refused : (s : Session) (w : Model) (c : Tried) → (numberOf (trial s w c .answer) ≡ 0 → ⊥) → trial s w c ≡ trialAsWas s c (trial s w c .answer)
   pub keep-number : (s : Session) (l : Log) (w : Model) (c : Kept) → let k = numberOf (keep s l w c .answer) in
-      ((leb k 12 && not (eqb k 6) && not (eqb k 9)) || eqb k 16 || eqb k 19) ≡ true
+      ((leb k 12 && not (eqb k 6) && not (eqb k 9)) || eqb k 16 || eqb k 17 || eqb k 19) ≡ true
   pub keep-refused : (s : Session) (l : Log) (w : Model) (c : Kept) → (numberOf (keep s l w c .answer) ≡ 0 → ⊥) → keep s l w c ≡ keepAsWas s l w (c .flags) (keep s l w c .answer)
   pub take-number : (s : Session) (l : Log) (w : Model) (flags : List ℕ) → let k = numberOf (takeBack s l w flags .answer) in
       ((leb k 8 && not (eqb k 6)) || eqb k 15 || eqb k 16 || eqb k 19) ≡ true
@@ -71,7 +71,7 @@ module _ (b : BuildLent) where
 
   -- checks 1 to 5 are passed
   abbrev pub FivePassed : Type 0
-  FivePassed = require 1 0 (buildFits b) (tableChecks t accepted) ≡ accepted
+  FivePassed = require 1 0 (buildFits b) (tableChecks t (b .bounds) accepted) ≡ accepted
 
   pub record CircularExactly : Type 0 where
     pub given : FivePassed → Circular → numberOf (build b .answer) ≡ 6
@@ -138,6 +138,7 @@ pub data Lent (A : Type 0) : Type 0 where
 -- the model that it is lent
 pub record Lends : Type 0 where
   pub tables : Tables
+  pub bounds : Bounds
   pub numbers : List ℕ
   pub order : List ℕ
   pub stored : Lent (List ℤ)
@@ -182,7 +183,7 @@ rest (x ∷ xs) = xs
 
 module _ (now : State) where
   abbrev pub modelOf : Lends → Model
-  modelOf l = record { tables = l .tables; numbers = l .numbers; order = l .order; stored = lentOf (l .stored) (now .stored); index = l .index }
+  modelOf l = record { tables = l .tables; bounds = l .bounds; numbers = l .numbers; order = l .order; stored = lentOf (l .stored) (now .stored); index = l .index }
 
   abbrev pub verdictOf : Call → Verdict
   verdictOf (tries l c) = trialVerdict (now .session) (modelOf l) c
@@ -213,7 +214,7 @@ applied s (mv ∷ earlier) = moved mv (applied s earlier)
 module _ (b : BuildLent) (room : List ℕ × List ℤ) where
   -- what build was lent and left
   abbrev pub ownModel : Lends
-  ownModel = record { tables = b .tables; numbers = build b .numbers; order = build b .order; stored = own; index = build b .index }
+  ownModel = record { tables = b .tables; bounds = b .bounds; numbers = build b .numbers; order = build b .order; stored = own; index = build b .index }
 
   -- values worked out afresh from the start values with these moves applied
   abbrev pub fresh : List (List (ℕ × ℤ)) → Values
@@ -314,7 +315,7 @@ module _ (b : BuildLent) (room : List ℕ × List ℤ) (cs : List Call) where
     -- and of the blank values among the stored ones
     pub blanks : now .session .blanks ≡ blanksAmong (b .tables .n) old
     -- the log is fit, and has no more moves than these
-    pub log-good : logGood (now .log) (b .tables) (now .session .kept) ≡ true
+    pub log-good : logGood (now .log) (b .tables) (b .bounds) (now .session .kept) ≡ true
     pub log-low : logged (now .log) ≤ length moves
     -- the next call, if it is accepted and was lent the model's own
     pub trial-accepted : (c : Tried) → numberOf (tried (ownModel b room) c .answer) ≡ 0 → TrialRight (ownModel b room) c

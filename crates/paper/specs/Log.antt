@@ -10,7 +10,7 @@ use lib.ListN.{length, set, take, drop}
 use Rattle.paper.specs.Lists.{every, nat, allBelow, over}
 use Rattle.paper.specs.Net.{Values}
 use Rattle.paper.specs.Tables.{Tables}
-use Rattle.paper.specs.Checks.{Move, movable, namedOnce, hasValue}
+use Rattle.paper.specs.Checks.{Bounds, Move, movable, namedOnce, hasValue, pairWithin}
 
 pub record Log : Type 0 where
   pub sizes : List ℕ
@@ -20,9 +20,11 @@ pub record Log : Type 0 where
 abbrev pub logIn : List ℕ → List ℕ → List ℤ → Log
 logIn sizes vars values = record { sizes = sizes; vars = vars; values = values }
 
--- a move as a log may hold it: at most 64 pairs, of search variables, each named once, and no value blank
-abbrev pub moveGood : Tables → Move → Bool
-moveGood t mv = every (leb (mv .pairs) 64 ∷ allBelow (movable mv t) (mv .pairs) ∷ allBelow (namedOnce mv) (mv .pairs) ∷ allBelow (hasValue mv) (mv .pairs) ∷ [])
+-- a move as a log may hold it: at most 64 pairs, of search variables, each named once, and no value blank or outside its bounds
+abbrev pub moveGood : Tables → Bounds → Move → Bool
+moveGood t b mv = every (
+    leb (mv .pairs) 64 ∷ allBelow (movable mv t) (mv .pairs) ∷ allBelow (namedOnce mv) (mv .pairs) ∷ allBelow (hasValue mv) (mv .pairs)
+    ∷ allBelow (pairWithin mv b) (mv .pairs) ∷ [])
 
 -- a buffer whose n entries from k on come first; what stands from n on stays
 abbrev pub slid : {A : Type 0} → ℕ → ℕ → List A → List A
@@ -46,8 +48,8 @@ module _ (l : Log) where
   logFits = every (leb 65 (length (l .sizes)) ∷ leb 4096 (length (l .vars)) ∷ leb 4096 (length (l .values)) ∷ [])
 
   -- 16: no more moves than 64 or than the record's number kept, and each as a log may hold it
-  abbrev pub logGood : Tables → ℕ → Bool
-  logGood t kept = every (leb logged 64 ∷ leb logged kept ∷ allBelow (λ k. moveGood t (back k)) logged ∷ [])
+  abbrev pub logGood : Tables → Bounds → ℕ → Bool
+  logGood t b kept = every (leb logged 64 ∷ leb logged kept ∷ allBelow (λ k. moveGood t b (back k)) logged ∷ [])
 
   -- without its oldest move, if it has 64
   abbrev pub roomMade : Log

@@ -10,7 +10,7 @@ use Rattle.integers.specs.Integers.{eqZ}
 use Rattle.paper.specs.Lists.{all}
 use Rattle.paper.specs.Formula.{blank}
 use Rattle.paper.specs.Tables.{Tables, lent}
-use Rattle.paper.specs.Checks.{Move}
+use Rattle.paper.specs.Checks.{Bounds, boundsIn, lowest, highest, Move}
 use Rattle.paper.specs.Calls.{Answer, Accepted, Refused, BuildLent, build, Model, trial}
 
 -- a run: the tables and start values, and what is to come of it
@@ -36,11 +36,16 @@ zeros k = replicate k 0
 abbrev pub zerosZ : ℕ → List ℤ
 zerosZ k = replicate k (pos 0)
 
+-- every number of the value range is allowed
+abbrev pub full : ℕ → Bounds
+full n = boundsIn (replicate n lowest) (replicate n highest)
+
 -- start values are followed by zeros, and the record has seen other calls
 abbrev pub building : Tables → List ℤ → BuildLent
 building t s = record {
   session = record { kept = 7; evaluations = 7; blanks = 7 };
   tables = t;
+  bounds = full (t .n);
   starts = s ++ zerosZ (t .n);
   numbers = zeros (t .n);
   order = zeros (t .m);
@@ -64,7 +69,7 @@ comesOut (builds t s nums vals) =
 comesOut (refuses t number place) = answers (build (building t []) .answer) (Refused number place)
 comesOut (tries t s mv asked route vals count) =
     let built = build (building t s) in
-    let own : Model = record { tables = t; numbers = built .numbers; order = built .order; stored = built .stored; index = built .index } in
+    let own : Model = record { tables = t; bounds = full (t .n); numbers = built .numbers; order = built .order; stored = built .stored; index = built .index } in
     let move : Move = record { pairs = length mv; vars = map (λ p. p .0) mv; values = map (λ p. p .1) mv } in
     let left = trial (built .session) own (record {
       move = move;

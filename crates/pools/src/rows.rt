@@ -105,9 +105,23 @@ pub fn fill_signed32(row: &mut [i32], bytes: &[u8]) {
     }
 }
 
+// Puts one number at so many places of a row, from a place on.
+pub fn repeat_signed32(row: &mut [i32], start: usize, count: usize, x: i32) {
+    for i in 0..count {
+        put_signed32(row, after(start, i), x);
+    }
+}
+
 // Copies a row into a pool, from a place on.
 pub fn copy16(pool: &mut [u16], start: usize, row: &[u16]) {
     for i in 0..row.len() {
         put16(pool, after(start, i), row[i]);
+    }
+}
+
+// The same of signed numbers of 32 bits.
+pub fn copy_signed32(pool: &mut [i32], start: usize, row: &[i32]) {
+    for i in 0..row.len() {
+        put_signed32(pool, after(start, i), row[i]);
     }
 }

@@ -2,6 +2,9 @@
 // the four (1, 2, 3, 4), route, pairs, asked (4 bytes each), 4 pair variables (2 each), 4 new values (4 each), 4 asked variables (2 each). A change
 // has the number of the row that it changes, the place there and the new field instead of route, pairs and asked. A taking back has nothing more.
 use crate::change::change;
+use crate::model::highs;
+use crate::model::lows;
+use crate::model::params;
 use crate::model::plan;
 use crate::print;
 use engine::Session;
@@ -35,7 +38,7 @@ fn try_move(
     m: usize,
     e: usize,
     pool: &[u16],
-    params: &[i32],
+    words: &[i32],
     coefs: &[i16],
     stored: &[i32],
 ) -> Session {
@@ -50,8 +53,10 @@ fn try_move(
         e,
         &plan(),
         pool,
-        params,
+        params(words),
         coefs,
+        lows(words),
+        highs(words),
         stored,
         word(call, 8) as usize,
         &four(call, 16),
@@ -75,7 +80,7 @@ fn keep_move(
     m: usize,
     e: usize,
     pool: &[u16],
-    params: &[i32],
+    words: &[i32],
     coefs: &[i16],
     stored: &mut [i32],
     log_sizes: &mut [u16],
@@ -90,8 +95,10 @@ fn keep_move(
         e,
         &plan(),
         pool,
-        params,
+        params(words),
         coefs,
+        lows(words),
+        highs(words),
         stored,
         word(call, 8) as usize,
         &four(call, 16),
@@ -113,7 +120,7 @@ fn take_move(
     m: usize,
     e: usize,
     pool: &[u16],
-    params: &[i32],
+    words: &[i32],
     coefs: &[i16],
     stored: &mut [i32],
     log_sizes: &mut [u16],
@@ -128,8 +135,10 @@ fn take_move(
         e,
         &plan(),
         pool,
-        params,
+        params(words),
         coefs,
+        lows(words),
+        highs(words),
         stored,
         &mut flags,
         log_sizes,
@@ -149,7 +158,7 @@ pub fn make(
     m: usize,
     e: usize,
     pool: &mut [u16],
-    params: &mut [i32],
+    words: &mut [i32],
     coefs: &mut [i16],
     stored: &mut [i32],
     log_sizes: &mut [u16],
@@ -158,7 +167,7 @@ pub fn make(
 ) -> Session {
     let which = word(call, 0);
     if which == 1 {
-        return try_move(session, call, n, m, e, pool, params, coefs, stored);
+        return try_move(session, call, n, m, e, pool, words, coefs, stored);
     }
     if which == 2 {
         return keep_move(
@@ -168,7 +177,7 @@ pub fn make(
             m,
             e,
             pool,
-            params,
+            words,
             coefs,
             stored,
             log_sizes,
@@ -183,7 +192,7 @@ pub fn make(
             m,
             e,
             pool,
-            params,
+            words,
             coefs,
             stored,
             log_sizes,
@@ -195,7 +204,7 @@ pub fn make(
         session,
         call,
         pool,
-        params,
+        words,
         coefs,
         stored,
         log_sizes,

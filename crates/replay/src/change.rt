@@ -1,7 +1,8 @@
-// A change of one field of what is lent, or of the record. Rows 1 to 15 are kinds, made variables, parameters, firsts, counts, entry variables,
-// coefficients, numbers, order, stored values, of the index of readers the starts and the places, and of the log the sizes, the variables and the
-// values; row 0 is the record, with its moves kept at place 0 and its number of blanks at place 1.
+// A change of one field of what is lent, or of the record. Rows 1 to 17 are kinds, made variables, parameters, firsts, counts, entry variables,
+// coefficients, numbers, order, stored values, of the index of readers the starts and the places, of the log the sizes, the variables and the
+// values, and the lowest and the highest allowed numbers; row 0 is the record, with its moves kept at place 0 and its number of blanks at place 1.
 use crate::model::start;
+use crate::model::start_word;
 use crate::print;
 use engine::Session;
 use integers::signed16;
@@ -42,12 +43,12 @@ fn change_model(
     place: usize,
     field: u32,
     pool: &mut [u16],
-    params: &mut [i32],
+    words: &mut [i32],
     coefs: &mut [i16],
     stored: &mut [i32],
 ) {
     put16(pool, after(start(row), place), low(field));
-    put_signed32(params, here(row == 3, place), signed32(field));
+    put_signed32(words, after(start_word(row), place), signed32(field));
     put_signed16(coefs, here(row == 7, place), signed16(low(field)));
     put_signed32(stored, here(row == 10, place), signed32(field));
 }
@@ -71,7 +72,7 @@ pub fn change(
     session: Session,
     call: &[u8],
     pool: &mut [u16],
-    params: &mut [i32],
+    words: &mut [i32],
     coefs: &mut [i16],
     stored: &mut [i32],
     log_sizes: &mut [u16],
@@ -82,7 +83,7 @@ pub fn change(
     let place = word(call, 8) as usize;
     let field = word(call, 12);
     print::change(row, word(call, 8), field);
-    change_model(row, place, field, pool, params, coefs, stored);
+    change_model(row, place, field, pool, words, coefs, stored);
     change_log(row, place, field, log_sizes, log_vars, log_values);
     change_record(session, here(row == 0, place), field)
 }

@@ -1,14 +1,18 @@
 // Replays recorded sessions: for each file that the arguments name, what the engine answers and leaves, call by call. A session is the length of a
-// model file and the number of calls (4 bytes each), the model file, and the calls. The model is read into rows for 16 variables and rows and 64
-// entries, and built; then the calls are made one after another on what the call before left,
-// with one log.
+// model file and the number of calls, 16 lowest and 16 highest allowed numbers (4 bytes each), the model file, and the calls. The model is read into
+// rows for 16 variables and rows and 64 entries, and built; then the calls are made one after another on what the call before left, with one log.
 mod calls;
 mod change;
 mod model;
 mod print;
 
+use crate::model::highs;
+use crate::model::lows;
+use crate::model::params;
 use crate::model::plan;
+use crate::model::put_bounds;
 use crate::model::put_built;
+use crate::model::put_params;
 use crate::model::put_tables;
 use engine::Done;
 use engine::Session;
@@ -29,7 +33,7 @@ fn make_calls(
     m: usize,
     e: usize,
     pool: &mut [u16],
-    params: &mut [i32],
+    words: &mut [i32],
     coefs: &mut [i16],
     stored: &mut [i32],
     log_sizes: &mut [u16],
@@ -46,7 +50,7 @@ fn make_calls(
             m,
             e,
             pool,
-            params,
+            words,
             coefs,
             stored,
             log_sizes,
@@ -65,7 +69,7 @@ fn with_log_values(
     m: usize,
     e: usize,
     pool: &mut [u16],
-    params: &mut [i32],
+    words: &mut [i32],
     coefs: &mut [i16],
     stored: &mut [i32],
     log_sizes: &mut [u16],
@@ -79,7 +83,7 @@ fn with_log_values(
         m,
         e,
         pool,
-        params,
+        words,
         coefs,
         stored,
         log_sizes,
@@ -96,7 +100,7 @@ fn with_log(
     m: usize,
     e: usize,
     pool: &mut [u16],
-    params: &mut [i32],
+    words: &mut [i32],
     coefs: &mut [i16],
     stored: &mut [i32],
     log_sizes: &mut [u16],
@@ -109,7 +113,7 @@ fn with_log(
         m,
         e,
         pool,
-        params,
+        words,
         coefs,
         stored,
         log_sizes,
@@ -132,7 +136,7 @@ fn build(
     m: usize,
     e: usize,
     pool: &mut [u16],
-    params: &[i32],
+    words: &[i32],
     coefs: &[i16],
     starts: &[i32],
     stored: &mut [i32],
@@ -153,8 +157,10 @@ fn build(
         e,
         &plan(),
         pool,
-        params,
+        params(words),
         coefs,
+        lows(words),
+        highs(words),
         starts,
         &mut numbers,
         &mut order,
@@ -173,10 +179,11 @@ fn build(
 fn read(
     file: &[u8],
     pool: &mut [u16],
-    params: &mut [i32],
+    words: &mut [i32],
     coefs: &mut [i16],
     starts: &mut [i32],
 ) -> Reading {
+    let mut row = [0i32; 16];
     let mut kinds = [0u16; 16];
     let mut makes = [0u16; 16];
     let mut firsts = [0u16; 16];
@@ -187,7 +194,7 @@ fn read(
         starts,
         &mut kinds,
         &mut makes,
-        params,
+        &mut row,
         &mut firsts,
         &mut counts,
         &mut vars,
@@ -195,18 +202,20 @@ fn read(
     );
     print::reading(told);
     put_tables(pool, &kinds, &makes, &firsts, &counts, &vars);
+    put_params(words, &row);
     told
 }
 
 // Reads a model file, builds the model if that is accepted, and makes the calls if that is too.
-fn read_and_go_on(file: &[u8], calls: &[u8]) {
+fn read_and_go_on(bounds: &[u8], file: &[u8], calls: &[u8]) {
     let mut pool = [0u16; 241];
-    let mut params = [0i32; 16];
+    let mut words = [0i32; 48];
     let mut coefs = [0i16; 64];
     let mut starts = [0i32; 16];
     let mut stored = [0i32; 16];
     let mut log_sizes = [7u16; 65];
-    let told = read(file, &mut pool, &mut params, &mut coefs, &mut starts);
+    put_bounds(&mut words, bounds);
+    let told = read(file, &mut pool, &mut words, &mut coefs, &mut starts);
     let Reading::Accepted { n, m, e } = told else {
         return;
     };
@@ -215,7 +224,7 @@ fn read_and_go_on(file: &[u8], calls: &[u8]) {
         m,
         e,
         &mut pool,
-        &params,
+        &words,
         &coefs,
         &starts,
         &mut stored,
@@ -229,7 +238,7 @@ fn read_and_go_on(file: &[u8], calls: &[u8]) {
         m,
         e,
         &mut pool,
-        &mut params,
+        &mut words,
         &mut coefs,
         &mut stored,
         &mut log_sizes,
@@ -243,10 +252,11 @@ fn session(bytes: &[u8], at: usize) -> usize {
     }
     let length = word(bytes, at) as usize;
     let calls = word(bytes, after(at, 4)) as usize;
-    let file_at = after(at, 8);
+    let file_at = after(at, 136);
     let calls_at = after(file_at, length);
     let end = after(calls_at, 48 * calls);
     read_and_go_on(
+        part(bytes, after(at, 8), 128),
         part(bytes, file_at, length),
         part(bytes, calls_at, 48 * calls),
     );
@@ -263,7 +273,7 @@ fn sessions(bytes: &[u8]) {
 
 // Replays the sessions of the file that argument i names.
 fn replay(i: usize) {
-    let mut file = [0u8; 12288];
+    let mut file = [0u8; 16384];
     let got = read_argument(i, &mut file);
     sessions(&file[..got]);
 }

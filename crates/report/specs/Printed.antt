@@ -6,7 +6,7 @@ use lib.Dec.{ltb}
 use lib.IntN.{ℤ, pos}
 use lib.ListN.{length, replicate}
 use Rattle.paper.specs.Tables.{Tables, lent, indexIn}
-use Rattle.paper.specs.Checks.{Verdict, accepted, refused}
+use Rattle.paper.specs.Checks.{Verdict, accepted, refused, boundsIn, lowest, highest}
 use Rattle.paper.specs.Calls.{Answer, Accepted, Refused, BuildLent, build}
 use Rattle.paper.specs.File.{read}
 use Rattle.files.specs.declared.Reading.{Reading}
@@ -23,6 +23,7 @@ abbrev pub fresh : Tables → List ℤ → BuildLent
 fresh t starts = record {
   session = record { kept = 0; evaluations = 0; blanks = 0 };
   tables = t;
+  bounds = boundsIn (replicate 4096 lowest) (replicate 4096 highest);
   starts = starts;
   numbers = replicate 4096 0;
   order = replicate 4096 0;

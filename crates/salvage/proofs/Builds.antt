@@ -3,12 +3,13 @@
 use Prim.Native.Nat.{ℕ, _<_}
 use native.Mathlib.Nat.{le-refl}
 use native.Mathlib.Omega.{arith}
-use mathlib.Core.Bool.{Bool, true, false, cond, not}
+use mathlib.Core.Bool.{Bool, true, false, cond, not, _&&_, _||_}
 use mathlib.Core.List.{List}
-use mathlib.Core.Path.{_≡_, refl, ap, sym, _∙_, subst}
+use mathlib.Core.Path.{_≡_, refl, ap, ap₂, sym, _∙_, subst}
 use lib.Dec.{eqb}
 use lib.IntN.{ℤ, pos}
 use lib.ListN.{getD}
+use lib.Signed.{leZ}
 use lib.Seq.{getD-take}
 use mir.Syntax.{w32}
 use mir.Val.{SFits}
@@ -17,7 +18,7 @@ use Rattle.integers.specs.Integers.{eqZ}
 use Rattle.paper.specs.Lists.{any, nat, those}
 use Rattle.paper.specs.Formula.{blank}
 use Rattle.paper.specs.Tables.{Tables, isMade, ends, valuesIn}
-use Rattle.paper.specs.Checks.{accepted, sized, startGood, Sound}
+use Rattle.paper.specs.Checks.{accepted, sized, boundGood, within, startGood, inBounds, startAllowed, Sound}
 use Rattle.paper.specs.Calls.{BuildLent, startValues, buildFits, buildVerdict}
 use Rattle.paper.specs.File.{held, nIn, mIn, eIn}
 use Rattle.paper.specs.Demands.{Fitting, cut}
@@ -28,20 +29,24 @@ use Rattle.paper.proofs.Sizes.{held-of}
 use Rattle.paper.proofs.Accept.{tables-next}
 use Rattle.paper.proofs.Reread.{reread, cut-back}
 use Rattle.kept.specs.Saved.{packed, given, startGiven, keptRows, stands, startWhole, savedTables, startKept, savedStarts, savedFile}
-use Rattle.salvage.specs.Promises.{Readable, Builds, SalvageBuilds}
+use Rattle.salvage.specs.Promises.{Readable, AllFull, Builds, SalvageBuilds}
 use Rattle.kept.proofs.Packed.{Rows, packed-sized, packed-sound}
 use Rattle.kept.proofs.Given.{vars-long, coefs-long, given-fits}
 use Rattle.kept.proofs.Kept.{those-at, any-those, keeps, kept-those, rows-kept}
 use Rattle.salvage.proofs.Bare.{bare-sound, sound-bare, bare-ends, bare-starts}
 use Rattle.salvage.proofs.Ends.{all-end}
 use Rattle.salvage.proofs.Fits.{packed-fits}
+use Rattle.salvage.proofs.Full.{full-good, full-within}
 
--- build accepts sound tables in which every chain ends, with good start values, in any rows that are long enough
+-- build accepts sound tables in which every chain ends, with good start values and full bounds, in any rows that are long enough
 build-accepts : (t : Tables) (starts : List ℤ) → Sound t → ((v : ℕ) → ends t v ≡ true) → ((v : ℕ) → v < t .n → startGood t (valuesIn t starts) v ≡ true)
-    → (b : BuildLent) → cut (b .tables, b .starts) ≡ cut (t, starts) → buildFits b ≡ true → buildVerdict b ≡ accepted
+    → ((v : ℕ) → v < t .n → SFits w32 (getD starts v (pos 0)))
+    → (b : BuildLent) → cut (b .tables, b .starts) ≡ cut (t, starts) → AllFull (b .tables .n) (b .bounds) → buildFits b ≡ true → buildVerdict b ≡ accepted
 unfolding buildVerdict
-build-accepts t starts sound chains good b e fits =
-    require-next 1 0 (buildFits b) _ fits ∙ tables-next u own _ ∙ check-next 6 (u .n) (ends u) _ own-chains ∙ check-next 7 (u .n) (startGood u (startValues b)) accepted own-good
+build-accepts t starts sound chains good small b e full fits =
+    require-next 1 0 (buildFits b) _ fits
+    ∙ tables-next u (b .bounds) own (λ v l. ap₂ (boundGood (isMade u v)) (full v l .0) (full v l .1) ∙ full-good (isMade u v)) _
+    ∙ check-next 6 (u .n) (ends u) _ own-chains ∙ check-next 7 (u .n) (startAllowed u (b .bounds) (startValues b)) accepted (λ v l. ap₂ _&&_ (own-good v l) (inside v l))
   where
     u : Tables
     u = b .tables
@@ -52,10 +57,23 @@ build-accepts t starts sound chains good b e fits =
     own-chains : (v : ℕ) → v < b .tables .n → ends (b .tables) v ≡ true
     own-chains v l = sym (bare-ends (b .tables) own v) ∙ ap (λ x. ends (x .0) v) e ∙ bare-ends t sound v ∙ chains v
 
+    low-too : (v : ℕ) → v < b .tables .n → v < t .n
+    low-too v l = rw (ap (λ (x : Tables × List ℤ). x .0 .n) e) at l
+
     own-good : (v : ℕ) → v < b .tables .n → startGood (b .tables) (startValues b) v ≡ true
     own-good v l =
         sym (bare-starts (b .tables) (b .starts) v) ∙ ap (λ x. startGood (x .0) (valuesIn (x .0) (x .1)) v) e
-        ∙ bare-starts t starts v ∙ good v (rw (ap (λ (x : Tables × List ℤ). x .0 .n) e) at l)
+        ∙ bare-starts t starts v ∙ good v (low-too v l)
+
+    own-small : (v : ℕ) → v < b .tables .n → SFits w32 (startValues b v)
+    own-small v l = subst (SFits w32) (sym (ap (λ (x : Tables × List ℤ). getD (x .1) v (pos 0)) e ∙ getD-take (t .n) starts v (pos 0) (low-too v l))) (small v (low-too v l))
+
+    inside : (v : ℕ) → v < b .tables .n → inBounds (b .tables) (b .bounds) (startValues b) v ≡ true
+    inside v l = go (isMade (b .tables) v) (own-good v l)
+      where
+        go : (made : Bool) → cond made (eqZ (startValues b v) (pos 0)) (not (eqZ (startValues b v) blank)) ≡ true → (made || within (b .bounds) v (startValues b v)) ≡ true
+        go true h = refl
+        go false h = ap₂ (λ x y. leZ x (startValues b v) && leZ (startValues b v) y) (full v l .0) (full v l .1) ∙ full-within (startValues b v) (own-small v l) h
 
 module _ (bytes : List ℕ) (ok : Readable bytes) where
   abbrev t : Tables
@@ -126,7 +144,7 @@ module _ (bytes : List ℕ) (ok : Readable bytes) where
     reads = λ t₀ starts₀ h.
         subst (λ back. (back .0 ≡ accepted) × (cut (back .1) ≡ cut (S, savedStarts bytes))) (reread S (savedStarts bytes) holds fits t₀ starts₀ h)
         (refl, cut-back S (savedStarts bytes) holds fits t₀ starts₀);
-    builds = build-accepts S (savedStarts bytes) sound chains starts-good;
+    builds = build-accepts S (savedStarts bytes) sound chains starts-good start-fits;
   }
 
 pub salvage-builds : SalvageBuilds

@@ -1,5 +1,6 @@
 pub mod Ends
 pub mod Fits
+pub mod Full
 pub mod Bare
 pub mod Builds
 pub mod All

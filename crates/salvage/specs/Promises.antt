@@ -1,4 +1,4 @@
--- What holds of what is saved, whatever the bytes are: build accepts it, and a file that was not damaged comes back. `proofs/Builds` and
+-- What holds of what is saved, whatever the bytes are: build accepts it with full bounds, and a file that was not damaged comes back. `proofs/Builds` and
 -- `proofs/Same` prove it. Assumes nothing.
 use Prim.Native.Nat.{ℕ, _<_}
 use mathlib.Core.Bool.{true}
@@ -7,7 +7,7 @@ use mathlib.Core.Path.{_≡_}
 use lib.IntN.{ℤ}
 use Rattle.paper.specs.Lists.{nat}
 use Rattle.paper.specs.Tables.{Tables}
-use Rattle.paper.specs.Checks.{accepted}
+use Rattle.paper.specs.Checks.{accepted, Bounds, lowest, highest, low, high}
 use Rattle.paper.specs.Calls.{BuildLent, buildFits, buildVerdict}
 use Rattle.paper.specs.Demands.{cut}
 use Rattle.paper.specs.File.{held, counted, headed, read}
@@ -18,11 +18,17 @@ pub record Readable (bytes : List ℕ) : Type 0 where
   pub small : (i : ℕ) → nat bytes i < 256
   pub head : headed bytes accepted ≡ accepted
 
--- the saved file is read, by rows that hold it, to the saved tables and start values, and build accepts these, in any rows that are long enough
+-- the bounds of the first n variables are full: the file has none
+abbrev pub AllFull : ℕ → Bounds → Type 0
+AllFull n bs = (v : ℕ) → v < n → (low bs v ≡ lowest) × (high bs v ≡ highest)
+
+-- the saved file is read, by rows that hold it, to the saved tables and start values, and build accepts these with full bounds, in any rows that are
+-- long enough
 pub record Builds (bytes : List ℕ) : Type 0 where
   pub reads : (t : Tables) (starts : List ℤ) → let s = savedTables bytes in held (counted (s .n) (s .m) (s .e) t) starts ≡ true
       → (read (savedFile bytes) t starts .0 ≡ accepted) × (cut (read (savedFile bytes) t starts .1) ≡ cut (s, savedStarts bytes))
-  pub builds : (b : BuildLent) → cut (b .tables, b .starts) ≡ cut (savedTables bytes, savedStarts bytes) → buildFits b ≡ true → buildVerdict b ≡ accepted
+  pub builds : (b : BuildLent) → cut (b .tables, b .starts) ≡ cut (savedTables bytes, savedStarts bytes) → AllFull (b .tables .n) (b .bounds)
+      → buildFits b ≡ true → buildVerdict b ≡ accepted
 
 -- a file that reading and build accept comes back the same, and nothing is listed
 pub record Same (bytes : List ℕ) : Type 0 where

@@ -1,15 +1,19 @@
-// Checks 2 to 5 in the paper's order: whether the tables are sound.
+// Checks 2 to 5 in the paper's order: whether the tables are sound, and the bounds good.
 ghost use mathlib.Core.Path.{_≡_};
-ghost use Prim.Native.Nat.{pred};
+ghost use Prim.Native.Nat.{pred, _≤_};
+ghost use lib.ListN.{length};
 ghost use Rattle.paper.specs.Tables.{lent};
-ghost use Rattle.paper.specs.Checks.{accepted, tableChecks};
+ghost use Rattle.paper.specs.Checks.{accepted, boundsIn, rowChecks};
 ghost use Rattle.paper.proofs.Sizes.{Sized};
 ghost use Rattle.tables.specs.Answers.{answerOf};
+ghost use Rattle.sound.specs.Judged.{TablesJudged};
+use bounds::first_bad_bound;
 use repeats::first_again;
 use tables::Answer;
 use tables::first_bad_kind;
 use tables::first_bad_number;
 use tables::first_bad_shape;
+use tables::makers;
 use tables::refused;
 use tables::total_of;
 
@@ -23,8 +27,8 @@ fn last_row(m: usize) -> usize
     m - 1
 }
 
-// Checks 2 to 5, each over all rows before the next.
-pub fn table_checks(
+// Checks 2 to 4 of the rows, each over all rows before the next.
+pub fn row_checks(
     n: usize,
     m: usize,
     e: usize,
@@ -37,7 +41,7 @@ pub fn table_checks(
     coefs: &[i16],
 ) -> Answer
     requires { ⌜ Sized (lent n m e (now kinds) (now makes) (now params) (now firsts) (now counts) (now vars) (now coefs)) ⌝ }
-    ensures { λ r. ⌜ r ≡ answerOf 0 (tableChecks (lent n m e (now (kinds .entry)) (now (makes .entry)) (now (params .entry)) (now (firsts .entry)) (now (counts .entry))
+    ensures { λ r. ⌜ r ≡ answerOf 0 (rowChecks (lent n m e (now (kinds .entry)) (now (makes .entry)) (now (params .entry)) (now (firsts .entry)) (now (counts .entry))
         (now (vars .entry)) (now (coefs .entry))) accepted) ⌝ }
 {
     let kind = first_bad_kind(m, kinds);
@@ -55,9 +59,42 @@ pub fn table_checks(
     if number < m {
         return refused(4, number);
     }
+    Answer::Accepted { evaluations: 0 }
+}
+
+// Checks 2 to 5, the bounds after the rows of check 4; if all are passed, `by` holds the makers.
+pub fn table_checks(
+    n: usize,
+    m: usize,
+    e: usize,
+    kinds: &[u16],
+    makes: &[u16],
+    params: &[i32],
+    firsts: &[u16],
+    counts: &[u16],
+    vars: &[u16],
+    coefs: &[i16],
+    lows: &[i32],
+    highs: &[i32],
+    by: &mut [u16],
+) -> Answer
+    requires { ⌜ Sized (lent n m e (now kinds) (now makes) (now params) (now firsts) (now counts) (now vars) (now coefs)) ⌝ }
+    requires { ⌜ (n ≤ length (now lows)) × (n ≤ length (now highs)) × (n ≤ length (now by)) ⌝ }
+    ensures { λ r. ⌜ TablesJudged (lent n m e (now (kinds .entry)) (now (makes .entry)) (now (params .entry)) (now (firsts .entry)) (now (counts .entry))
+        (now (vars .entry)) (now (coefs .entry))) (boundsIn (now (lows .entry)) (now (highs .entry))) (now (by .exit)) r ⌝ }
+{
+    let checked = row_checks(n, m, e, kinds, makes, params, firsts, counts, vars, coefs);
+    let Answer::Accepted { .. } = checked else {
+        return checked;
+    };
+    makers(n, m, makes, by);
+    let bad = first_bad_bound(n, by, lows, highs);
+    if bad < n {
+        return refused(4, bad);
+    }
     let again = first_again(m, makes);
     if again < m {
         return refused(5, again);
     }
-    Answer::Accepted { evaluations: 0 }
+    checked
 }

@@ -8,15 +8,17 @@ use mathlib.Core.Path.{_≡_, refl, sym, ap, _∙_}
 use lib.Dec.{eqb}
 use lib.IntN.{pos}
 use lib.ListN.{getD, take, drop}
-use borrow.Author.Tests.{leb-true}
+use borrow.Author.Tests.{leb-true, ltb-true}
 use Rattle.paper.specs.Lists.{total, nat, firstFail}
 use Rattle.paper.specs.Tables.{Tables, part}
-use Rattle.paper.specs.Checks.{Verdict, accepted, refused, check, require, sized, shapeGood, numberGood, madeOnce, tableChecks, Sound}
+use Rattle.paper.specs.Checks.{Verdict, accepted, refused, check, require, sized, kindGood, shapeGood, numberGood, Bounds, boundsGood, madeOnce, rowChecks, tableChecks, Sound}
 use Rattle.paper.proofs.Lists.{and-left, each}
 use Rattle.paper.proofs.Least.{firstFail-before}
 use Rattle.paper.proofs.Scan.{firstFail-same}
+use Rattle.paper.proofs.Verdicts.{check-rest, check-held}
 use Rattle.paper.proofs.Sizes.{Sized, sized-of, sized-facts}
 use Rattle.paper.proofs.Accept.{tables-passed}
+use Rattle.tables.specs.Makers.{AllBelow}
 use Rattle.tables.specs.Rows.{numberRows, coefsGood, paramGood}
 use Rattle.tables.specs.Answers.{answerOf}
 use Rattle.tables.specs.declared.Answer.{Answer}
@@ -25,17 +27,22 @@ use Rattle.tables.proofs.Whole.{front, part-front}
 
 -- ── the chain from each check on ──
 module _ (t : Tables) (next : Verdict) where
-  abbrev pub fromFive : Verdict
-  fromFive = check 5 (t .m) (madeOnce t) next
-
+  -- of the rows
   abbrev pub fromFour : Verdict
-  fromFour = check 4 (t .m) (numberGood t) fromFive
+  fromFour = check 4 (t .m) (numberGood t) next
 
   abbrev pub fromTotal : Verdict
   fromTotal = require 3 (pred (t .m)) (eqb (total (take (t .m) (t .counts))) (t .e)) fromFour
 
   abbrev pub fromThree : Verdict
   fromThree = check 3 (t .m) (shapeGood t) fromTotal
+
+  -- and after them
+  abbrev pub fromFive : Verdict
+  fromFive = check 5 (t .m) (madeOnce t) next
+
+  abbrev pub fromBounds : Bounds → Verdict
+  fromBounds bs = check 4 (t .n) (boundsGood t bs) fromFive
 
 -- ── check 4 after check 3 ──
 -- the parts lie within e, so the first e coefficients are as good as all
@@ -68,6 +75,12 @@ refused-is k a b (refused c d) e = let p : c ≡ a = cc in let q : d ≡ b = cc 
 pub sizes-sized : (t : Tables) (rest r : Bool) → r ≡ (sized t && rest) → r ≡ true → Sized t
 sizes-sized t rest r e h = sized-facts t (and-left (sized t) rest (sym e ∙ h))
 
+-- where `row_checks` accepts: each row makes a variable below n
+pub rows-make : (t : Tables) → rowChecks t accepted ≡ accepted → AllBelow (t .m) (t .makes) (t .n)
+rows-make t e = record {
+  at = λ r l. ltb-true (nat (t .makes) r) (t .n) (each _ (check-held 3 (t .m) (shapeGood t) _ (check-rest 2 (t .m) (kindGood t) (fromThree t accepted) e) r l) .0);
+}
+
 -- where `table_checks` accepts
-pub judged-sound : (t : Tables) (r : Answer) (j : ℕ) → Sized t → r ≡ answerOf 0 (tableChecks t accepted) → r ≡ Accepted j → Sound t
-judged-sound t r j z e h = tables-passed t (sized-of t z) accepted (accepted-is 0 j (tableChecks t accepted) (sym e ∙ h)) .0
+pub judged-sound : (t : Tables) (bs : Bounds) (r : Answer) (j : ℕ) → Sized t → r ≡ answerOf 0 (tableChecks t bs accepted) → r ≡ Accepted j → Sound t
+judged-sound t bs r j z e h = tables-passed t bs (sized-of t z) accepted (accepted-is 0 j (tableChecks t bs accepted) (sym e ∙ h)) .0

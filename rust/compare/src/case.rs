@@ -41,6 +41,8 @@ pub struct Case {
     pub counts: Guarded<u16>,
     pub vars: Guarded<u16>,
     pub coefs: Guarded<i16>,
+    pub lows: Guarded<i32>,
+    pub highs: Guarded<i32>,
     pub starts: Guarded<i32>,
     pub numbers: Guarded<u16>,
     pub order: Guarded<u16>,
@@ -75,6 +77,8 @@ macro_rules! buffers_of {
             ("counts", $($borrowed)+ $case.counts),
             ("vars", $($borrowed)+ $case.vars),
             ("coefs", $($borrowed)+ $case.coefs),
+            ("lows", $($borrowed)+ $case.lows),
+            ("highs", $($borrowed)+ $case.highs),
             ("starts", $($borrowed)+ $case.starts),
             ("numbers", $($borrowed)+ $case.numbers),
             ("order", $($borrowed)+ $case.order),
@@ -117,13 +121,13 @@ impl Case {
 
     /// Every buffer by name, in the order of the fields.
     #[must_use]
-    pub fn buffers(&self) -> [(&'static str, &dyn Buffer); 25] {
+    pub fn buffers(&self) -> [(&'static str, &dyn Buffer); 27] {
         buffers_of!(self, &)
     }
 
     /// Every buffer by name, to be changed.
     #[must_use]
-    pub fn buffers_mut(&mut self) -> [(&'static str, &mut dyn Buffer); 25] {
+    pub fn buffers_mut(&mut self) -> [(&'static str, &mut dyn Buffer); 27] {
         buffers_of!(self, &mut)
     }
 

@@ -3,6 +3,7 @@
 use lent::{LOG_PLACES, LOG_SIZES};
 use second::{BLANK, MOST_ASKED, MOST_ENTRIES, MOST_LOGGED, MOST_PAIRS, MOST_VARIABLES};
 
+use crate::bounds::{damage_bounds, near_a_bound};
 use crate::logs::is_search;
 use crate::salvages::room_for;
 use crate::{Call, Case, Element, Guarded, Random, value};
@@ -10,6 +11,7 @@ use crate::{Call, Case, Element, Guarded, Random, value};
 /// Makes one thing that the call is lent wrong, or only other than it was.
 pub fn damage(random: &mut Random, case: &mut Case) {
     match case.call {
+        Call::Build | Call::Trial | Call::Keep | Call::TakeBack if random.once_in(10) => damage_bounds(random, case),
         Call::Build if random.once_in(4) => damage_starts(random, case),
         Call::Keep | Call::TakeBack if random.once_in(2) => damage_log(random, case),
         Call::Trial | Call::Keep | Call::TakeBack if random.once_in(6) => damage_index(random, case),
@@ -85,10 +87,11 @@ fn any_variable(random: &mut Random, case: &Case) -> u16 {
     random.pick(&[inside, inside, inside, inside, inside, n, n.wrapping_sub(1), 65535])
 }
 
-/// A start value that is blank, or a made variable's that is not 0.
+/// A start value that is blank or next to a bound, or a made variable's that is not 0.
 fn damage_starts(random: &mut Random, case: &mut Case) {
     let variable = random.below(case.n);
-    case.starts.put(variable, random.pick(&[BLANK, 1, -1, 0, i32::MAX, -i32::MAX]));
+    let near = near_a_bound(random, case, variable);
+    case.starts.put(variable, random.pick(&[BLANK, near, near, 1, -1, 0, i32::MAX, -i32::MAX]));
 }
 
 /// A start of the index of readers, a place of it, or two places exchanged; at times beyond the last reader.
@@ -145,7 +148,11 @@ fn damage_log(random: &mut Random, case: &mut Case) {
             case.log_vars.put(place, earlier);
         }
         7 | 8 => case.log_values.put(place, BLANK),
-        9 => case.log_values.put(place, value(random)),
+        9 if random.once_in(2) => case.log_values.put(place, value(random)),
+        9 => {
+            let variable = case.log_vars.get(place).map_or(0, |&variable| usize::from(variable));
+            case.log_values.put(place, near_a_bound(random, case, variable));
+        }
         _ => {
             let beyond = MOST_PAIRS * which + usize::from(size);
             case.log_vars.put(beyond, random.pick(&[65535, any]));
@@ -154,12 +161,13 @@ fn damage_log(random: &mut Random, case: &mut Case) {
     }
 }
 
-/// Numbers, order, stored values with or without their number of blanks, that number, the move, the asked list or the route.
+/// Numbers, order, stored values with or without their number of blanks, that number, the move, at times next to a bound, the
+/// asked list or the route.
 fn damage_change(random: &mut Random, case: &mut Case) {
     let (variable, row) = (random.below(case.n), random.below(case.m));
     let (pair, asked) = (random.below(case.pairs), random.below(case.asked));
     let any = any_variable(random, case);
-    match random.below(12) {
+    match random.below(16) {
         0 => {
             let number = case.numbers.get(variable).copied().unwrap_or(0);
             case.numbers.put(variable, random.pick(&[number.wrapping_add(1), number.wrapping_sub(1), 0, 65535]));
@@ -172,8 +180,8 @@ fn damage_change(random: &mut Random, case: &mut Case) {
             }
         }
         3 => {
-            let value = value(random);
-            let stored = random.pick(&[BLANK, value]);
+            let (value, near) = (value(random), near_a_bound(random, case, variable));
+            let stored = random.pick(&[BLANK, BLANK, value, near]);
             case.stored.put(variable, stored);
             if !random.once_in(4) {
                 case.count_blanks();
@@ -185,7 +193,11 @@ fn damage_change(random: &mut Random, case: &mut Case) {
             case.move_vars.put(pair, earlier);
         }
         6 => case.move_values.put(pair, BLANK),
-        7 => case.asked_vars.put(asked, any),
+        12 | 13 => {
+            let variable = case.move_vars.get(pair).map_or(0, |&variable| usize::from(variable));
+            case.move_values.put(pair, near_a_bound(random, case, variable));
+        }
+        7 | 14 | 15 => case.asked_vars.put(asked, any),
         8 => case.route = random.pick(&[0, 1, 2, 3, 4, u32::MAX, 1 << 16]),
         9 | 10 => {
             let blanks = case.blanks();
@@ -287,6 +299,8 @@ fn buffers(case: &mut Case) -> Vec<(&mut dyn Length, usize)> {
         lent.push((&mut case.log_values, LOG_PLACES));
     }
     if matches!(case.call, Call::Build | Call::Trial | Call::Keep | Call::TakeBack) {
+        lent.push((&mut case.lows, n));
+        lent.push((&mut case.highs, n));
         lent.push((&mut case.numbers, n));
         lent.push((&mut case.order, m));
         lent.push((&mut case.stored, n));

@@ -2,7 +2,7 @@
 
 use std::ops::Range;
 
-use second::{BLANK, MOST_LOGGED};
+use second::{BLANK, HIGHEST, LOWEST, MOST_LOGGED};
 
 use crate::runs::{built, keep, model_a, read_twice, take_back, trial};
 use crate::{Call, Case, Engine, Row, Side, Test, chain, of_rows, one_short};
@@ -97,6 +97,7 @@ fn refusal_1_buffers(engine: &dyn Engine) {
             gives(engine, &format!("{:?}: buffer {which} one short", call.call), short, 1, 0);
             let also_wrong = with(short, |case| {
                 case.kinds.fill(0);
+                case.lows.fill(BLANK);
                 case.starts.fill(BLANK);
                 case.numbers.fill(9);
                 case.reader_starts.fill(9);
@@ -199,6 +200,191 @@ fn refusal_4(engine: &dyn Engine) {
     for call in &all_calls(engine)[..3] {
         gives(engine, "the row's place", &with(call, |case| case.coefs[4] = 0), 4, 1);
         gives(engine, "the least row", &with(call, |case| (case.params[1], case.coefs[6]) = (1, 1001)), 4, 1);
+    }
+}
+
+/// Bounds that a search variable with the value 600 may have, and such that give 4 or 7.
+const BOUNDS: [(i32, i32, u32); 17] = [
+    (LOWEST, HIGHEST, 0),
+    (600, 600, 0),
+    (600, HIGHEST, 0),
+    (LOWEST, 600, 0),
+    (599, 601, 0),
+    (LOWEST, LOWEST, 7),
+    (HIGHEST, HIGHEST, 7),
+    (601, HIGHEST, 7),
+    (LOWEST, 599, 7),
+    (601, 601, 7),
+    (599, 599, 7),
+    (601, 600, 4),
+    (HIGHEST, LOWEST, 4),
+    (BLANK, HIGHEST, 4),
+    (LOWEST, BLANK, 4),
+    (BLANK, BLANK, 4),
+    (BLANK, 600, 4),
+];
+
+fn refusals_4_and_7_of_bounds(engine: &dyn Engine) {
+    for mut call in all_calls(engine).into_iter().take(4) {
+        (call.pairs, call.log_sizes[1]) = (0, 0);
+        for (low, high, number) in BOUNDS {
+            let place = if number == 0 { 0 } else { 2 };
+            gives(engine, &format!("{low} to {high}"), &call.clone().with_bounds(2, low, high), number, place);
+        }
+        for (low, high, number) in [
+            (LOWEST, HIGHEST, 0),
+            (LOWEST + 1, HIGHEST, 4),
+            (LOWEST, HIGHEST - 1, 4),
+            (BLANK, HIGHEST, 4),
+            (HIGHEST, LOWEST, 4),
+            (0, 0, 4),
+        ] {
+            for made in [3, 5] {
+                let place = if number == 0 { 0 } else { made as u32 };
+                let not_full = call.clone().with_bounds(made, low, high);
+                gives(engine, &format!("made, {low} to {high}"), &not_full, number, place);
+                gives(engine, "the least variable", &not_full.with_bounds(0, 1, 0), 4, 0);
+            }
+        }
+        let twice = with(&call, |case| case.makes[2] = 4);
+        gives(engine, "made twice", &twice, 5, 2);
+        gives(engine, "made twice, not full", &twice.clone().with_bounds(4, 0, 1), 4, 4);
+        gives(engine, "made twice, another narrow", &twice.clone().with_bounds(5, -1, 1), 5, 2);
+        gives(engine, "4 of bounds before 5", &twice.with_bounds(2, 1, 0), 4, 2);
+        let weighed = with(&call, |case| case.coefs[6] = 1001).with_bounds(0, 1, 0);
+        gives(engine, "4 of rows before 4 of bounds", &weighed, 4, 2);
+        let beyond = with(&call, |case| {
+            case.lows.edit(|lows| lows.push(HIGHEST));
+            case.highs.edit(|highs| highs.push(BLANK));
+        });
+        gives(engine, "bounds beyond n", &beyond, 0, 0);
+    }
+}
+
+fn refusal_4_of_many_bounds(engine: &dyn Engine) {
+    let build = no_rows(4096);
+    let model = built(engine, &build);
+    let kept = Side::of(engine, &keep(&model, &[])).left;
+    for call in [build, trial(&model, &[], &[], 1), keep(&model, &[]), take_back(&kept)] {
+        for place in [0, 1, 2047, 4094, 4095] {
+            gives(engine, "not in order", &call.clone().with_bounds(place, 1, 0), 4, place as u32);
+            gives(engine, "0 alone", &call.clone().with_bounds(place, 0, 0), 0, 0);
+            gives(engine, "not 0", &call.clone().with_bounds(place, 1, 1), 7, place as u32);
+        }
+    }
+}
+
+/// Start and stored values on both sides of each bound, and blank.
+fn refusal_7_outside(engine: &dyn Engine) {
+    for (value, number) in [(299, 7), (300, 0), (301, 0), (899, 0), (900, 0), (901, 7), (LOWEST, 7), (HIGHEST, 7)] {
+        let place = if number == 0 { 0 } else { 2 };
+        let build = with(&model_a(), |case| case.starts[2] = value).with_bounds(2, 300, 900);
+        gives(engine, &format!("start value {value}"), &build, number, place);
+        for mut call in all_calls(engine).into_iter().skip(1).take(3) {
+            (call.pairs, call.log_sizes[1]) = (0, 0);
+            let stored = with(&call, |case| case.stored[2] = value).with_bounds(2, 300, 900);
+            gives(engine, &format!("stored value {value}"), &stored, number, place);
+            gives(engine, "8 before 7", &with(&stored, |case| case.order.swap(0, 1)), 8, 0);
+            gives(engine, "19 before 7", &with(&stored, |case| case.session.blanks += 1), 19, 0);
+        }
+    }
+    let both = model_a().with_bounds(1, 0, 1).with_bounds(2, 0, 1);
+    gives(engine, "the least variable", &both, 7, 1);
+    let narrow = model_a().with_bounds(2, 300, 900);
+    gives(engine, "a blank", &with(&narrow, |case| case.starts[2] = BLANK), 7, 2);
+    let made = with(&narrow, |case| (case.starts[2], case.starts[3]) = (901, 1));
+    gives(engine, "and a made one not 0", &made, 7, 2);
+    for call in &all_calls(engine)[1..4] {
+        gives(engine, "a stored blank", &with_blanks(call, 2..3).with_bounds(2, 300, 900), 7, 2);
+        gives(engine, "made values blank", &with_blanks(call, 3..6).with_bounds(2, -9, 900), 0, 0);
+    }
+}
+
+fn refusal_17(engine: &dyn Engine) {
+    for call in &all_calls(engine)[1..3] {
+        let call = call.clone().with_bounds(0, 1, 25200).with_bounds(2, -1, 900);
+        gives(engine, "within", &call, 0, 0);
+        for (pair, value, number) in [
+            (0, 0, 17),
+            (0, 1, 0),
+            (0, 25200, 0),
+            (0, 25201, 17),
+            (0, LOWEST, 17),
+            (0, HIGHEST, 17),
+            (2, -2, 17),
+            (2, -1, 0),
+            (2, 900, 0),
+            (2, 901, 17),
+            (1, LOWEST, 0),
+            (1, HIGHEST, 0),
+        ] {
+            let place = if number == 0 { 0 } else { pair as u32 };
+            let moved = with(&call, |case| case.move_values[pair] = value);
+            gives(engine, &format!("pair {pair}, new value {value}"), &moved, number, place);
+        }
+        let both = with(&call, |case| (case.move_values[0], case.move_values[2]) = (0, 901));
+        gives(engine, "the least pair", &both, 17, 0);
+        gives(engine, "12 before 17", &with(&both, |case| case.move_values[1] = BLANK), 12, 1);
+        gives(engine, "a blank is no value first", &with(&both, |case| case.move_values[2] = BLANK), 12, 2);
+        gives(engine, "11 before 17", &with(&both, |case| case.move_vars[1] = 0), 11, 1);
+        gives(engine, "10 before 17", &with(&both, |case| case.move_vars[1] = 65535), 10, 1);
+        gives(engine, "by its variable, not its place", &with(&both, |case| case.move_vars.swap(0, 1)), 17, 2);
+        gives(engine, "beyond the pairs", &with(&both, |case| (case.pairs, case.move_values[0]) = (2, 1)), 0, 0);
+        let narrow = call.clone().with_bounds(1, 28800, 28800);
+        let fixed = with(&narrow, |case| (case.move_values[1], case.log_sizes[0]) = (28800, 0));
+        gives(engine, "the only value allowed", &fixed, 0, 0);
+        gives(engine, "another", &with(&fixed, |case| case.move_values[1] = 28801), 17, 1);
+    }
+    let many = built(engine, &no_rows(64));
+    let pairs: Vec<(u16, i32)> = (0..64).map(|variable| (63 - variable, 5)).collect();
+    for call in [trial(&many, &pairs, &[], 1), keep(&many, &pairs)] {
+        for variable in [0, 31, 63] {
+            let bounded = call.clone().with_bounds(variable, 0, 4);
+            gives(engine, "any of 64 pairs", &bounded, 17, 63 - variable as u32);
+        }
+    }
+}
+
+/// A logged value on both sides of each bound, wherever it stands.
+fn refusal_16_outside(engine: &dyn Engine) {
+    for call in &all_calls(engine)[2..4] {
+        let call = call.clone().with_bounds(0, 1, 25200).with_bounds(2, -1, 900);
+        for (place, value, number) in [
+            (0, 1, 0),
+            (0, 0, 16),
+            (0, 25200, 0),
+            (0, 25201, 16),
+            (1, 900, 0),
+            (1, 901, 16),
+            (1, -1, 0),
+            (1, -2, 16),
+            (64, LOWEST, 0),
+            (64, HIGHEST, 0),
+            (64, BLANK, 16),
+            (2, 99_999, 0),
+            (65, 99_999, 0),
+            (128, 99_999, 0),
+        ] {
+            let logged = with(&call, |case| case.log_values[place] = value);
+            gives(engine, &format!("place {place}, value {value}"), &logged, number, 0);
+        }
+        let latest = with(&call, |case| (case.log_vars[64], case.log_values[64]) = (2, 901));
+        gives(engine, "in the latest", &latest, 16, 0);
+        if call.call == Call::Keep {
+            gives(engine, "17 before 16", &with(&latest, |case| case.move_values[0] = 0), 17, 0);
+        }
+    }
+    let model = built(engine, &no_rows(64));
+    let move_of = |k: u16| (0..64).map(|pair| ((pair + k) % 64, 5)).collect::<Vec<(u16, i32)>>();
+    let mut full = model.with_moves(&(0..MOST_LOGGED as u16).map(move_of).collect::<Vec<_>>());
+    full.session.kept = 64;
+    for call in [keep(&full, &[(0, 1)]), take_back(&full)] {
+        for place in [0, 63, 64, 2100, 4032, 4095] {
+            let variable = usize::from(call.log_vars[place]);
+            let bounded = call.clone().with_bounds(variable, 0, 5);
+            gives(engine, "at the highest", &bounded, 0, 0);
+            gives(engine, "one above", &with(&bounded, |case| case.log_values[place] = 6), 16, 0);
+        }
     }
 }
 
@@ -575,11 +761,12 @@ type Fault = (u32, u32, fn(&mut Case));
 
 /// Of two things wrong the check that runs first speaks.
 fn the_order_of_checks(engine: &dyn Engine) {
-    let tables: [Fault; 5] = [
+    let tables: [Fault; 6] = [
         (1, 0, |case| case.n = 0),
         (2, 1, |case| case.kinds[1] = 0),
         (3, 2, |case| case.vars[6] = 99),
         (4, 0, |case| case.params[0] = 1),
+        (4, 2, |case| case.lows.put(2, BLANK)),
         (5, 1, |case| case.makes[1] = 3),
     ];
     let build: [Fault; 2] = [(6, 3, |case| case.vars[0] = 5), (7, 1, |case| case.starts[1] = BLANK)];
@@ -589,10 +776,11 @@ fn the_order_of_checks(engine: &dyn Engine) {
         (7, 1, |case| (case.stored[1], case.session.blanks) = (BLANK, 1)),
     ];
     let route: Fault = (9, 0, |case| case.route = 0);
-    let pairs: [Fault; 3] = [
+    let pairs: [Fault; 4] = [
         (10, 2, |case| case.move_vars[2] = 4),
         (11, 1, |case| case.move_vars[1] = 0),
         (12, 0, |case| case.move_values[0] = BLANK),
+        (17, 1, |case| (case.highs[1], case.move_values[1]) = (28800, 28801)),
     ];
     let asked: Fault = (13, 1, |case| case.asked_vars[1] = 6);
     let log: [Fault; 2] = [(16, 0, |case| case.log_sizes[0] = 65), (15, 0, |case| case.log_sizes[0] = 0)];
@@ -624,9 +812,12 @@ pub const EDGES: &[Test] = &[
     ("3: inputs", refusal_3_inputs),
     ("3: places", refusal_3_places),
     ("4", refusal_4),
+    ("4 and 7 of bounds", refusals_4_and_7_of_bounds),
+    ("4: bounds of 4,096 variables", refusal_4_of_many_bounds),
     ("5", refusal_5),
     ("6", refusal_6),
     ("7", refusal_7),
+    ("7: values outside", refusal_7_outside),
     ("8", refusal_8),
     ("8: a variable that no row reads", refusal_8_unread),
     ("8: the index", refusal_8_index),
@@ -636,6 +827,8 @@ pub const EDGES: &[Test] = &[
     ("15", refusal_15),
     ("16", refusal_16),
     ("16: bounds", refusal_16_bounds),
+    ("16: values outside", refusal_16_outside),
+    ("17", refusal_17),
     ("19", refusal_19),
     ("19: bounds", refusal_19_bounds),
     ("14", refusal_14),

@@ -1,6 +1,6 @@
 //! Who answers a case.
 
-use lent::{Asked, Built, Keep, Move, Session, State, Tables, TablesMut, TakeBack, Trial, Tried};
+use lent::{Asked, Bounds, Built, Keep, Move, Session, State, Tables, TablesMut, TakeBack, Trial, Tried};
 
 use crate::{Answer, Call, Case};
 
@@ -16,16 +16,17 @@ pub type Test = (&'static str, fn(&dyn Engine));
 /// The seven calls over what is lent to them.
 pub trait Calls {
     /// Numbers, order, values and readers from tables and start values, and an empty log.
-    fn build(session: &mut Session, tables: Tables<'_>, starts: &[i32], built: Built<'_>) -> Answer;
+    fn build(session: &mut Session, tables: Tables<'_>, bounds: Bounds<'_>, starts: &[i32], built: Built<'_>)
+    -> Answer;
 
     /// A move tried by a route.
-    fn trial(session: &mut Session, tables: Tables<'_>, lent: Trial<'_>) -> Answer;
+    fn trial(session: &mut Session, tables: Tables<'_>, bounds: Bounds<'_>, lent: Trial<'_>) -> Answer;
 
     /// A move kept.
-    fn keep(session: &mut Session, tables: Tables<'_>, lent: Keep<'_>) -> Answer;
+    fn keep(session: &mut Session, tables: Tables<'_>, bounds: Bounds<'_>, lent: Keep<'_>) -> Answer;
 
     /// The latest kept move taken back.
-    fn take_back(session: &mut Session, tables: Tables<'_>, lent: TakeBack<'_>) -> Answer;
+    fn take_back(session: &mut Session, tables: Tables<'_>, bounds: Bounds<'_>, lent: TakeBack<'_>) -> Answer;
 
     /// Tables from a file.
     fn read(bytes: &[u8], tables: TablesMut<'_>) -> Answer;
@@ -41,6 +42,7 @@ impl<C: Calls> Engine for C {
     fn answer(&self, case: &mut Case) -> Answer {
         let Case { call, session, n, m, e, starts, kinds, makes, params, firsts, counts, vars, coefs, .. } = case;
         let tables = Tables { n: *n, m: *m, e: *e, kinds, makes, params, firsts, counts, vars, coefs };
+        let bounds = Bounds { lows: &case.lows, highs: &case.highs };
         let moved = Move { pairs: case.pairs, vars: &case.move_vars, values: &case.move_values };
         let (numbers, order, stored, flags) = (&mut case.numbers, &mut case.order, &mut case.stored, &mut case.flags);
         let (reader_starts, reader_places) = (&mut case.reader_starts, &mut case.reader_places);
@@ -48,17 +50,18 @@ impl<C: Calls> Engine for C {
         match call {
             Call::Build => {
                 let built = Built { numbers, order, stored, reader_starts, reader_places, log_sizes };
-                C::build(session, tables, starts, built)
+                C::build(session, tables, bounds, starts, built)
             }
             Call::Trial => {
                 let state = State { numbers, order, stored, reader_starts, reader_places };
                 let asked = Asked { asked: case.asked, vars: &case.asked_vars };
                 let tried = Tried { results: &mut case.results, trial: &mut case.trial, flags };
-                C::trial(session, tables, Trial { state, moved, asked, route: case.route, tried })
+                C::trial(session, tables, bounds, Trial { state, moved, asked, route: case.route, tried })
             }
             Call::Keep => C::keep(
                 session,
                 tables,
+                bounds,
                 Keep {
                     numbers,
                     order,
@@ -75,6 +78,7 @@ impl<C: Calls> Engine for C {
             Call::TakeBack => C::take_back(
                 session,
                 tables,
+                bounds,
                 TakeBack {
                     numbers,
                     order,
@@ -99,20 +103,26 @@ impl<C: Calls> Engine for C {
 pub struct Second;
 
 impl Calls for Second {
-    fn build(session: &mut Session, tables: Tables<'_>, starts: &[i32], built: Built<'_>) -> Answer {
-        Answer::of_call(second::build(session, tables, starts, built))
+    fn build(
+        session: &mut Session,
+        tables: Tables<'_>,
+        bounds: Bounds<'_>,
+        starts: &[i32],
+        built: Built<'_>,
+    ) -> Answer {
+        Answer::of_call(second::build(session, tables, bounds, starts, built))
     }
 
-    fn trial(session: &mut Session, tables: Tables<'_>, lent: Trial<'_>) -> Answer {
-        Answer::of_call(second::trial(session, tables, lent))
+    fn trial(session: &mut Session, tables: Tables<'_>, bounds: Bounds<'_>, lent: Trial<'_>) -> Answer {
+        Answer::of_call(second::trial(session, tables, bounds, lent))
     }
 
-    fn keep(session: &mut Session, tables: Tables<'_>, lent: Keep<'_>) -> Answer {
-        Answer::of_call(second::keep(session, tables, lent))
+    fn keep(session: &mut Session, tables: Tables<'_>, bounds: Bounds<'_>, lent: Keep<'_>) -> Answer {
+        Answer::of_call(second::keep(session, tables, bounds, lent))
     }
 
-    fn take_back(session: &mut Session, tables: Tables<'_>, lent: TakeBack<'_>) -> Answer {
-        Answer::of_call(second::take_back(session, tables, lent))
+    fn take_back(session: &mut Session, tables: Tables<'_>, bounds: Bounds<'_>, lent: TakeBack<'_>) -> Answer {
+        Answer::of_call(second::take_back(session, tables, bounds, lent))
     }
 
     fn read(bytes: &[u8], tables: TablesMut<'_>) -> Answer {

@@ -8,6 +8,7 @@
 #![forbid(unsafe_code)]
 #![warn(missing_docs)]
 
+mod bounds;
 mod case;
 mod damage;
 pub mod deep;
@@ -28,6 +29,7 @@ mod shrink;
 pub mod takings;
 mod tests;
 
+pub use bounds::{draw_bounds, move_outside, near_a_bound, within};
 pub use case::{Answer, Call, Case};
 pub use damage::{damage, lengthen, one_short, scramble, shorten};
 pub use difference::{Difference, Side, compare};

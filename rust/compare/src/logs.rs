@@ -3,7 +3,7 @@
 use lent::{LOG_PLACES, LOG_SIZES};
 use second::{MOST_LOGGED, MOST_PAIRS};
 
-use crate::{Case, Guarded, Random, value};
+use crate::{Case, Guarded, Random, value, within};
 
 impl Case {
     /// The case with rows for a log, empty and just as long as they must be, unless it has some.
@@ -66,7 +66,7 @@ pub fn draw_log(random: &mut Random, case: &mut Case) {
     };
     let search: Vec<u16> = (0..case.n as u16).filter(|&variable| is_search(case, variable)).collect();
     let moves = moves.min(case.session.kept as usize);
-    let moves: Vec<_> = (0..moves).map(|_| draw_pairs(random, &search)).collect();
+    let moves: Vec<_> = (0..moves).map(|_| draw_pairs(random, case, &search)).collect();
     *case = std::mem::take(case).with_moves(&moves);
 }
 
@@ -75,11 +75,15 @@ pub(crate) fn is_search(case: &Case, variable: u16) -> bool {
     case.numbers.get(usize::from(variable)) == Some(&0)
 }
 
-/// A random move in a log: search variables, each once, with values.
-fn draw_pairs(random: &mut Random, search: &[u16]) -> Vec<(u16, i32)> {
+/// A random move in a log: search variables, each once, with values that their bounds allow.
+fn draw_pairs(random: &mut Random, case: &Case, search: &[u16]) -> Vec<(u16, i32)> {
     let most = search.len().min(MOST_PAIRS);
     let wanted = if random.once_in(8) { most } else { random.below(4).min(most) };
     let first = random.below(search.len());
     let variables = search.iter().cycle().skip(first).take(wanted);
-    variables.map(|&variable| (variable, value(random))).collect()
+    let mut draw = |variable: u16| {
+        let value = value(random);
+        within(random, case, variable.into(), value)
+    };
+    variables.map(|&variable| (variable, draw(variable))).collect()
 }

@@ -2,7 +2,7 @@
 
 use lent::LOG_SIZES;
 
-use crate::{Call, Case, Guarded, Random};
+use crate::{Call, Case, Guarded, Random, draw_bounds};
 
 const LINEAR: u16 = 1;
 const MAX: u16 = 3;
@@ -96,6 +96,7 @@ pub fn model_of(random: &mut Random, n: usize, sizes: Sizes) -> Case {
         starts[usize::from(row.makes)] = 0;
     }
     let mut case = of_rows(starts, &rows);
+    draw_bounds(random, &mut case);
     junk(random, &mut case);
     case
 }
@@ -128,7 +129,7 @@ fn draw_row(random: &mut Random, most: usize, known: &[u16], makes: u16) -> Row 
     Row { kind, makes, parameter, entries }
 }
 
-/// A build of these rows over these start values, with buffers that are just as long as the counts ask.
+/// A build of these rows over these start values and full bounds, with buffers that are just as long as the counts ask.
 #[must_use]
 pub fn of_rows(starts: Vec<i32>, rows: &[Row]) -> Case {
     let (n, m) = (starts.len(), rows.len());
@@ -155,10 +156,11 @@ pub fn of_rows(starts: Vec<i32>, rows: &[Row]) -> Case {
 }
 
 impl Case {
-    /// The case with buffers for a build that are just as long as its counts ask.
+    /// The case with buffers for a build that are just as long as its counts ask, and full bounds unless it has some.
     #[must_use]
     pub fn with_room(self) -> Case {
-        let Case { n, m, e, .. } = self;
+        let bounded = if self.lows.is_empty() { self.with_full_bounds() } else { self };
+        let Case { n, m, e, .. } = bounded;
         Case {
             numbers: vec![0; n].into(),
             order: vec![0; m].into(),
@@ -166,7 +168,7 @@ impl Case {
             reader_starts: vec![0; n + 1].into(),
             reader_places: vec![0; e].into(),
             log_sizes: vec![0; LOG_SIZES].into(),
-            ..self
+            ..bounded
         }
     }
 }

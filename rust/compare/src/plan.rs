@@ -2,11 +2,12 @@
 
 use second::MOST_LOGGED;
 
+use crate::bounds::move_outside;
 use crate::logs::is_search;
 use crate::shrink::rebuilt;
 use crate::{
     Call, Case, Difference, Engine, Guarded, Random, Second, Sizes, chain, compare, damage, draw_log, lengthen, model,
-    model_of, shorten, shrink, value,
+    model_of, shorten, shrink, value, within,
 };
 
 /// The seed of a run without another.
@@ -60,7 +61,7 @@ impl Tally {
     /// If one hardly ever came.
     pub fn assert_wide(&self) {
         println!("{self:?}");
-        let often = |number: usize| self.by_number[number] > 100 || [17, 18].contains(&number);
+        let often = |number: usize| self.by_number[number] > 100 || number == 18;
         assert!((0..20).all(often), "every number that a check has comes back often: {self:?}");
         assert!(self.accepted.iter().all(|&calls| calls > 1_000), "every call is accepted often: {self:?}");
         assert!(self.by_index > 1_000, "the index alone is often wrong: {self:?}");
@@ -117,8 +118,10 @@ pub fn calls_on(random: &mut Random, build: &Case) -> Vec<Case> {
         let tried = trial_of(random, from);
         calls.push(damaged(random, &tried));
         calls.push(damaged(random, &tried));
+        calls.extend(outside(random, &tried));
         calls.push(tried);
         let mut kept = keep_of(random, from);
+        calls.extend(outside(random, &kept));
         calls.push(damaged(random, &kept));
         calls.push(kept.clone());
         Second.answer(&mut kept);
@@ -135,6 +138,13 @@ pub fn calls_on(random: &mut Random, build: &Case) -> Vec<Case> {
         }
     }
     calls
+}
+
+/// The same move beyond a bound if it can be, alone and with one or two things wrong.
+fn outside(random: &mut Random, case: &Case) -> [Case; 2] {
+    let mut case = case.clone();
+    move_outside(random, &mut case);
+    [damaged(random, &case), case]
 }
 
 /// A case with one or two things wrong, or a buffer one too short.
@@ -156,7 +166,9 @@ fn stale(random: &mut Random, built: &Case) -> Case {
         if random.once_in(3) {
             let made = stale.numbers.get(place).is_some_and(|&number| number > 0);
             let blank = made && random.once_in(3);
-            stale.stored.put(place, if blank { second::BLANK } else { value(random) });
+            let value = value(random);
+            let allowed = within(random, &stale, place, value);
+            stale.stored.put(place, if blank { second::BLANK } else { allowed });
         }
     }
     stale.count_blanks();
@@ -203,7 +215,7 @@ fn without_log(case: Case) -> Case {
     Case { log_sizes: Guarded::default(), log_vars: Guarded::default(), log_values: Guarded::default(), ..case }
 }
 
-/// Gives a case a move: search variables, each once, some with the value that they have.
+/// Gives a case a move: search variables, each once, with values that their bounds allow, some with the value that they have.
 pub fn draw_move(random: &mut Random, case: &mut Case) {
     let is_search = |&variable: &u16| is_search(case, variable);
     let wanted = if random.once_in(8) { random.below(65) } else { random.below(4) };
@@ -219,7 +231,11 @@ pub fn draw_move(random: &mut Random, case: &mut Case) {
         Some(&stored) if stored < i32::MAX && random.once_in(2) => stored + 1,
         _ => value(random),
     };
-    let values: Vec<i32> = variables.iter().map(|&variable| new_value(random, variable)).collect();
+    let mut allowed = |variable: u16| {
+        let value = new_value(random, variable);
+        within(random, case, variable.into(), value)
+    };
+    let values: Vec<i32> = variables.iter().map(|&variable| allowed(variable)).collect();
     case.pairs = variables.len();
     case.move_vars = variables.into();
     case.move_values = values.into();

@@ -377,6 +377,32 @@ fn the_number_of_blanks(engine: &dyn Engine) {
     }
 }
 
+/// A slipped digit is refused where bounds say what a headway may be; the bounds themselves are allowed, and made variables
+/// may have any value.
+fn bounds(engine: &dyn Engine) {
+    let model = built(engine, &model_a().with_bounds(2, 60, 6_000).with_bounds(0, 25200, 25200));
+    assert_eq!(*model.stored, [25200, 28800, 600, 6, 28200, 26]);
+    for (headway, departures) in [(60, 60), (6_000, 1)] {
+        for route in 1..=3 {
+            let tried = trial(&model, &[(2, headway), (0, 25200)], &[3], route);
+            assert_eq!(*Side::of(engine, &tried).left.results, [departures]);
+        }
+        let kept = Side::of(engine, &keep(&model, &[(2, headway)])).left;
+        assert_eq!((kept.stored[3], kept.session.kept), (departures, 1));
+    }
+    for (slipped, pair) in
+        [(&[(2, 60_000)][..], 0), (&[(1, 28801), (2, 6_001)], 1), (&[(2, 59)], 0), (&[(0, 25201)], 0)]
+    {
+        for call in [trial(&model, slipped, &[3], 1), keep(&model, slipped)] {
+            let side = Side::of(engine, &call);
+            assert_eq!((side.answer.number, side.answer.place), (17, pair));
+            assert_eq!(side.left, call);
+        }
+    }
+    let blank = built(engine, &window(25200, 28800, 0).with_bounds(2, 0, 0));
+    assert_eq!((&blank.stored[3..], blank.session.blanks), (&[BLANK; 3][..], 3));
+}
+
 /// Over stored values that no call produced each route follows its own rule.
 fn stale_values(engine: &dyn Engine) {
     let mut model = built(engine, &model_a());
@@ -430,6 +456,7 @@ pub const RUNS: &[Test] = &[
     ("keeping", keeping),
     ("the ceiling of moves kept", the_ceiling_of_moves_kept),
     ("the number of blanks", the_number_of_blanks),
+    ("bounds", bounds),
     ("stale values", stale_values),
     ("longer buffers", longer_buffers),
 ];

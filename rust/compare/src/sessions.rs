@@ -1,11 +1,12 @@
 //! Long sessions over one log, as tests of any engine beside the second implementation: many more keeps than the log
 //! holds, takings back among them, and now and then a trial, a refused call or a build anew. Taking back leaves the values
 //! before the move byte for byte, and the log is as it was before it; the record's number of blanks is that of the stored
-//! values after every call.
+//! values after every call. Half the models have narrow bounds: every stored value of a search variable lies within them, and
+//! a move outside is refused.
 
 use std::collections::VecDeque;
 
-use second::MOST_LOGGED;
+use second::{BLANK, MOST_LOGGED};
 
 use crate::{
     Call, Case, Difference, Engine, Guarded, Random, Second, Sizes, compare, draw_move, model, seed, shrink, trial_of,
@@ -33,9 +34,10 @@ pub fn long_sessions(engine: &dyn Engine) {
         tally.add(&session.tally);
     }
     println!("{tally:?}");
-    let Tally { kept, pushed, taken, spent, more, fewer } = tally;
+    let Tally { kept, pushed, taken, spent, more, fewer, outside } = tally;
     assert!(kept > 10_000 && pushed > 2_000 && taken > 5_000 && spent > 100, "every turn comes often: {tally:?}");
     assert!(more > 300 && fewer > 300, "blanks come and go: {tally:?}");
+    assert!(outside > 100, "moves outside the bounds are refused: {tally:?}");
 }
 
 /// A model of some size, with more search variables than a move has pairs at times.
@@ -46,7 +48,7 @@ fn draw(random: &mut Random) -> Case {
 }
 
 /// What happened: keeps, keeps that pushed a move out of the log, takings back, and those with nothing left; calls that left
-/// more blanks, and fewer.
+/// more blanks, and fewer; moves outside the bounds.
 #[derive(Clone, Copy, Debug, Default)]
 struct Tally {
     kept: usize,
@@ -55,6 +57,7 @@ struct Tally {
     spent: usize,
     more: usize,
     fewer: usize,
+    outside: usize,
 }
 
 impl Tally {
@@ -65,6 +68,7 @@ impl Tally {
         self.spent += other.spent;
         self.more += other.more;
         self.fewer += other.fewer;
+        self.outside += other.outside;
     }
 }
 
@@ -150,12 +154,31 @@ impl<'a> Session<'a> {
         self.make(Call::Keep, 19);
         self.make(Call::TakeBack, 19);
         self.model.session.blanks = blanks;
+        self.outside(random);
         self.model.pairs = 1;
         self.model.move_vars = vec![self.model.n as u16].into();
         self.model.move_values = vec![0].into();
         self.model.flags = Guarded::junk(random, self.model.n);
         self.make(Call::Keep, 10);
         self.holds();
+    }
+
+    /// A move one beyond a bound, if some search variable has such a number.
+    fn outside(&mut self, random: &mut Random) {
+        let search = (0..self.model.n).filter(|&variable| self.model.numbers[variable] == 0);
+        let beyond = |variable: usize| {
+            let (low, high) = self.model.bounds(variable);
+            let values = [low.checked_sub(1).filter(|&value| value != BLANK), high.checked_add(1)];
+            values.into_iter().flatten().map(move |value| (variable as u16, value))
+        };
+        let pairs: Vec<(u16, i32)> = search.flat_map(beyond).collect();
+        if let Some(&(variable, value)) = pairs.get(random.below(pairs.len())) {
+            self.model.pairs = 1;
+            self.model.move_vars = vec![variable].into();
+            self.model.move_values = vec![value].into();
+            self.make(Call::Keep, 17);
+            self.tally.outside += 1;
+        }
     }
 
     /// A trial is not lent the log.
@@ -177,6 +200,11 @@ impl<'a> Session<'a> {
     fn holds(&self) {
         assert_eq!((self.model.logged(), self.model.session.kept), (self.before.len(), self.kept));
         assert_eq!(self.model.session.blanks, self.model.blanks(), "the number of blanks");
+        let within = |variable: usize| {
+            let (low, high) = self.model.bounds(variable);
+            self.model.numbers[variable] > 0 || (low..=high).contains(&self.model.stored[variable])
+        };
+        assert!((0..self.model.n).all(within), "every search variable lies within its bounds");
     }
 
     /// Takes back whatever is left.

@@ -3,7 +3,7 @@
 use std::time::{Duration, Instant};
 
 use lent::{LOG_PLACES, LOG_SIZES, Session};
-use second::{BLANK, MOST_PAIRS};
+use second::{BLANK, HIGHEST, LOWEST, MOST_PAIRS};
 
 use crate::{Call, Case, Difference, Element, Engine, Guarded, Second, compare};
 
@@ -41,6 +41,7 @@ impl Search<'_> {
         smaller |= self.without(asked, remove_asked);
         smaller |= self.without(e, remove_entry);
         smaller |= self.without(n, remove_variable);
+        smaller |= self.without(n, plain_bounds);
         smaller |= self.without(n, plain_values);
         smaller |= self.without(pairs, |case, pair| plain(&mut case.move_values, pair, 0));
         smaller |= self.without(m, |case, row| plain(&mut case.params, row, 0));
@@ -93,6 +94,7 @@ fn cut(case: &mut Case) -> bool {
     let mut any = rows.into_iter().fold(false, |any, row| shorter(row, m) | any);
     any |= shorter(&mut case.params, m) | shorter(&mut case.vars, e) | shorter(&mut case.coefs, e);
     any |= shorter(&mut case.numbers, n) | shorter(&mut case.flags, n);
+    any |= shorter(&mut case.lows, n) | shorter(&mut case.highs, n);
     any |= shorter(&mut case.starts, n) | shorter(&mut case.stored, n) | shorter(&mut case.trial, n);
     any |= shorter(&mut case.reader_starts, n.saturating_add(1)) | shorter(&mut case.reader_places, e);
     any |= shorter(&mut case.move_vars, pairs) | shorter(&mut case.move_values, pairs);
@@ -238,6 +240,8 @@ fn remove_variable(case: &mut Case, variable: usize) -> bool {
         return false;
     }
     named.iter_mut().filter(|named| usize::from(***named) > variable).for_each(|named| **named -= 1);
+    remove(&mut case.lows, variable);
+    remove(&mut case.highs, variable);
     remove(&mut case.starts, variable);
     remove(&mut case.numbers, variable);
     remove(&mut case.stored, variable);
@@ -246,6 +250,11 @@ fn remove_variable(case: &mut Case, variable: usize) -> bool {
     remove(&mut case.flags, variable);
     case.n -= 1;
     true
+}
+
+/// Puts full bounds for a variable.
+fn plain_bounds(case: &mut Case, variable: usize) -> bool {
+    plain(&mut case.lows, variable, LOWEST) | plain(&mut case.highs, variable, HIGHEST)
 }
 
 /// Puts 0 for a variable's start value, stored value and what its buffers held.
@@ -279,9 +288,9 @@ fn number(case: &mut Case) {
     }
 }
 
-/// The model of a case built anew over start values of 0, if it can be.
+/// The model of a case built anew over full bounds and start values of 0, if it can be.
 pub(crate) fn rebuilt(case: &Case) -> Option<Case> {
     let (starts, log_sizes) = (vec![0; case.stored.len()].into(), vec![0; LOG_SIZES].into());
-    let mut model = Case { call: Call::Build, starts, log_sizes, ..case.clone() };
+    let mut model = Case { call: Call::Build, starts, log_sizes, ..case.clone() }.with_full_bounds();
     (Second.answer(&mut model).number == 0).then_some(model)
 }

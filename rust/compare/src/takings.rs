@@ -154,6 +154,26 @@ fn stale_values_and_logs(engine: &dyn Engine) {
     assert_eq!((taken.stored, taken.flags), (kept.stored, kept.flags));
 }
 
+/// Keeps and takings back from bound to bound; a refused one in between is not logged.
+fn within_bounds(engine: &dyn Engine) {
+    let build = model_a().with_bounds(2, 300, 900).with_bounds(1, 28800, 28801);
+    let mut model = built(engine, &build).with_log();
+    let mut before = Vec::new();
+    for moved in [&[(2, 900)][..], &[(2, 300), (1, 28801)], &[(2, 300)], &[(1, 28800), (2, 600)]] {
+        let outside = Side::of(engine, &keep(&model, &[(2, 901)]));
+        assert_eq!((outside.answer.number, outside.answer.place), (17, 0));
+        before.push(model.stored.clone());
+        model = left(engine, &keep(&model, moved));
+    }
+    let narrower = Side::of(engine, &take_back(&model.clone().with_bounds(2, 301, 900)));
+    assert_eq!(narrower.answer.number, 16, "300 is in the log");
+    for stored in before.into_iter().rev() {
+        model = left(engine, &take_back(&model));
+        assert_eq!(*model.stored, *stored);
+    }
+    assert_eq!(Side::of(engine, &take_back(&model)).answer.number, 15);
+}
+
 /// Trials between a keep and its taking back change nothing of it, and are not lent the log.
 fn trials_in_between(engine: &dyn Engine) {
     let model = built(engine, &model_a());
@@ -210,6 +230,7 @@ pub const TAKINGS: &[Test] = &[
     ("the number kept", the_number_kept),
     ("build empties the log", build_empties_the_log),
     ("stale values and logs", stale_values_and_logs),
+    ("within bounds", within_bounds),
     ("trials in between", trials_in_between),
     ("moves of 64 pairs", moves_of_64_pairs),
     ("longer rows", longer_rows),

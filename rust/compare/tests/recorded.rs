@@ -5,8 +5,9 @@ use std::path::{Path, PathBuf};
 use std::process::Command;
 use std::{env, fs, process};
 
-/// A session of the recording: the model file, the calls, and the lines of the read, the build and each call.
+/// A session of the recording: the bounds, the model file, the calls, and the lines of the read, the build and each call.
 struct Session {
+    bounds: Vec<i32>,
     model: Vec<u8>,
     calls: Vec<Vec<u8>>,
     lines: Vec<String>,
@@ -67,12 +68,14 @@ fn sessions() -> Vec<Session> {
         for _ in 0..count {
             let (length, rest) = word(bytes);
             let (calls, rest) = word(rest);
+            let (bounds, rest) = rest.split_at(128);
             let (model, rest) = rest.split_at(length);
             let (calls, rest) = rest.split_at(48 * calls);
             bytes = rest;
             let calls = calls.chunks(48).map(<[u8]>::to_vec).collect();
             let lines = lines.next().expect("the lines of the session").to_vec();
-            sessions.push(Session { model: model.to_vec(), calls, lines });
+            let bounds = bounds.as_chunks().0.iter().map(|&bound| i32::from_le_bytes(bound)).collect();
+            sessions.push(Session { bounds, model: model.to_vec(), calls, lines });
         }
     }
     sessions
@@ -98,8 +101,8 @@ fn is_up_to_date() {
 fn has_every_number_of_every_call() {
     assert_eq!(numbers("read "), [0, 1, 14].into());
     assert_eq!(numbers("build "), [0, 2, 3, 4, 5, 6, 7].into());
-    assert_eq!(numbers("trial "), [0, 1, 2, 3, 4, 5, 7, 8, 9, 10, 11, 12, 13, 19].into());
-    assert_eq!(numbers("keep "), [0, 1, 2, 3, 4, 5, 7, 8, 10, 11, 12, 16, 19].into());
+    assert_eq!(numbers("trial "), [0, 1, 2, 3, 4, 5, 7, 8, 9, 10, 11, 12, 13, 17, 19].into());
+    assert_eq!(numbers("keep "), [0, 1, 2, 3, 4, 5, 7, 8, 10, 11, 12, 16, 17, 19].into());
     assert_eq!(numbers("back "), [0, 2, 3, 4, 5, 7, 8, 15, 16, 19].into());
 }
 
@@ -111,7 +114,7 @@ fn has_every_kind_route_and_row() {
     let rows: BTreeSet<u16> = sessions.iter().flat_map(|session| session.second_numbers("change ")).collect();
     assert_eq!(kinds, (1..=9).collect());
     assert_eq!(routes, (1..=3).collect());
-    assert_eq!(rows, (0..=15).collect());
+    assert_eq!(rows, (0..=17).collect());
 }
 
 /// How often a line that starts in one of these ways is followed by one that starts in one of those.
@@ -141,7 +144,7 @@ fn log_sizes(line: &str) -> Vec<u32> {
 
 #[test]
 fn has_full_logs_that_are_taken_back_to_the_last_move() {
-    for session in sessions().iter().rev().take(3) {
+    for session in sessions().iter().rev().take(4) {
         let full = session.lines.iter().filter(|line| line.starts_with("keep 0 ") && log_sizes(line)[0] == 64);
         assert!(full.count() > 5, "moves are pushed out");
         assert!(session.lines.iter().any(|line| line.starts_with("back 0 ") && log_sizes(line) == [0]));
@@ -181,6 +184,43 @@ fn has_calls_refused_for_the_number_of_blanks() {
 #[test]
 fn has_calls_refused_for_the_log() {
     assert!(followed(&["change 13 ", "change 14 ", "change 15 "], &["keep 16 ", "back 16 "]) > 20);
+}
+
+impl Session {
+    /// How many variables have bounds that are not full.
+    fn narrow(&self) -> usize {
+        let (lows, highs) = self.bounds.split_at(16);
+        lows.iter().zip(highs).filter(|&bounds| bounds != (&-i32::MAX, &i32::MAX)).count()
+    }
+
+    /// How many lines start so.
+    fn lines_that_start(&self, start: &str) -> usize {
+        self.lines.iter().filter(|line| line.starts_with(start)).count()
+    }
+}
+
+#[test]
+fn has_keeps_and_takings_back_within_narrow_bounds() {
+    let sessions = sessions();
+    let (narrow, full): (Vec<&Session>, Vec<&Session>) = sessions.iter().partition(|session| session.narrow() > 0);
+    assert!(narrow.len() > 80 && full.len() > 80, "{} and {}", narrow.len(), full.len());
+    for start in ["trial 0 ", "keep 0 ", "back 0 "] {
+        assert!(narrow.iter().map(|session| session.lines_that_start(start)).sum::<usize>() > 50, "{start}");
+    }
+    let long = sessions.iter().rev().take(4).filter(|session| session.narrow() >= 3);
+    assert_eq!(long.map(|session| session.lines_that_start("back 0 ")).filter(|&backs| backs > 64).count(), 2);
+}
+
+#[test]
+fn has_calls_refused_for_the_bounds() {
+    for start in ["trial 17 ", "keep 17 "] {
+        assert!(sessions().iter().map(|session| session.lines_that_start(start)).sum::<usize>() > 10, "{start}");
+    }
+    let bounds = ["change 16 ", "change 17 "];
+    assert!(followed(&bounds, &["trial 4 ", "keep 4 ", "back 4 "]) > 10);
+    assert!(followed(&bounds, &["trial 7 ", "keep 7 ", "back 7 "]) > 5);
+    assert!(followed(&["change 10 "], &["trial 7 ", "keep 7 ", "back 7 "]) > 10, "a stored value outside");
+    assert!(followed(&["change 15 "], &["keep 16 ", "back 16 "]) > 10);
 }
 
 #[test]

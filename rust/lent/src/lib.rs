@@ -47,6 +47,16 @@ pub struct Tables<'a> {
     pub coefs: &'a [i16],
 }
 
+/// Bounds on what may be moved: the lowest and the highest allowed number of each variable, n of each. Those of a variable
+/// that a row makes are full, from -2,147,483,647 to 2,147,483,647.
+#[derive(Clone, Copy, Debug)]
+pub struct Bounds<'a> {
+    /// Each variable's lowest allowed number.
+    pub lows: &'a [i32],
+    /// Each variable's highest allowed number, not below the lowest.
+    pub highs: &'a [i32],
+}
+
 /// Tables for `read` to fill.
 #[derive(Debug)]
 pub struct TablesMut<'a> {
@@ -132,7 +142,7 @@ pub struct Tried<'a> {
     pub flags: &'a mut [u8],
 }
 
-/// What a trial is lent besides the record and the tables.
+/// What a trial is lent besides the record, the tables and the bounds.
 #[derive(Debug)]
 pub struct Trial<'a> {
     /// What build left.
@@ -147,7 +157,7 @@ pub struct Trial<'a> {
     pub tried: Tried<'a>,
 }
 
-/// What a keep is lent besides the record and the tables.
+/// What a keep is lent besides the record, the tables and the bounds.
 #[derive(Debug)]
 pub struct Keep<'a> {
     /// Each variable's topological number.
@@ -172,7 +182,7 @@ pub struct Keep<'a> {
     pub log_values: &'a mut [i32],
 }
 
-/// What taking back is lent besides the record and the tables.
+/// What taking back is lent besides the record, the tables and the bounds.
 #[derive(Debug)]
 pub struct TakeBack<'a> {
     /// Each variable's topological number.

@@ -3,7 +3,7 @@
 #![warn(missing_docs)]
 
 use compare::{Answer, Calls};
-use lent::{Built, Keep, Session, Tables, TablesMut, TakeBack, Trial};
+use lent::{Bounds, Built, Keep, Session, Tables, TablesMut, TakeBack, Trial};
 use lukhandro::sys::{Outcome, ReadOutcome, SalvageOutcome};
 
 /// The engine that the archive holds.
@@ -11,20 +11,26 @@ use lukhandro::sys::{Outcome, ReadOutcome, SalvageOutcome};
 pub struct Proved;
 
 impl Calls for Proved {
-    fn build(session: &mut Session, tables: Tables<'_>, starts: &[i32], built: Built<'_>) -> Answer {
-        answer(lukhandro::lent::build(session, tables, starts, built))
+    fn build(
+        session: &mut Session,
+        tables: Tables<'_>,
+        bounds: Bounds<'_>,
+        starts: &[i32],
+        built: Built<'_>,
+    ) -> Answer {
+        answer(lukhandro::lent::build(session, tables, bounds, starts, built))
     }
 
-    fn trial(session: &mut Session, tables: Tables<'_>, lent: Trial<'_>) -> Answer {
-        answer(lukhandro::lent::trial(session, tables, lent))
+    fn trial(session: &mut Session, tables: Tables<'_>, bounds: Bounds<'_>, lent: Trial<'_>) -> Answer {
+        answer(lukhandro::lent::trial(session, tables, bounds, lent))
     }
 
-    fn keep(session: &mut Session, tables: Tables<'_>, lent: Keep<'_>) -> Answer {
-        answer(lukhandro::lent::keep(session, tables, lent))
+    fn keep(session: &mut Session, tables: Tables<'_>, bounds: Bounds<'_>, lent: Keep<'_>) -> Answer {
+        answer(lukhandro::lent::keep(session, tables, bounds, lent))
     }
 
-    fn take_back(session: &mut Session, tables: Tables<'_>, lent: TakeBack<'_>) -> Answer {
-        answer(lukhandro::lent::take_back(session, tables, lent))
+    fn take_back(session: &mut Session, tables: Tables<'_>, bounds: Bounds<'_>, lent: TakeBack<'_>) -> Answer {
+        answer(lukhandro::lent::take_back(session, tables, bounds, lent))
     }
 
     fn read(bytes: &[u8], tables: TablesMut<'_>) -> Answer {

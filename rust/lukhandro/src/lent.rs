@@ -6,14 +6,15 @@
 
 use crate::sys::{self, Outcome, ReadOutcome, SalvageOutcome};
 pub use ::lent::{
-    Asked, Built, Keep, LOG_PLACES, LOG_SIZES, Move, Session, State, Tables, TablesMut, TakeBack, Trial, Tried,
+    Asked, Bounds, Built, Keep, LOG_PLACES, LOG_SIZES, Move, Session, State, Tables, TablesMut, TakeBack, Trial, Tried,
 };
 
 /// Fills numbers, order, stored values and the index of readers from tables and start values, and empties the log; gives
 /// the evaluations, m. Refusals 1 to 7.
 #[rustfmt::skip]
-pub fn build(session: &mut Session, tables: Tables<'_>, starts: &[i32], built: Built<'_>) -> Outcome {
+pub fn build(session: &mut Session, tables: Tables<'_>, bounds: Bounds<'_>, starts: &[i32], built: Built<'_>) -> Outcome {
     let Tables { n, m, e, kinds, makes, params, firsts, counts, vars, coefs } = tables;
+    let Bounds { lows, highs } = bounds;
     let Built { numbers, order, stored, reader_starts, reader_places, log_sizes } = built;
     // SAFETY: each pointer goes with the length of its own slice, and no slice that is written overlaps another.
     unsafe {
@@ -21,7 +22,8 @@ pub fn build(session: &mut Session, tables: Tables<'_>, starts: &[i32], built: B
             session, n, m, e,
             kinds.as_ptr(), kinds.len(), makes.as_ptr(), makes.len(), params.as_ptr(), params.len(),
             firsts.as_ptr(), firsts.len(), counts.as_ptr(), counts.len(), vars.as_ptr(), vars.len(),
-            coefs.as_ptr(), coefs.len(), starts.as_ptr(), starts.len(),
+            coefs.as_ptr(), coefs.len(), lows.as_ptr(), lows.len(), highs.as_ptr(), highs.len(),
+            starts.as_ptr(), starts.len(),
             numbers.as_mut_ptr(), numbers.len(), order.as_mut_ptr(), order.len(),
             stored.as_mut_ptr(), stored.len(), reader_starts.as_mut_ptr(), reader_starts.len(),
             reader_places.as_mut_ptr(), reader_places.len(), log_sizes.as_mut_ptr(), log_sizes.len(),
@@ -30,10 +32,11 @@ pub fn build(session: &mut Session, tables: Tables<'_>, starts: &[i32], built: B
 }
 
 /// Tries a move by a route, and fills results, trial values and flags; gives the evaluations. Refusals 1 to 13
-/// without 6, and 19.
+/// without 6, and 17 and 19.
 #[rustfmt::skip]
-pub fn trial(session: &mut Session, tables: Tables<'_>, lent: Trial<'_>) -> Outcome {
+pub fn trial(session: &mut Session, tables: Tables<'_>, bounds: Bounds<'_>, lent: Trial<'_>) -> Outcome {
     let Tables { n, m, e, kinds, makes, params, firsts, counts, vars, coefs } = tables;
+    let Bounds { lows, highs } = bounds;
     let Trial { state, moved, asked, route, tried } = lent;
     let State { numbers, order, stored, reader_starts, reader_places } = state;
     let Tried { results, trial, flags } = tried;
@@ -43,7 +46,8 @@ pub fn trial(session: &mut Session, tables: Tables<'_>, lent: Trial<'_>) -> Outc
             session, n, m, e,
             kinds.as_ptr(), kinds.len(), makes.as_ptr(), makes.len(), params.as_ptr(), params.len(),
             firsts.as_ptr(), firsts.len(), counts.as_ptr(), counts.len(), vars.as_ptr(), vars.len(),
-            coefs.as_ptr(), coefs.len(), numbers.as_ptr(), numbers.len(), order.as_ptr(), order.len(),
+            coefs.as_ptr(), coefs.len(), lows.as_ptr(), lows.len(), highs.as_ptr(), highs.len(),
+            numbers.as_ptr(), numbers.len(), order.as_ptr(), order.len(),
             stored.as_ptr(), stored.len(), reader_starts.as_ptr(), reader_starts.len(),
             reader_places.as_ptr(), reader_places.len(), moved.pairs, moved.vars.as_ptr(), moved.vars.len(),
             moved.values.as_ptr(), moved.values.len(), asked.asked, asked.vars.as_ptr(), asked.vars.len(), route,
@@ -53,10 +57,11 @@ pub fn trial(session: &mut Session, tables: Tables<'_>, lent: Trial<'_>) -> Outc
 }
 
 /// Keeps a move by route 1: changes the stored values, fills the flags, and notes the move in the log; gives the
-/// evaluations. Refusals 1 to 12 without 6 and 9, 16 and 19.
+/// evaluations. Refusals 1 to 12 without 6 and 9, and 16, 17 and 19.
 #[rustfmt::skip]
-pub fn keep(session: &mut Session, tables: Tables<'_>, lent: Keep<'_>) -> Outcome {
+pub fn keep(session: &mut Session, tables: Tables<'_>, bounds: Bounds<'_>, lent: Keep<'_>) -> Outcome {
     let Tables { n, m, e, kinds, makes, params, firsts, counts, vars, coefs } = tables;
+    let Bounds { lows, highs } = bounds;
     let Keep { numbers, order, stored, reader_starts, reader_places, moved, flags, log_sizes, log_vars, log_values } = lent;
     // SAFETY: each pointer goes with the length of its own slice, and no slice that is written overlaps another.
     unsafe {
@@ -64,7 +69,8 @@ pub fn keep(session: &mut Session, tables: Tables<'_>, lent: Keep<'_>) -> Outcom
             session, n, m, e,
             kinds.as_ptr(), kinds.len(), makes.as_ptr(), makes.len(), params.as_ptr(), params.len(),
             firsts.as_ptr(), firsts.len(), counts.as_ptr(), counts.len(), vars.as_ptr(), vars.len(),
-            coefs.as_ptr(), coefs.len(), numbers.as_ptr(), numbers.len(), order.as_ptr(), order.len(),
+            coefs.as_ptr(), coefs.len(), lows.as_ptr(), lows.len(), highs.as_ptr(), highs.len(),
+            numbers.as_ptr(), numbers.len(), order.as_ptr(), order.len(),
             stored.as_mut_ptr(), stored.len(), reader_starts.as_ptr(), reader_starts.len(),
             reader_places.as_ptr(), reader_places.len(), moved.pairs, moved.vars.as_ptr(), moved.vars.len(),
             moved.values.as_ptr(), moved.values.len(), flags.as_mut_ptr(), flags.len(),
@@ -77,8 +83,9 @@ pub fn keep(session: &mut Session, tables: Tables<'_>, lent: Keep<'_>) -> Outcom
 /// Takes the latest kept move back by route 1: changes the stored values, fills the flags, and takes the move off the log;
 /// gives the evaluations. Refusals 1 to 5, 7, 8, 16, 19, and 15 if the log holds no move.
 #[rustfmt::skip]
-pub fn take_back(session: &mut Session, tables: Tables<'_>, lent: TakeBack<'_>) -> Outcome {
+pub fn take_back(session: &mut Session, tables: Tables<'_>, bounds: Bounds<'_>, lent: TakeBack<'_>) -> Outcome {
     let Tables { n, m, e, kinds, makes, params, firsts, counts, vars, coefs } = tables;
+    let Bounds { lows, highs } = bounds;
     let TakeBack { numbers, order, stored, reader_starts, reader_places, flags, log_sizes, log_vars, log_values } = lent;
     // SAFETY: each pointer goes with the length of its own slice, and no slice that is written overlaps another.
     unsafe {
@@ -86,7 +93,8 @@ pub fn take_back(session: &mut Session, tables: Tables<'_>, lent: TakeBack<'_>) 
             session, n, m, e,
             kinds.as_ptr(), kinds.len(), makes.as_ptr(), makes.len(), params.as_ptr(), params.len(),
             firsts.as_ptr(), firsts.len(), counts.as_ptr(), counts.len(), vars.as_ptr(), vars.len(),
-            coefs.as_ptr(), coefs.len(), numbers.as_ptr(), numbers.len(), order.as_ptr(), order.len(),
+            coefs.as_ptr(), coefs.len(), lows.as_ptr(), lows.len(), highs.as_ptr(), highs.len(),
+            numbers.as_ptr(), numbers.len(), order.as_ptr(), order.len(),
             stored.as_mut_ptr(), stored.len(), reader_starts.as_ptr(), reader_starts.len(),
             reader_places.as_ptr(), reader_places.len(), flags.as_mut_ptr(), flags.len(),
             log_sizes.as_mut_ptr(), log_sizes.len(), log_vars.as_ptr(), log_vars.len(),

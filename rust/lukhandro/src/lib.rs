@@ -46,6 +46,15 @@ pub use salvage::{Salvage, salvage};
 /// No value: the one 32-bit number that is no value of a variable.
 pub const BLANK: i32 = i32::MIN;
 
+/// The least number that a variable may have.
+pub const LOWEST: i32 = -i32::MAX;
+
+/// The greatest number that a variable may have.
+pub const HIGHEST: i32 = i32::MAX;
+
+/// Bounds that allow every number: those of a variable that a row makes.
+pub const FULL: (i32, i32) = (LOWEST, HIGHEST);
+
 /// The most variables of a model, and the most rows.
 pub const MOST_VARIABLES: usize = 4096;
 

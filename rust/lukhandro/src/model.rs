@@ -1,9 +1,9 @@
 //! A model that owns its buffers.
 
 use crate::lent::{
-    self, Asked, Built, Keep, LOG_PLACES, LOG_SIZES, Move, Session, State, Tables, TablesMut, TakeBack, Tried,
+    self, Asked, Bounds, Built, Keep, LOG_PLACES, LOG_SIZES, Move, Session, State, Tables, TablesMut, TakeBack, Tried,
 };
-use crate::{BLANK, MOST_ASKED, MOST_ENTRIES, MOST_PAIRS, MOST_VARIABLES, Refused, Route, Row};
+use crate::{BLANK, HIGHEST, LOWEST, MOST_ASKED, MOST_ENTRIES, MOST_PAIRS, MOST_VARIABLES, Refused, Route, Row};
 
 /// A model with its values and a log of its kept moves, built and ready to try moves, keep them and take them back.
 ///
@@ -38,6 +38,8 @@ pub struct Model {
     counts: Vec<u16>,
     vars: Vec<u16>,
     coefs: Vec<i16>,
+    lows: Vec<i32>,
+    highs: Vec<i32>,
     numbers: Vec<u16>,
     order: Vec<u16>,
     stored: Vec<i32>,
@@ -82,8 +84,16 @@ macro_rules! tables_of {
     };
 }
 
+/// The bounds of a model, borrowed in the same way.
+macro_rules! bounds_of {
+    ($model:expr) => {
+        Bounds { lows: &$model.lows, highs: &$model.highs }
+    };
+}
+
 impl Model {
     /// Builds a model of rows over as many variables as there are start values; a variable that a row makes starts at 0.
+    /// Its bounds allow every number.
     ///
     /// ```
     /// use lukhandro::{Model, Row};
@@ -97,7 +107,43 @@ impl Model {
     /// # Errors
     /// Refusals 1 to 7.
     pub fn build(starts: &[i32], rows: &[Row]) -> Result<Model, Refused> {
-        let mut model = Model::empty(starts.len(), rows.len());
+        Model::empty(starts.len(), rows.len()).with_rows(rows).built(starts)
+    }
+
+    /// Builds a model in which a search variable may have the numbers from its lowest to its highest and no other: the start
+    /// values and all that is moved are held to them. There is a pair of bounds for each variable, [`FULL`](crate::FULL) for
+    /// one that a row makes.
+    ///
+    /// ```
+    /// use lukhandro::{FULL, Model, Route, Row};
+    ///
+    /// // A headway is from one minute to two hours, and the start is fixed.
+    /// let bounds = [(25200, 25200), FULL, (60, 7200), FULL];
+    /// let mut sheet = Model::build_within(&[25200, 28800, 600, 0], &bounds, &[Row::departures(3, 0, 1, 2)])?;
+    /// assert_eq!(sheet.bounds(2), Some((60, 7200)));
+    /// sheet.keep(&[(2, 60)])?;
+    ///
+    /// // A slipped digit.
+    /// let refused = sheet.keep(&[(1, 32400), (2, 60_000)]).unwrap_err();
+    /// assert_eq!((refused.number, refused.place), (17, 1));
+    /// # Ok::<(), lukhandro::Refused>(())
+    /// ```
+    ///
+    /// # Errors
+    /// Refusals 1 to 7: 1 for fewer bounds than variables, and 4 for bounds that are not in order or not full.
+    pub fn build_within(starts: &[i32], bounds: &[(i32, i32)], rows: &[Row]) -> Result<Model, Refused> {
+        Model::empty(starts.len(), rows.len()).with_bounds(bounds).with_rows(rows).built(starts)
+    }
+
+    /// The model with these bounds.
+    fn with_bounds(mut self, bounds: &[(i32, i32)]) -> Model {
+        (self.lows, self.highs) = bounds.iter().copied().unzip();
+        self
+    }
+
+    /// The model with these rows.
+    fn with_rows(mut self, rows: &[Row]) -> Model {
+        let model = &mut self;
         for row in rows {
             // More entries than a count can say are more than a model may have: build refuses them.
             let narrow = |count: usize| u16::try_from(count).unwrap_or(u16::MAX);
@@ -109,10 +155,10 @@ impl Model {
             model.vars.extend(row.entries.iter().map(|&(variable, _)| variable));
             model.coefs.extend(row.entries.iter().map(|&(_, coefficient)| coefficient));
         }
-        model.built(starts)
+        self
     }
 
-    /// Reads a model file and builds its model.
+    /// Reads a model file and builds its model. A file has no bounds: those of the model allow every number.
     ///
     /// ```
     /// use lukhandro::{Model, Row};
@@ -129,6 +175,30 @@ impl Model {
     /// # Errors
     /// Refusal 14 for the file, and refusals 2 to 7 for what is in it.
     pub fn read(bytes: &[u8]) -> Result<Model, Refused> {
+        let (model, starts) = Model::of_file(bytes)?;
+        model.built(&starts)
+    }
+
+    /// Reads a model file and builds its model within bounds, as [`Model::build_within`] does.
+    ///
+    /// ```
+    /// use lukhandro::{FULL, Model, Row};
+    ///
+    /// let file = Model::build(&[4, 9, 0], &[Row::max(2, &[0, 1])])?.write()?;
+    /// let mut sheet = Model::read_within(&file, &[(0, 5), (0, 9), FULL])?;
+    /// assert_eq!(sheet.keep(&[(1, 10)]).unwrap_err().number, 17);
+    /// # Ok::<(), lukhandro::Refused>(())
+    /// ```
+    ///
+    /// # Errors
+    /// Refusal 14 for the file, refusals 2 to 7 for what is in it and for the bounds, and 1 for fewer bounds than variables.
+    pub fn read_within(bytes: &[u8], bounds: &[(i32, i32)]) -> Result<Model, Refused> {
+        let (model, starts) = Model::of_file(bytes)?;
+        model.with_bounds(bounds).built(&starts)
+    }
+
+    /// The model in a file, not built yet, and its start values.
+    fn of_file(bytes: &[u8]) -> Result<(Model, Vec<i32>), Refused> {
         let mut starts = vec![0; MOST_VARIABLES];
         let rows = || vec![0; MOST_VARIABLES];
         let (mut kinds, mut makes, mut firsts, mut counts) = (rows(), rows(), rows(), rows());
@@ -152,13 +222,13 @@ impl Model {
         vars.truncate(e);
         coefs.truncate(e);
         starts.truncate(n);
-        Model { kinds, makes, params, firsts, counts, vars, coefs, ..Model::empty(n, m) }.built(&starts)
+        Ok((Model { kinds, makes, params, firsts, counts, vars, coefs, ..Model::empty(n, m) }, starts))
     }
 
     /// Tries a move: gives the values of the asked variables as they would be, and changes none that is stored.
     ///
     /// # Errors
-    /// Refusal 1 for more than 64 pairs or more than 32 asked variables, and refusals 10 to 13.
+    /// Refusal 1 for more than 64 pairs or more than 32 asked variables, and refusals 10 to 13 and 17.
     pub fn trial(&mut self, pairs: &[(u16, i32)], asked: &[u16], route: Route) -> Result<Trial<'_>, Refused> {
         let moved = Pairs::of(pairs);
         let trial = lent::Trial {
@@ -174,7 +244,7 @@ impl Model {
             route: route as u32,
             tried: Tried { results: &mut self.results, trial: &mut self.trial, flags: &mut self.flags },
         };
-        let evaluations = lent::trial(&mut self.session, tables_of!(self), trial).judged()?;
+        let evaluations = lent::trial(&mut self.session, tables_of!(self), bounds_of!(self), trial).judged()?;
         let results = self.results.get(..asked.len()).unwrap_or(&[]);
         Ok(Trial { evaluations, results, values: &self.trial, flags: &self.flags })
     }
@@ -196,7 +266,7 @@ impl Model {
     /// ```
     ///
     /// # Errors
-    /// Refusal 1 for more than 64 pairs, and refusals 10 to 12.
+    /// Refusal 1 for more than 64 pairs, and refusals 10 to 12 and 17.
     pub fn keep(&mut self, pairs: &[(u16, i32)]) -> Result<u32, Refused> {
         let moved = Pairs::of(pairs);
         let keep = Keep {
@@ -211,7 +281,7 @@ impl Model {
             log_vars: &mut self.log_vars,
             log_values: &mut self.log_values,
         };
-        lent::keep(&mut self.session, tables_of!(self), keep).judged()
+        lent::keep(&mut self.session, tables_of!(self), bounds_of!(self), keep).judged()
     }
 
     /// Takes the latest kept move back: the stored values are those before it again. Gives the number of formulas evaluated.
@@ -248,10 +318,10 @@ impl Model {
             log_vars: &self.log_vars,
             log_values: &self.log_values,
         };
-        lent::take_back(&mut self.session, tables_of!(self), back).judged()
+        lent::take_back(&mut self.session, tables_of!(self), bounds_of!(self), back).judged()
     }
 
-    /// The model's file, which starts from the values that search variables have now.
+    /// The model's file, which starts from the values that search variables have now. It has no bounds.
     ///
     /// # Errors
     /// None for a model that was built.
@@ -268,6 +338,16 @@ impl Model {
     #[must_use]
     pub fn value(&self, variable: u16) -> Option<i32> {
         self.stored.get(usize::from(variable)).copied().filter(|&value| value != BLANK)
+    }
+
+    /// The lowest and the highest number that a variable may be moved to; none if there is no such variable.
+    #[must_use]
+    pub fn bounds(&self, variable: u16) -> Option<(i32, i32)> {
+        let variable = usize::from(variable);
+        if variable >= self.numbers.len() {
+            return None;
+        }
+        Some((*self.lows.get(variable)?, *self.highs.get(variable)?))
     }
 
     /// All values, one for each variable; [`BLANK`] is no value.
@@ -352,6 +432,8 @@ impl Model {
             counts: Vec::with_capacity(m),
             vars: Vec::new(),
             coefs: Vec::new(),
+            lows: vec![LOWEST; n],
+            highs: vec![HIGHEST; n],
             numbers: vec![0; n],
             order: vec![0; m],
             stored: vec![0; n],
@@ -378,7 +460,7 @@ impl Model {
             reader_places: &mut self.reader_places,
             log_sizes: &mut self.log_sizes,
         };
-        lent::build(&mut self.session, tables, starts, built).judged()?;
+        lent::build(&mut self.session, tables, bounds_of!(self), starts, built).judged()?;
         Ok(self)
     }
 }

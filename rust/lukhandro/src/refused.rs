@@ -10,7 +10,7 @@ use std::fmt;
 /// ```
 #[derive(Clone, Copy, Debug, PartialEq, Eq)]
 pub struct Refused {
-    /// Which check refused, 1 to 16 or 19.
+    /// Which check refused, 1 to 17 or 19.
     pub number: u32,
     /// The smallest row, variable, pair, asked place or byte that offends.
     pub place: u32,
@@ -27,12 +27,15 @@ impl fmt::Display for Refused {
                 f,
                 "row {place} names a variable that is not there, has a number of inputs that its kind does not take, or its entries are not the next ones"
             ),
-            4 => write!(f, "row {place} has a coefficient or a parameter outside its bound"),
+            4 => write!(
+                f,
+                "row {place} has a coefficient or a parameter outside its bound; or if no row has, variable {place} has bounds that are blank, not in order, or not full though a row makes it"
+            ),
             5 => write!(f, "row {place} makes a variable that an earlier row makes already"),
             6 => write!(f, "variable {place} depends on itself, or on one that does"),
             7 => write!(
                 f,
-                "variable {place} has no value and no row makes it, or a row makes it and it starts at another value than 0"
+                "variable {place} has no value or one outside its bounds and no row makes it, or a row makes it and it starts at another value than 0"
             ),
             8 => write!(f, "the numbers, the order or the readers are not those that build gives for these tables"),
             9 => write!(f, "there is no such route: it is 1, 2 or 3"),
@@ -42,7 +45,8 @@ impl fmt::Display for Refused {
             13 => write!(f, "place {place} of the asked list names a variable that is not there"),
             14 => write!(f, "the file is no whole model file of version 1: it is wrong at byte {place}"),
             15 => write!(f, "no kept move is left to take back"),
-            16 => write!(f, "the log of kept moves is not one that keep and taking back may leave"),
+            16 => write!(f, "the log of kept moves is not one that keep and taking back may leave within these bounds"),
+            17 => write!(f, "pair {place} of the move has a value outside its variable's bounds"),
             19 => write!(f, "the record's number of blanks is not that of the stored values"),
             _ => write!(f, "no check has this number"),
         }

@@ -1,6 +1,6 @@
 //! The model that owns its buffers.
 
-use lukhandro::{BLANK, Kind, MOST_LOGGED, Model, Refused, Route, Row, Salvage, salvage};
+use lukhandro::{BLANK, FULL, HIGHEST, Kind, LOWEST, MOST_LOGGED, Model, Refused, Route, Row, Salvage, salvage};
 
 fn refused(number: u32, place: u32) -> Refused {
     Refused { number, place }
@@ -106,6 +106,71 @@ fn the_number_of_blanks() {
     }
 }
 
+/// Model A with these bounds of its start and its headway.
+fn model_a_within(start: (i32, i32), headway: (i32, i32)) -> Result<Model, Refused> {
+    let rows = [Row::departures(3, 0, 1, 2), Row::last(4, 0, 1, 2), Row::linear(5, 2, &[(3, 4)])];
+    Model::build_within(&[25200, 28800, 600, 0, 0, 0], &[start, FULL, headway, FULL, FULL, FULL], &rows)
+}
+
+#[test]
+fn bounds_hold_in_every_call() {
+    let mut sheet = model_a_within((25200, 25200), (300, 900)).expect("a model");
+    assert_eq!(
+        (sheet.bounds(0), sheet.bounds(1), sheet.bounds(2)),
+        (Some((25200, 25200)), Some(FULL), Some((300, 900)))
+    );
+    assert_eq!((sheet.bounds(5), sheet.bounds(6), sheet.bounds(65535)), (Some(FULL), None, None));
+    for headway in [299, 901, 60_000, LOWEST, HIGHEST] {
+        assert_eq!(sheet.keep(&[(1, 5), (2, headway)]).unwrap_err(), refused(17, 1));
+        assert_eq!(sheet.trial(&[(2, headway)], &[3], Route::MarkGuided).unwrap_err(), refused(17, 0));
+    }
+    assert_eq!(sheet.keep(&[(0, 25201)]).unwrap_err(), refused(17, 0));
+    assert_eq!(sheet.keep(&[(2, BLANK)]).unwrap_err(), refused(12, 0));
+    assert_eq!((sheet.kept(), sheet.logged()), (0, 0));
+    let before = sheet.stored().to_vec();
+    for headway in [300, 900, 300] {
+        sheet.trial(&[(2, headway)], &[3], Route::OutputToInput).expect("a trial at a bound");
+        sheet.keep(&[(2, headway), (0, 25200)]).expect("a keep at a bound");
+    }
+    for _ in 0..3 {
+        sheet.take_back().expect("a kept move");
+    }
+    assert_eq!(sheet.stored(), before);
+}
+
+#[test]
+fn bounds_are_judged_by_build() {
+    let within = |start, headway| model_a_within(start, headway).map(|sheet| sheet.kept());
+    assert_eq!(within((25200, 25200), (600, 600)), Ok(0));
+    assert_eq!(within(FULL, (601, 900)), Err(refused(7, 2)));
+    assert_eq!(within(FULL, (300, 599)), Err(refused(7, 2)));
+    assert_eq!(within((1, 0), (1, 0)), Err(refused(4, 0)));
+    assert_eq!(within(FULL, (BLANK, 900)), Err(refused(4, 2)));
+    let over = |bounds: &[(i32, i32)]| {
+        Model::build_within(&[5, 8, 0], bounds, &[Row::over(2, 1, 0)]).map(|sheet| sheet.kept())
+    };
+    assert_eq!(over(&[(0, 9), (0, 9), FULL]), Ok(0));
+    assert_eq!(over(&[(0, 9), (0, 9), (0, 9)]), Err(refused(4, 2)));
+    assert_eq!(over(&[(0, 9), (0, 9)]), Err(refused(1, 0)));
+    assert_eq!(over(&[(0, 9), (0, 9), FULL, (1, 0)]), Ok(0), "bounds beyond the variables");
+}
+
+#[test]
+fn a_file_has_no_bounds() {
+    let sheet = model_a_within((25200, 25200), (300, 900)).expect("a model");
+    let file = sheet.write().expect("a file");
+    assert_eq!(file, model_a().write().expect("a file"));
+    let mut again = Model::read(&file).expect("a model");
+    assert_eq!((again.bounds(2), again.keep(&[(2, 901)]).is_ok()), (Some(FULL), true));
+    let mut bounds = [FULL; 6];
+    bounds[2] = (300, 900);
+    let mut within = Model::read_within(&file, &bounds).expect("a model");
+    assert_eq!(within.keep(&[(2, 901)]).unwrap_err(), refused(17, 0));
+    bounds[2] = (300, 599);
+    assert_eq!(Model::read_within(&file, &bounds).unwrap_err(), refused(7, 2));
+    assert_eq!(Model::read_within(&file, &bounds[..5]).unwrap_err(), refused(1, 0));
+}
+
 #[test]
 fn a_refused_keep_is_not_logged() {
     let mut sheet = model_a();
@@ -153,12 +218,12 @@ fn models_that_are_too_large() {
 
 #[test]
 fn every_refusal_has_a_sentence() {
-    for number in (1..=16).chain([19]) {
+    for number in (1..=17).chain([19]) {
         let sentence = refused(number, 7).to_string();
         assert!(sentence.starts_with(&format!("refused {number} 7: ")), "{sentence}");
         assert!(!sentence.contains("no check"), "{sentence}");
     }
-    for number in [0, 17, 18, 20] {
+    for number in [0, 18, 20] {
         assert!(refused(number, 0).to_string().contains("no check"));
     }
 }

@@ -1,26 +1,38 @@
 //! The calls over the session record: the checks in the specification's order, and then the work.
 
+use crate::bounds::{bounds_fit, counted_bounds};
 use crate::checks::{self, Makers, asked_fits, fits, move_fits, state_fits, tables_fit};
 use crate::log::{Log, LogMut, sizes_fit};
 use crate::parts::{counted_move, counted_state, counted_tables};
 use crate::readers::{self, Index, Readers};
 use crate::{Refused, order, routes};
-use lent::{Built, Keep, Move, Session, State, Tables, TakeBack, Trial};
+use lent::{Bounds, Built, Keep, Move, Session, State, Tables, TakeBack, Trial};
 
 /// Fills numbers, order, stored values and the index of readers, and empties the log; gives the number of evaluations, m.
 ///
 /// # Errors
 /// Refusals 1 to 7.
-pub fn build(session: &mut Session, tables: Tables<'_>, starts: &[i32], built: Built<'_>) -> Result<u32, Refused> {
+pub fn build(
+    session: &mut Session,
+    tables: Tables<'_>,
+    bounds: Bounds<'_>,
+    starts: &[i32],
+    built: Built<'_>,
+) -> Result<u32, Refused> {
     let Tables { n, m, .. } = tables;
     let Built { numbers: lent_numbers, order, stored, reader_starts, reader_places, log_sizes } = built;
     let state = State { numbers: lent_numbers, order, stored, reader_starts, reader_places };
-    fits(&[tables_fit(&tables), starts.len() >= n, state_fits(&state, &tables), sizes_fit(log_sizes)])?;
-    let tables = counted_tables(&tables);
-    let makers = checks::tables(&tables)?;
+    fits(&[
+        tables_fit(&tables) && bounds_fit(&bounds, n),
+        starts.len() >= n,
+        state_fits(&state, &tables),
+        sizes_fit(log_sizes),
+    ])?;
+    let (tables, bounds) = (counted_tables(&tables), counted_bounds(&bounds, n));
+    let makers = checks::tables(&tables, &bounds)?;
     let index = Index::of(&tables);
     let numbers = order::numbers(&tables, index.readers())?;
-    checks::starts(&makers, &starts[..n])?;
+    checks::starts(&makers, &bounds, &starts[..n])?;
 
     let (order, stored) = (&mut order[..m], &mut stored[..n]);
     index.copy_to(reader_starts, reader_places);
@@ -36,20 +48,21 @@ pub fn build(session: &mut Session, tables: Tables<'_>, starts: &[i32], built: B
 /// Tries a move by a route, and fills the asked values, the trial values and the flags; gives the evaluations.
 ///
 /// # Errors
-/// Refusals 1 to 13 without 6, and 19.
-pub fn trial(session: &mut Session, tables: Tables<'_>, lent: Trial<'_>) -> Result<u32, Refused> {
+/// Refusals 1 to 13 without 6, and 17 and 19.
+pub fn trial(session: &mut Session, tables: Tables<'_>, bounds: Bounds<'_>, lent: Trial<'_>) -> Result<u32, Refused> {
     let n = tables.n;
     let Trial { state, moved, asked, route, tried } = lent;
     fits(&[
-        tables_fit(&tables) && state_fits(&state, &tables),
+        tables_fit(&tables) && bounds_fit(&bounds, tables.n) && state_fits(&state, &tables),
         move_fits(&moved) && asked_fits(&asked, tried.results),
         tried.trial.len() >= n && tried.flags.len() >= n,
     ])?;
     let (tables, state, moved) = (counted_tables(&tables), counted_state(&state, &tables), counted_move(&moved));
+    let bounds = counted_bounds(&bounds, tables.n);
     let asked = &asked.vars[..asked.asked];
-    let makers = model(session, &tables, &state)?;
+    let makers = model(session, &tables, &bounds, &state)?;
     checks::route(route)?;
-    checks::pairs(&makers, &moved)?;
+    checks::pairs(&makers, &bounds, &moved)?;
     checks::asked(n, asked)?;
 
     let (values, flags) = (&mut tried.trial[..n], &mut tried.flags[..n]);
@@ -74,21 +87,22 @@ pub fn trial(session: &mut Session, tables: Tables<'_>, lent: Trial<'_>) -> Resu
 /// evaluations.
 ///
 /// # Errors
-/// Refusals 1 to 12 without 6 and 9, 16 and 19.
-pub fn keep(session: &mut Session, tables: Tables<'_>, lent: Keep<'_>) -> Result<u32, Refused> {
+/// Refusals 1 to 12 without 6 and 9, and 16, 17 and 19.
+pub fn keep(session: &mut Session, tables: Tables<'_>, bounds: Bounds<'_>, lent: Keep<'_>) -> Result<u32, Refused> {
     let Keep { numbers, order, stored, reader_starts, reader_places, .. } = lent;
     let Keep { moved, flags, log_sizes: sizes, log_vars: vars, log_values: values, .. } = lent;
     let state = State { numbers, order, stored, reader_starts, reader_places };
     let log = Log { sizes, vars, values };
     fits(&[
-        tables_fit(&tables) && state_fits(&state, &tables),
+        tables_fit(&tables) && bounds_fit(&bounds, tables.n) && state_fits(&state, &tables),
         move_fits(&moved) && flags.len() >= tables.n,
         log.fits(),
     ])?;
     let (tables, state, moved) = (counted_tables(&tables), counted_state(&state, &tables), counted_move(&moved));
-    let makers = model(session, &tables, &state)?;
-    checks::pairs(&makers, &moved)?;
-    log.holds(&makers, session.kept)?;
+    let bounds = counted_bounds(&bounds, tables.n);
+    let makers = model(session, &tables, &bounds, &state)?;
+    checks::pairs(&makers, &bounds, &moved)?;
+    log.holds(&makers, &bounds, session.kept)?;
 
     LogMut { sizes, vars, values }.note(state.stored, &moved);
     let readers = Readers { starts: reader_starts, rows: reader_places };
@@ -103,15 +117,25 @@ pub fn keep(session: &mut Session, tables: Tables<'_>, lent: Keep<'_>) -> Result
 ///
 /// # Errors
 /// Refusals 1 to 5, 8, 19, 7, 16 and 15.
-pub fn take_back(session: &mut Session, tables: Tables<'_>, lent: TakeBack<'_>) -> Result<u32, Refused> {
+pub fn take_back(
+    session: &mut Session,
+    tables: Tables<'_>,
+    bounds: Bounds<'_>,
+    lent: TakeBack<'_>,
+) -> Result<u32, Refused> {
     let TakeBack { numbers, order, stored, reader_starts, reader_places, .. } = lent;
     let TakeBack { flags, log_sizes: sizes, log_vars: vars, log_values: values, .. } = lent;
     let state = State { numbers, order, stored, reader_starts, reader_places };
     let log = Log { sizes, vars, values };
-    fits(&[tables_fit(&tables) && state_fits(&state, &tables), flags.len() >= tables.n, log.fits()])?;
+    fits(&[
+        tables_fit(&tables) && bounds_fit(&bounds, tables.n) && state_fits(&state, &tables),
+        flags.len() >= tables.n,
+        log.fits(),
+    ])?;
     let (tables, state) = (counted_tables(&tables), counted_state(&state, &tables));
-    let makers = model(session, &tables, &state)?;
-    log.holds(&makers, session.kept)?;
+    let bounds = counted_bounds(&bounds, tables.n);
+    let makers = model(session, &tables, &bounds, &state)?;
+    log.holds(&makers, &bounds, session.kept)?;
     let back = log.latest()?;
 
     let readers = Readers { starts: reader_starts, rows: reader_places };
@@ -151,11 +175,11 @@ pub fn inputs_of_row<'a>(m: usize, e: usize, firsts: &[u16], counts: &[u16], var
 }
 
 /// Checks 2 to 5, 8, 19 and 7, which trial, keep and taking back share, and with them the makers.
-fn model(session: &Session, tables: &Tables<'_>, state: &State<'_>) -> Result<Makers, Refused> {
-    let makers = checks::tables(tables)?;
+fn model(session: &Session, tables: &Tables<'_>, bounds: &Bounds<'_>, state: &State<'_>) -> Result<Makers, Refused> {
+    let makers = checks::tables(tables, bounds)?;
     order::holds(tables, &makers, state.numbers, state.order)?;
     readers::holds(tables, Readers::lent(state))?;
     checks::require(session.blanks == checks::blanks(state.stored), 19)?;
-    checks::stored(&makers, state.stored)?;
+    checks::stored(&makers, bounds, state.stored)?;
     Ok(makers)
 }

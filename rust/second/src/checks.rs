@@ -1,9 +1,10 @@
-//! Checks 1 to 5, 7 and 9 to 13: each over its whole input, the place the smallest offending index; and the blanks counted.
+//! Checks 1 to 5, 7, 9 to 13 and 17: each over its whole input, the place the smallest offending index; and the blanks counted.
 
+use crate::bounds::{allow, first_bad, first_outside};
 use crate::formulas::{COUNT, DEPARTURES, ELEMENT, LAST, LINEAR, MAX, MIN, OVER, SHARED, suits};
-use crate::parts::{Row, rows_of};
+use crate::parts::{Row, pairs_of, rows_of};
 use crate::{BLANK, MOST_ASKED, MOST_ENTRIES, MOST_PAIRS, MOST_VARIABLES, Refused};
-use lent::{Asked, Move, State, Tables};
+use lent::{Asked, Bounds, Move, State, Tables};
 
 const MOST_COEFFICIENT: u16 = 1_000;
 const MOST_PARAMETER: u32 = 1_000_000_000;
@@ -58,12 +59,15 @@ pub(crate) fn asked_fits(asked: &Asked<'_>, results: &[i32]) -> bool {
     asked.asked <= MOST_ASKED && asked.vars.len() >= asked.asked && results.len() >= asked.asked
 }
 
-/// Checks 2 to 5, and with them the makers. The tables hold no more than the counts ask.
-pub(crate) fn tables(tables: &Tables<'_>) -> Result<Makers, Refused> {
+/// Checks 2 to 5, and with them the makers. The tables and the bounds hold no more than the counts ask.
+pub(crate) fn tables(tables: &Tables<'_>, bounds: &Bounds<'_>) -> Result<Makers, Refused> {
     first(2, tables.kinds.iter().position(|kind| !(LINEAR..=LAST).contains(kind)))?;
     parts(tables)?;
     first(4, rows_of(tables).position(|row| !weighed(&row)))?;
-    makers(tables)
+    let (makers, again) = makers(tables);
+    first(4, first_bad(&makers, bounds))?;
+    first(5, again)?;
+    Ok(makers)
 }
 
 /// Check 3: made variables, input counts, parts that follow one another up to e, and inputs.
@@ -102,28 +106,27 @@ pub(crate) fn weighed(row: &Row<'_>) -> bool {
     }
 }
 
-/// Check 5, and with it the makers.
-fn makers(tables: &Tables<'_>) -> Result<Makers, Refused> {
+/// The makers, and the first row that makes a variable again, if one does.
+fn makers(tables: &Tables<'_>) -> (Makers, Option<usize>) {
     let mut makers = vec![0; tables.n];
+    let mut again = None;
     for (row, (&made, one_more)) in tables.makes.iter().zip(1..).enumerate() {
-        let maker = &mut makers[usize::from(made)];
-        if *maker != 0 {
-            return Err(Refused::at(5, row));
+        let earlier = std::mem::replace(&mut makers[usize::from(made)], one_more);
+        if earlier != 0 {
+            again = again.or(Some(row));
         }
-        *maker = one_more;
     }
-    Ok(makers)
+    (makers, again)
 }
 
-/// Check 7 of a build: search variables have a start value, made ones have 0.
-pub(crate) fn starts(makers: &[u16], starts: &[i32]) -> Result<(), Refused> {
-    let offends = |(&maker, &start): (&u16, &i32)| if maker == 0 { start == BLANK } else { start != 0 };
-    first(7, makers.iter().zip(starts).position(offends))
+/// Check 7 of a build: search variables have a start value within their bounds, made ones have 0.
+pub(crate) fn starts(makers: &[u16], bounds: &Bounds<'_>, starts: &[i32]) -> Result<(), Refused> {
+    first(7, first_outside(makers, bounds, starts, |start| start == 0))
 }
 
-/// Check 7 of trial, keep and taking back: search variables have a value.
-pub(crate) fn stored(makers: &[u16], stored: &[i32]) -> Result<(), Refused> {
-    first(7, makers.iter().zip(stored).position(|(&maker, &value)| maker == 0 && value == BLANK))
+/// Check 7 of trial, keep and taking back: search variables have a value within their bounds.
+pub(crate) fn stored(makers: &[u16], bounds: &Bounds<'_>, stored: &[i32]) -> Result<(), Refused> {
+    first(7, first_outside(makers, bounds, stored, |_| true))
 }
 
 /// How many values are blank, counted in 32 bits so that many are compared at once.
@@ -136,11 +139,12 @@ pub(crate) fn route(route: u32) -> Result<(), Refused> {
     require((1..=3).contains(&route), 9)
 }
 
-/// Checks 10 to 12.
-pub(crate) fn pairs(makers: &[u16], moved: &Move<'_>) -> Result<(), Refused> {
+/// Checks 10 to 12, and 17.
+pub(crate) fn pairs(makers: &[u16], bounds: &Bounds<'_>, moved: &Move<'_>) -> Result<(), Refused> {
     first(10, moved.vars.iter().position(|&variable| makers.get(usize::from(variable)) != Some(&0)))?;
     first(11, (0..moved.pairs).find(|&pair| moved.vars[..pair].contains(&moved.vars[pair])))?;
-    first(12, moved.values.iter().position(|&value| value == BLANK))
+    first(12, moved.values.iter().position(|&value| value == BLANK))?;
+    first(17, pairs_of(moved).position(|(variable, value)| !allow(bounds, variable, value)))
 }
 
 /// Check 13.

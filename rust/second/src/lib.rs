@@ -8,6 +8,7 @@
 #![forbid(unsafe_code)]
 #![warn(missing_docs)]
 
+mod bounds;
 mod calls;
 mod checks;
 mod file;
@@ -27,6 +28,12 @@ pub use salvage::salvage;
 
 /// No value: the one 32-bit number that is no value of a variable.
 pub const BLANK: i32 = i32::MIN;
+
+/// The least number that a variable may have, and the lowest of full bounds.
+pub const LOWEST: i32 = -i32::MAX;
+
+/// The greatest number that a variable may have, and the highest of full bounds.
+pub const HIGHEST: i32 = i32::MAX;
 
 /// The most variables of a model.
 pub const MOST_VARIABLES: usize = 4096;

@@ -3,9 +3,11 @@
 //! Three lent rows: the number of moves and then the pairs of each, the oldest first; the variables; the values. Each
 //! move has a stretch of 64 places in the last two.
 
+use crate::bounds::allow;
 use crate::checks::require;
-use crate::{BLANK, MOST_LOGGED, MOST_PAIRS, Refused};
-use lent::{LOG_PLACES, LOG_SIZES, Move};
+use crate::parts::pairs_of;
+use crate::{MOST_LOGGED, MOST_PAIRS, Refused};
+use lent::{Bounds, LOG_PLACES, LOG_SIZES, Move};
 
 /// A log that is looked at.
 #[derive(Clone, Copy)]
@@ -38,11 +40,11 @@ impl<'a> Log<'a> {
     }
 
     /// Check 16: no more moves than 64 or than were kept, each of at most 64 pairs, of search variables that are there,
-    /// none twice, and no value is blank.
-    pub(crate) fn holds(&self, makers: &[u16], kept: u32) -> Result<(), Refused> {
+    /// none twice, and every value within its bounds, which allow no blank.
+    pub(crate) fn holds(&self, makers: &[u16], bounds: &Bounds<'_>, kept: u32) -> Result<(), Refused> {
         let few = self.moves() <= MOST_LOGGED && u32::from(self.sizes[0]) <= kept;
         require(few, 16)?;
-        let mut names = Names { makers, last: vec![0; makers.len()] };
+        let mut names = Names { makers, bounds, last: vec![0; makers.len()] };
         let mut numbered = (1..).zip(self.backs());
         require(numbered.all(|(number, back)| back.is_some_and(|back| names.all_good(number, &back))), 16)
     }
@@ -61,17 +63,18 @@ pub(crate) fn sizes_fit(sizes: &[u16]) -> bool {
 /// Which variables the moves name: for each the last move that named it, from 1, or 0.
 struct Names<'a> {
     makers: &'a [u16],
+    bounds: &'a Bounds<'a>,
     last: Vec<u8>,
 }
 
 impl Names<'_> {
-    /// Whether this move names search variables, each once, and gives each a value.
+    /// Whether this move names search variables, each once, and gives each a value that its bounds allow.
     fn all_good(&mut self, number: u8, back: &Move<'_>) -> bool {
         let mut named = |&variable: &u16| {
             let variable = usize::from(variable);
             self.makers.get(variable) == Some(&0) && std::mem::replace(&mut self.last[variable], number) != number
         };
-        back.vars.iter().all(&mut named) && !back.values.contains(&BLANK)
+        back.vars.iter().all(&mut named) && pairs_of(back).all(|(variable, value)| allow(self.bounds, variable, value))
     }
 }
 
@@ -84,7 +87,7 @@ pub(crate) struct LogMut<'a> {
 
 impl LogMut<'_> {
     /// Notes a move over the values before it; of 64 moves the oldest goes, and all that stands behind it moves up by
-    /// one move. Checks 10 to 12 and 16 have passed.
+    /// one move. Checks 10 to 12, 17 and 16 have passed.
     pub(crate) fn note(&mut self, stored: &[i32], moved: &Move<'_>) {
         let mut before = usize::from(self.sizes[0]);
         if before == MOST_LOGGED {

@@ -3,9 +3,9 @@
 mod naive;
 
 use compare::salvages::tiny_damaged_files;
-use compare::{Call, Case, Engine, Random, Second, Sizes, compare, model, run, seed};
+use compare::{Answer, Call, Case, Engine, Random, Second, Sizes, compare, model, run, seed};
 use naive::Naive;
-use second::BLANK;
+use second::{BLANK, HIGHEST, LOWEST};
 
 #[test]
 fn agrees_with_the_definitions() {
@@ -25,7 +25,7 @@ fn saves_as_the_definitions_do() {
 struct Faulty(fn(&Case, &mut Case));
 
 impl Engine for Faulty {
-    fn answer(&self, case: &mut Case) -> compare::Answer {
+    fn answer(&self, case: &mut Case) -> Answer {
         let lent = case.clone();
         let mut answer = Second.answer(case);
         if answer.number == 0 {
@@ -217,4 +217,209 @@ fn finds_a_max_that_one_blank_input_blanks() {
         }
     };
     assert!(found(fault) <= 3);
+}
+
+/// An engine that goes by other bounds than it is lent.
+struct OtherBounds(fn(&mut Case));
+
+impl Engine for OtherBounds {
+    fn answer(&self, case: &mut Case) -> Answer {
+        let lent = (case.lows.clone(), case.highs.clone());
+        if (case.lows.len().min(case.highs.len())) >= case.n
+            && matches!(case.call, Call::Build | Call::Trial | Call::Keep | Call::TakeBack)
+        {
+            self.0(case);
+        }
+        let answer = Second.answer(case);
+        (case.lows, case.highs) = lent;
+        answer
+    }
+}
+
+/// An engine that refuses what it refuses with another number or at another place.
+struct OtherRefusal(fn(&Case, Answer) -> Answer);
+
+impl Engine for OtherRefusal {
+    fn answer(&self, case: &mut Case) -> Answer {
+        let answer = Second.answer(case);
+        if answer.number == 0 { answer } else { self.0(case, answer) }
+    }
+}
+
+/// The smallest case on which an engine differs from the definitions.
+fn found_in(engine: &dyn Engine) -> Case {
+    found_among(engine, |random| model(random, Sizes::TINY))
+}
+
+/// The smallest case on which an engine differs from the definitions, over models that are drawn so.
+fn found_among(engine: &dyn Engine, draw: fn(&mut Random) -> Case) -> Case {
+    let found = run(engine, &Naive, 1, 40_000, draw).expect_err("a difference");
+    assert!(compare(engine, &Naive, &found.case).is_err(), "the small case still shows the fault");
+    found.case
+}
+
+/// Whether some row makes a variable.
+fn is_made(case: &Case, variable: usize) -> bool {
+    case.makes.iter().take(case.m).any(|&made| usize::from(made) == variable)
+}
+
+/// Moves each bound of the search variables by a number, as far as there are such.
+fn widen(case: &mut Case, below: i32, above: i32) {
+    for variable in (0..case.n).filter(|&variable| !is_made(case, variable)).collect::<Vec<_>>() {
+        let (low, high) = case.bounds(variable);
+        if low != BLANK && low <= high {
+            case.lows[variable] = low.saturating_sub(below).max(LOWEST);
+            case.highs[variable] = high.saturating_add(above);
+        }
+    }
+}
+
+#[test]
+fn finds_bounds_that_are_one_off() {
+    for engine in [
+        OtherBounds(|case| widen(case, 1, 0)),
+        OtherBounds(|case| widen(case, 0, 1)),
+        OtherBounds(|case| widen(case, -1, 0)),
+        OtherBounds(|case| widen(case, 0, -1)),
+    ] {
+        assert_eq!(found_in(&engine).m, 0);
+    }
+}
+
+#[test]
+fn finds_a_call_without_bounds() {
+    let without = |case: &mut Case| *case = std::mem::take(case).with_full_bounds();
+    assert!(found_in(&OtherBounds(without)).m <= 1);
+    for engine in [
+        OtherBounds(|case| without_in(Call::Build, case)),
+        OtherBounds(|case| without_in(Call::Trial, case)),
+        OtherBounds(|case| without_in(Call::Keep, case)),
+        OtherBounds(|case| without_in(Call::TakeBack, case)),
+    ] {
+        assert!(found_in(&engine).m <= 1);
+    }
+}
+
+/// Goes by full bounds in a call.
+fn without_in(call: Call, case: &mut Case) {
+    if case.call == call && case.n <= 4096 {
+        *case = std::mem::take(case).with_full_bounds();
+    }
+}
+
+#[test]
+fn finds_made_variables_with_bounds_of_their_own() {
+    let full_where_made = |case: &mut Case| {
+        for variable in (0..case.n).filter(|&variable| is_made(case, variable)).collect::<Vec<_>>() {
+            (case.lows[variable], case.highs[variable]) = (LOWEST, HIGHEST);
+        }
+    };
+    assert_eq!(found_in(&OtherBounds(full_where_made)).m, 1);
+}
+
+#[test]
+fn finds_a_log_that_is_not_held_to_the_bounds() {
+    let wide_enough = |case: &mut Case| {
+        if case.call == Call::TakeBack && case.log_vars.len().min(case.log_values.len()) >= 4096 {
+            for move_at in (0..4096).step_by(64).take(case.logged()) {
+                let (variable, value) = (usize::from(case.log_vars[move_at]), case.log_values[move_at]);
+                let stored = case.stored.get(variable).copied().unwrap_or(BLANK);
+                let (low, high) = case.bounds(variable);
+                if variable < case.n && value != BLANK && (low..=high).contains(&stored) && !is_made(case, variable) {
+                    (case.lows[variable], case.highs[variable]) = (low.min(value), high.max(value));
+                }
+            }
+        }
+    };
+    assert_eq!(found_in(&OtherBounds(wide_enough)).m, 0);
+}
+
+#[test]
+fn finds_bounds_beyond_the_variables_that_are_looked_at() {
+    struct Beyond;
+    impl Engine for Beyond {
+        fn answer(&self, case: &mut Case) -> Answer {
+            let (low, high) = case.bounds(case.n);
+            if case.call == Call::Keep && high < low {
+                let mut refused = case.clone();
+                let answer = Second.answer(&mut refused);
+                return if answer.number == 0 {
+                    Answer { number: 4, place: case.n as u32, ..Answer::default() }
+                } else {
+                    answer
+                };
+            }
+            Second.answer(case)
+        }
+    }
+    assert_eq!(found_in(&Beyond).m, 0);
+}
+
+/// The first pair of a move that the bounds do not allow; they allow no blank.
+fn first_outside(case: &Case) -> Option<u32> {
+    let mut pairs = (0..).zip(case.move_vars.iter().zip(&*case.move_values)).take(case.pairs);
+    pairs.find_map(|(pair, (&variable, value))| {
+        let (low, high) = case.bounds(variable.into());
+        (!(low..=high).contains(value)).then_some(pair)
+    })
+}
+
+#[test]
+fn finds_a_move_outside_that_is_refused_otherwise() {
+    let named_12: fn(&Case, Answer) -> Answer = |_, answer| match answer.number {
+        17 => Answer { number: 12, ..answer },
+        _ => answer,
+    };
+    let at_0: fn(&Case, Answer) -> Answer = |_, answer| match answer.number {
+        17 => Answer { place: 0, ..answer },
+        _ => answer,
+    };
+    let before_12: fn(&Case, Answer) -> Answer = |case, answer| match answer.number {
+        12 => Answer { number: 17, place: first_outside(case).unwrap_or(0), ..answer },
+        _ => answer,
+    };
+    let after_13: fn(&Case, Answer) -> Answer = |case, answer| {
+        let unknown = (0..).zip(&*case.asked_vars).take(case.asked).find(|(_, asked)| usize::from(**asked) >= case.n);
+        match (case.call, answer.number, unknown) {
+            (Call::Trial, 17, Some((place, _))) => Answer { number: 13, place, ..answer },
+            _ => answer,
+        }
+    };
+    for told in [named_12, at_0, before_12, after_13] {
+        assert_eq!(found_in(&OtherRefusal(told)).m, 0);
+    }
+}
+
+#[test]
+fn finds_wrong_bounds_that_are_refused_otherwise() {
+    let after_5: fn(&Case, Answer) -> Answer = |case, answer| {
+        let of_rows = Second.answer(&mut case.clone().with_full_bounds());
+        if answer.number == 4 && of_rows.number == 5 { of_rows } else { answer }
+    };
+    let at_the_last: fn(&Case, Answer) -> Answer = |case, answer| {
+        let of_rows = Second.answer(&mut case.clone().with_full_bounds());
+        let in_order = |variable: &usize| {
+            let (low, high) = case.bounds(*variable);
+            low != BLANK && low <= high
+        };
+        match (0..case.n.min(4096)).rev().find(|variable| !in_order(variable)) {
+            Some(last) if answer.number == 4 && of_rows.number != 4 => Answer { place: last as u32, ..answer },
+            _ => answer,
+        }
+    };
+    let made_twice: fn(&mut Random) -> Case = |random| {
+        let mut model = model(random, Sizes::TINY);
+        if let Some(&made) = model.makes.first() {
+            model.makes.put(random.below(model.m), made);
+            model.highs.put(made.into(), random.between(-1, 1));
+        }
+        model
+    };
+    let two_wrong: fn(&mut Random) -> Case = |random| {
+        let mut model = model(random, Sizes::TINY);
+        (0..2).for_each(|_| model.lows.put(random.below(model.n), BLANK));
+        model
+    };
+    assert!(found_among(&OtherRefusal(after_5), made_twice).m <= 3);
+    assert!(found_among(&OtherRefusal(at_the_last), two_wrong).m <= 1);
 }

@@ -51,7 +51,8 @@ fn keeps_and_takings_back_by_the_definitions() {
 
 #[test]
 fn refusals_by_the_definitions() {
-    let tiny = |name: &str| !["1: counts", "6", "14: bounds", "19: bounds"].contains(&name);
+    let tiny =
+        |name: &str| !["1: counts", "4: bounds of 4,096 variables", "6", "14: bounds", "19: bounds"].contains(&name);
     let tests: Vec<_> = EDGES.iter().copied().filter(|(name, _)| tiny(name)).collect();
     hold(&tests, &Naive);
 }

@@ -4,7 +4,10 @@
 
 #define LENT(buffer) buffer, sizeof buffer / sizeof *buffer
 #define TABLES LENT(kinds), LENT(makes), LENT(params), LENT(firsts), LENT(counts), LENT(vars), LENT(coefs)
+#define BOUNDS LENT(lows), LENT(highs)
 #define BUILT LENT(numbers), LENT(order), LENT(stored), LENT(reader_starts), LENT(reader_places)
+#define L LUKHANDRO_LOWEST
+#define H LUKHANDRO_HIGHEST
 #define LOG LENT(log_sizes), LENT(log_vars), LENT(log_values)
 #define MOVE 1, LENT(move_vars), LENT(move_values)
 
@@ -15,6 +18,8 @@ static uint16_t log_sizes[LUKHANDRO_LOG_SIZES] = {7}, log_vars[LUKHANDRO_LOG_PLA
 static int32_t log_values[LUKHANDRO_LOG_PLACES];
 static int32_t params[3] = {0, 0, 2}, starts[6] = {25200, 28800, 600}, stored[6], move_values[1] = {28801};
 static int32_t results[2], trial[6];
+/* a headway of up to fifteen minutes, and 0 */
+static int32_t lows[6] = {L, L, 0, L, L, L}, highs[6] = {H, H, 900, H, H, H};
 static int16_t coefs[7] = {1, 1, 1, 1, 1, 1, 4};
 static uint8_t flags[6], bytes[112], file[112];
 static lukhandro_session session = {9, 9, 9};
@@ -31,32 +36,41 @@ static void print_saved(lukhandro_salvage_outcome saved) {
 }
 
 int main(void) {
-    print("build", lukhandro_build(&session, 6, 3, 7, TABLES, LENT(starts), BUILT, LENT(log_sizes)));
+    print("build", lukhandro_build(&session, 6, 3, 7, TABLES, BOUNDS, LENT(starts), BUILT, LENT(log_sizes)));
     printf("readers of 2 from place %u to %u: %u %u\n", reader_starts[2], reader_starts[3], reader_places[4],
         reader_places[5]);
-    print("trial", lukhandro_trial(&session, 6, 3, 7, TABLES, BUILT, MOVE, 2,
+    print("trial", lukhandro_trial(&session, 6, 3, 7, TABLES, BOUNDS, BUILT, MOVE, 2,
         LENT(asked_vars), 3, LENT(results), LENT(trial), LENT(flags)));
     printf("results %d %d, trial %d, flags %u %u %u\n", results[0], results[1], trial[1], flags[3], flags[4], flags[5]);
-    print("keep", lukhandro_keep(&session, 6, 3, 7, TABLES, BUILT, MOVE, LENT(flags), LOG));
+    print("keep", lukhandro_keep(&session, 6, 3, 7, TABLES, BOUNDS, BUILT, MOVE, LENT(flags), LOG));
     printf("log of %u move: %u pair, variable %u from %d\n", log_sizes[0], log_sizes[1], log_vars[0], log_values[0]);
-    print("keep", lukhandro_keep(&session, 6, 3, 7, TABLES, BUILT, 1, asked_vars + 1, 1, LENT(move_values), LENT(flags),
-        LOG));
+    print("keep", lukhandro_keep(&session, 6, 3, 7, TABLES, BOUNDS, BUILT, 1, asked_vars + 1, 1, LENT(move_values),
+        LENT(flags), LOG));
     reader_places[0] = 1;
-    print("keep", lukhandro_keep(&session, 6, 3, 7, TABLES, BUILT, MOVE, LENT(flags), LOG));
-    print("taking back", lukhandro_take_back(&session, 6, 3, 7, TABLES, BUILT, LENT(flags), LOG));
+    print("keep", lukhandro_keep(&session, 6, 3, 7, TABLES, BOUNDS, BUILT, MOVE, LENT(flags), LOG));
+    print("taking back", lukhandro_take_back(&session, 6, 3, 7, TABLES, BOUNDS, BUILT, LENT(flags), LOG));
     reader_places[0] = 0;
     log_sizes[0] = 2;
-    print("taking back", lukhandro_take_back(&session, 6, 3, 7, TABLES, BUILT, LENT(flags), LOG));
+    print("taking back", lukhandro_take_back(&session, 6, 3, 7, TABLES, BOUNDS, BUILT, LENT(flags), LOG));
     log_sizes[0] = 1;
-    print("taking back", lukhandro_take_back(&session, 6, 3, 7, TABLES, BUILT, LENT(flags), LOG));
-    print("taking back", lukhandro_take_back(&session, 6, 3, 7, TABLES, BUILT, LENT(flags), LOG));
+    print("taking back", lukhandro_take_back(&session, 6, 3, 7, TABLES, BOUNDS, BUILT, LENT(flags), LOG));
+    print("taking back", lukhandro_take_back(&session, 6, 3, 7, TABLES, BOUNDS, BUILT, LENT(flags), LOG));
     move_vars[0] = 2;
     move_values[0] = 0;
-    print("keep", lukhandro_keep(&session, 6, 3, 7, TABLES, BUILT, MOVE, LENT(flags), LOG));
+    print("keep", lukhandro_keep(&session, 6, 3, 7, TABLES, BOUNDS, BUILT, MOVE, LENT(flags), LOG));
     session.blanks = 2;
-    print("taking back", lukhandro_take_back(&session, 6, 3, 7, TABLES, BUILT, LENT(flags), LOG));
+    print("taking back", lukhandro_take_back(&session, 6, 3, 7, TABLES, BOUNDS, BUILT, LENT(flags), LOG));
     session.blanks = 3;
-    print("taking back", lukhandro_take_back(&session, 6, 3, 7, TABLES, BUILT, LENT(flags), LOG));
+    print("taking back", lukhandro_take_back(&session, 6, 3, 7, TABLES, BOUNDS, BUILT, LENT(flags), LOG));
+    move_values[0] = 901;
+    print("keep", lukhandro_keep(&session, 6, 3, 7, TABLES, BOUNDS, BUILT, MOVE, LENT(flags), LOG));
+    highs[3] = 6;
+    print("keep", lukhandro_keep(&session, 6, 3, 7, TABLES, BOUNDS, BUILT, MOVE, LENT(flags), LOG));
+    highs[3] = H;
+    highs[2] = 599;
+    print("taking back", lukhandro_take_back(&session, 6, 3, 7, TABLES, BOUNDS, BUILT, LENT(flags), LOG));
+    print("build", lukhandro_build(&session, 6, 3, 7, TABLES, lows, 5, LENT(highs), LENT(starts), BUILT,
+        LENT(log_sizes)));
     print("write", lukhandro_write(6, 3, 7, LENT(starts), TABLES, LENT(bytes)));
     params[2] = 0;
     lukhandro_read_outcome read = lukhandro_read(LENT(bytes), LENT(starts), TABLES);

@@ -15,13 +15,14 @@
 enum call { BUILD, TRIAL, KEEP, TAKE_BACK, READ, WRITE, SALVAGE };
 
 enum buffer {
-    SESSION, KINDS, MAKES, PARAMS, FIRSTS, COUNTS, VARS, COEFS, STARTS, NUMBERS, ORDER, STORED, READER_STARTS,
-    READER_PLACES, MOVE_VARS, MOVE_VALUES, ASKED_VARS, RESULTS, TRIED, FLAGS, LOG_SIZES, LOG_VARS, LOG_VALUES, BYTES,
+    SESSION, KINDS, MAKES, PARAMS, FIRSTS, COUNTS, VARS, COEFS, LOWS, HIGHS, STARTS, NUMBERS, ORDER, STORED,
+    READER_STARTS, READER_PLACES, MOVE_VARS, MOVE_VALUES, ASKED_VARS, RESULTS, TRIED, FLAGS, LOG_SIZES, LOG_VARS, LOG_VALUES, BYTES,
     SAVED, LIST, BUFFERS
 };
 
 /* Bytes of one element of each buffer; the record is three elements, its counters. */
-static const uint64_t width[BUFFERS] = {4, 2, 2, 4, 2, 2, 2, 2, 4, 2, 2, 4, 2, 2, 2, 4, 2, 4, 4, 1, 2, 2, 4, 1, 1, 2};
+static const uint64_t width[BUFFERS] = {
+    4, 2, 2, 4, 2, 2, 2, 2, 4, 4, 4, 2, 2, 4, 2, 2, 2, 4, 2, 4, 4, 1, 2, 2, 4, 1, 1, 2};
 
 struct request {
     uint64_t call, n, m, e, pairs, asked, route;
@@ -81,6 +82,7 @@ static void take_block(void) {
 #define LENT(which) (request.lent[which].length == 0 ? NULL : (void *)(block + request.lent[which].place)), \
     request.lent[which].length
 #define ROWS_AND_ENTRIES LENT(KINDS), LENT(MAKES), LENT(PARAMS), LENT(FIRSTS), LENT(COUNTS), LENT(VARS), LENT(COEFS)
+#define BOUNDS LENT(LOWS), LENT(HIGHS)
 #define BUILT LENT(NUMBERS), LENT(ORDER), LENT(STORED), LENT(READER_STARTS), LENT(READER_PLACES)
 #define MOVE request.pairs, LENT(MOVE_VARS), LENT(MOVE_VALUES)
 #define LOG LENT(LOG_SIZES), LENT(LOG_VARS), LENT(LOG_VALUES)
@@ -102,14 +104,15 @@ static struct answer made(void) {
     lukhandro_session *session = (void *)(block + request.lent[SESSION].place);
     switch (request.call) {
     case BUILD:
-        return of_call(lukhandro_build(session, COUNTED, ROWS_AND_ENTRIES, LENT(STARTS), BUILT, LENT(LOG_SIZES)));
+        return of_call(lukhandro_build(session, COUNTED, ROWS_AND_ENTRIES, BOUNDS, LENT(STARTS), BUILT,
+            LENT(LOG_SIZES)));
     case TRIAL:
-        return of_call(lukhandro_trial(session, COUNTED, ROWS_AND_ENTRIES, BUILT, MOVE, request.asked,
+        return of_call(lukhandro_trial(session, COUNTED, ROWS_AND_ENTRIES, BOUNDS, BUILT, MOVE, request.asked,
             LENT(ASKED_VARS), (uint32_t)request.route, LENT(RESULTS), LENT(TRIED), LENT(FLAGS)));
     case KEEP:
-        return of_call(lukhandro_keep(session, COUNTED, ROWS_AND_ENTRIES, BUILT, MOVE, LENT(FLAGS), LOG));
+        return of_call(lukhandro_keep(session, COUNTED, ROWS_AND_ENTRIES, BOUNDS, BUILT, MOVE, LENT(FLAGS), LOG));
     case TAKE_BACK:
-        return of_call(lukhandro_take_back(session, COUNTED, ROWS_AND_ENTRIES, BUILT, LENT(FLAGS), LOG));
+        return of_call(lukhandro_take_back(session, COUNTED, ROWS_AND_ENTRIES, BOUNDS, BUILT, LENT(FLAGS), LOG));
     case READ:
         return of_read(lukhandro_read(LENT(BYTES), LENT(STARTS), ROWS_AND_ENTRIES));
     case WRITE:

@@ -8,8 +8,8 @@ const GAP: u8 = 0x5A;
 /// Every buffer of a block begins at a multiple of this, guards and all.
 const ALIGNED: usize = 8;
 
-/// The bytes of a request before its block: 8 numbers, and the place and length of the record and the 25 buffers.
-const REQUEST: usize = 8 * (8 + 2 * 26);
+/// The bytes of a request before its block: 8 numbers, and the place and length of the record and the 27 buffers.
+const REQUEST: usize = 8 * (8 + 2 * 28);
 
 /// The bytes of an answer before its block.
 const ANSWER: usize = 4 * 9;
@@ -121,7 +121,7 @@ mod tests {
             let (place, length) = (number(8 + 2 * (which + 1)), number(9 + 2 * (which + 1)));
             assert_eq!((length, place % buffer.width()), (buffer.length(), 0), "{name}");
         }
-        let stored = REQUEST + number(8 + 2 * 11);
+        let stored = REQUEST + number(8 + 2 * 13);
         assert_eq!(request[stored..][..4], 25200i32.to_le_bytes());
     }
 }

@@ -21,6 +21,7 @@ number 0, place 0: 6 departures
 every twelve minutes: 5 departures, number 0
 taken back: 6 departures, number 0
 once more: number 15
+a slipped digit: number 17, place 0
 ";
     assert_eq!(printed("headway"), expected);
 }
@@ -43,6 +44,10 @@ taking back 15 0 0, session 0 3 0, stored 6 28200 26
 keep 0 0 3, session 1 3 3, stored -2147483648 -2147483648 -2147483648
 taking back 19 0 0, session 1 3 2, stored -2147483648 -2147483648 -2147483648
 taking back 0 0 3, session 0 3 0, stored 6 28200 26
+keep 17 0 0, session 0 3 0, stored 6 28200 26
+keep 4 3 0, session 0 3 0, stored 6 28200 26
+taking back 7 2 0, session 0 3 0, stored 6 28200 26
+build 1 0 0, session 0 3 0, stored 6 28200 26
 write 0 0 0, session 0 3 0, stored 6 28200 26
 read 0 0 6 3 7, parameter 2
 read 14 20 0 0 0
@@ -67,7 +72,7 @@ fn ends(input: &[u8]) -> Option<i32> {
 fn the_server_ends_with_its_input() {
     assert_eq!(ends(&[]), Some(0));
     assert_eq!(ends(&[0; 10]), Some(2), "a request that breaks off");
-    assert_eq!(ends(&[0; 480]), Some(2), "a request without a record");
+    assert_eq!(ends(&[0; 512]), Some(2), "a request without a record");
 }
 
 #[test]

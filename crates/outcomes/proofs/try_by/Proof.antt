@@ -35,16 +35,16 @@ number-of-requires c κs = search needs
 evaluations-of-requires : tie.Need-evaluations-of-requires
 evaluations-of-requires c κs = search needs
 
-array-copy-out-t40 : tie.Need-array-copy-out-t40
-array-copy-out-t40 c = search needs
+array-copy-out-t42 : tie.Need-array-copy-out-t42
+array-copy-out-t42 c = search needs
 
 abbrev model : tie.Start → Model
-model s = let a = s .args in toModel (a .n) (a .m) (a .e) (a .kinds .now) (a .makes .now) (a .params .now) (a .firsts .now) (a .counts .now) (a .vars .now) (a .coefs .now) (a .numbers .now) (a .order .now) (a .stored .now) (a .reader-starts .now) (a .reader-places .now)
+model s = let a = s .args in toModel (a .n) (a .m) (a .e) (a .kinds .now) (a .makes .now) (a .params .now) (a .firsts .now) (a .counts .now) (a .vars .now) (a .coefs .now) (a .lows .now) (a .highs .now) (a .numbers .now) (a .order .now) (a .stored .now) (a .reader-starts .now) (a .reader-places .now)
 
 returns : tie.Need-returns
 returns c =
     let s = c .before .before .before .before .before .before .before .before .before .before .before .before .before .before .before .before .before .before .before .before .before in let a = s .args in
-    let fits = sfits-of (c .t40 .given) in let mv = moveOf (a .pairs) (a .move-vars .now) (a .move-values .now) in
+    let fits = sfits-of (c .t42 .given) in let mv = moveOf (a .pairs) (a .move-vars .now) (a .move-values .now) in
     let is = tried-is (recordIn (a .session)) (model s) (a .asked) (a .route) mv _ _ (c .before .before .before .before .before .before .trial-core .ensures) (c .before .before .number-of .ensures) (c .before .evaluations-of .ensures) (toZ-ofZ fits) in
     let low = tried-low (recordIn (a .session)) (model s) (a .asked) (a .route) mv in
     (is, omega (arith, low .0, ap (λ (x : Tried). x .number) is), omega (arith, low .1, ap (λ (x : Tried). x .evaluations) is), simp (toZ-ofZ fits) (fits-away w32 _ fits))
@@ -60,5 +60,5 @@ try-by-spec =
     trial-core-requires
     number-of-requires
     evaluations-of-requires
-    array-copy-out-t40
+    array-copy-out-t42
     returns)

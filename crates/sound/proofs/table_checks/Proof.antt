@@ -1,159 +1,122 @@
--- Each check stops the chain or is passed, and then the rest of the chain decides. Assumes nothing.
+-- The rows refuse, or their makers are filled in and the bounds and check 5 decide. Assumes nothing.
 use native.Mathlib.Omega.{arith}
+use mathlib.Core.List.{List}
 use mathlib.Core.Path.{_≡_, sym, ap, _∙_}
-use lib.ListN.{take}
+use Prim.Native.Nat.{ℕ}
 use borrow.Author.Needs.{needs}
-use borrow.Author.Tests.{eq-eqb, ne-eqb}
-use Rattle.paper.specs.Lists.{total, firstFail}
+use Rattle.paper.specs.Lists.{over, firstFail}
 use Rattle.paper.specs.Tables.{Tables, lent}
-use Rattle.paper.specs.Checks.{accepted, kindGood, shapeGood, numberGood, madeOnce, tableChecks}
-use Rattle.paper.proofs.Verdicts.{check-stops, check-passes, require-stops, require-next}
+use Rattle.paper.specs.Checks.{accepted, refused, Bounds, boundsIn, boundsGood, madeOnce, rowChecks}
+use Rattle.paper.proofs.Verdicts.{check-stops, check-passes}
 use Rattle.tables.specs.Answers.{answerOf}
-use Rattle.tables.specs.declared.Answer.the-variants.{Refused}
-use Rattle.tables.proofs.Judged.{fromThree, fromTotal, fromFour, fromFive, numbers-front}
+use Rattle.tables.specs.Makers.{makerOf, Makers}
+use Rattle.tables.proofs.Judged.{fromFive, accepted-is, rows-make}
+use Rattle.tables.proofs.Made.{makers-filled}
+use Rattle.sound.proofs.Judged.{rows-refused, rows-passed, bounds-least}
 use Rattle.sound.proofs.table_checks.Statement.{statement}
 use Rattle.sound.proofs.table_checks.Tie as tie
-
-first-bad-kind-requires : tie.Need-first-bad-kind-requires
-first-bad-kind-requires c κs = search needs
-
-refused-requires : tie.Need-refused-requires
-refused-requires c κs = search needs
 
 abbrev tables : tie.Start → Tables
 tables s =
     let a = s .args in
     lent (a .n) (a .m) (a .e) (a .kinds .now) (a .makes .now) (a .params .now) (a .firsts .now) (a .counts .now) (a .vars .now) (a .coefs .now)
 
+abbrev limits : tie.Start → Bounds
+limits s = boundsIn (s .args .lows .now) (s .args .highs .now)
+
+row-checks-requires : tie.Need-row-checks-requires
+row-checks-requires c κs = search needs
+
+enum-told : tie.Need-enum-told
+enum-told c = search needs
+
+enum-told-2 : tie.Need-enum-told-2
+enum-told-2 c = search needs
+
 returns : tie.Need-returns
 returns c =
-    let t = tables (c .before .before .before .before .before .before .before .before) in
-    c .refused .ensures
-    ∙ ap (answerOf 0) (sym (check-stops 2 (t .m) (kindGood t) (fromThree t accepted) _ (c .before .before .first-bad-kind .ensures) (c .before .if1 .taken)))
+    let s = c .before .before .before .before .before .before .before .before .before in let said = c .enum-told2 .given in
+    rows-refused (tables s) (limits s) _ _ (said .0 .0) (said .0 .1 .0) (c .before .before .row-checks .ensures) (said .1)
 
--- ── past check 2 ──
-abbrev t₂ : tie.Else1 → Tables
-t₂ c = tables (c .before .before .before .before .before .before .before)
+-- ── past the rows ──
+abbrev start : tie.After-enum-told → tie.Start
+start c = c .before .before .before .before .before .before .before .before .before
 
-past₂ : (c : tie.Else1) → tableChecks (t₂ c) accepted ≡ fromThree (t₂ c) accepted
-past₂ c = let t = t₂ c in check-passes 2 (t .m) (kindGood t) (fromThree t accepted) _ (c .before .first-bad-kind .ensures, c .if1 .left)
+past : (c : tie.After-enum-told) → rowChecks (tables (start c)) accepted ≡ accepted
+past c = let said = c .enum-told .given in accepted-is 0 (said .0 .0) (rowChecks (tables (start c)) accepted) (sym (c .before .before .row-checks .ensures) ∙ said .1)
 
-first-bad-shape-requires : tie.Need-first-bad-shape-requires
-first-bad-shape-requires c κs = search needs
+makers-requires : tie.Need-makers-requires
+makers-requires c κs =
+    let s = start (c .before) in let z = s .pre .0 in let m = z .m-most in
+    ((z .makes, s .pre .1 .2, omega arith), rows-make (tables s) (past (c .before)))
 
-refused-requires-2 : tie.Need-refused-requires-2
-refused-requires-2 c κs = search needs
+-- what `makers` filled in
+filled : (c : tie.After-enum-told) {by : List ℕ} → let t = tables (start c) in by ≡ over (t .n) (makerOf (t .m) (t .makes)) (start c .args .by .now) → Makers t by
+filled c e = makers-filled (tables (start c)) _ _ (start c .pre .1 .2) e
+
+first-bad-bound-requires : tie.Need-first-bad-bound-requires
+first-bad-bound-requires c κs = search needs
+
+-- the least variable whose bounds are not good
+least : (c : tie.After-first-bad-bound) → let s = start (c .before .before .before .before .before .before) in c .first-bad-bound .result ≡ firstFail (boundsGood (tables s) (limits s)) (tables s .n)
+least c = let e = c .before .before .before .before .before .before in let s = start e in bounds-least (tables s) (limits s) _ (filled e (c .before .before .before .before .makers .ensures)) _ (c .first-bad-bound .ensures)
+
+refused-requires : tie.Need-refused-requires
+refused-requires c κs = search needs
+
+same-length : tie.Need-same-length
+same-length c = search needs
 
 returns-2 : tie.Need-returns-2
 returns-2 c =
-    let b = c .before .before .before in let t = t₂ b in
-    c .refused2 .ensures
-    ∙ ap (answerOf 0) (sym (past₂ b ∙ check-stops 3 (t .m) (shapeGood t) (fromTotal t accepted) _ (c .before .before .first-bad-shape .ensures) (c .before .if2 .taken)))
-
--- ── past the rows of check 3 ──
-abbrev t₃ : tie.Else2 → Tables
-t₃ c = t₂ (c .before .before)
-
-past₃ : (c : tie.Else2) → tableChecks (t₃ c) accepted ≡ fromTotal (t₃ c) accepted
-past₃ c = let t = t₃ c in past₂ (c .before .before) ∙ check-passes 3 (t .m) (shapeGood t) (fromTotal t accepted) _ (c .before .first-bad-shape .ensures, c .if2 .left)
-
-total-of-requires : tie.Need-total-of-requires
-total-of-requires c κs = search needs
-
-last-row-requires : tie.Need-last-row-requires
-last-row-requires c κs = search needs
-
-refused-requires-3 : tie.Need-refused-requires-3
-refused-requires-3 c κs = search needs
-
-returns-3 : tie.Need-returns-3
-returns-3 c =
-    let b = c .before .before .before .before in let t = t₃ b in
-    let sum = c .before .before .before .total-of .ensures in
-    c .refused3 .ensures ∙ ap (Refused 3) (c .before .last-row .ensures)
-    ∙ ap (answerOf 0) (sym (past₃ b ∙ require-stops 3 _ _ (fromFour t accepted) (ne-eqb (total (take (t .m) (t .counts))) (t .e) (omega arith))))
-
--- ── past check 3 ──
-abbrev t₃′ : tie.Else3 → Tables
-t₃′ c = t₃ (c .before .before)
-
-past₃′ : (c : tie.Else3) → tableChecks (t₃′ c) accepted ≡ fromFour (t₃′ c) accepted
-past₃′ c =
-    let t = t₃′ c in let sum = c .before .total-of .ensures in
-    past₃ (c .before .before) ∙ require-next 3 _ _ (fromFour t accepted) (eq-eqb (total (take (t .m) (t .counts))) (t .e) (omega arith))
-
-sub-first-bad-number : tie.Need-sub-first-bad-number
-sub-first-bad-number c = search needs
-
-part-first-bad-number-start : tie.Need-part-first-bad-number-start
-part-first-bad-number-start c = search needs
-
-part-first-bad-number-end : tie.Need-part-first-bad-number-end
-part-first-bad-number-end c = search needs
-
-first-bad-number-requires : tie.Need-first-bad-number-requires
-first-bad-number-requires c κs = search needs
-
--- in the first e coefficients as in all
-found : (c : tie.After-first-bad-number) → let t = t₃′ (c .before .before) in c .first-bad-number .result ≡ firstFail (numberGood t) (t .m)
-found c =
-    let b = c .before .before in
-    numbers-front (t₃′ b) _ _ (b .before .before .before .first-bad-shape .ensures) (b .before .before .if2 .left) (c .first-bad-number .ensures)
-
-refused-requires-4 : tie.Need-refused-requires-4
-refused-requires-4 c κs = search needs
-
-returns-4 : tie.Need-returns-4
-returns-4 c =
-    let b = c .before .before .before .before in let t = t₃′ b in
-    c .refused4 .ensures
-    ∙ ap (answerOf 0) (sym (past₃′ b ∙ check-stops 4 (t .m) (numberGood t) (fromFive t accepted) _ (found (c .before .before)) (c .before .if4 .taken)))
-
--- ── past check 4 ──
-abbrev t₄ : tie.Else4 → Tables
-t₄ c = t₃′ (c .before .before .before)
-
-past₄ : (c : tie.Else4) → tableChecks (t₄ c) accepted ≡ fromFive (t₄ c) accepted
-past₄ c = let t = t₄ c in past₃′ (c .before .before .before) ∙ check-passes 4 (t .m) (numberGood t) (fromFive t accepted) _ (found (c .before), c .if4 .left)
+    let e = c .before .before .before .before .before .before .before .before in let s = start e in let t = tables s in let bs = limits s in
+    rows-passed t bs _ (filled e (c .before .before .before .before .before .before .makers .ensures)) _ (refused 4 _) (past e)
+    (check-stops 4 (t .n) (boundsGood t bs) (fromFive t accepted) _ (least (c .before .before)) (c .before .if1 .taken)) (c .refused .ensures)
 
 first-again-requires : tie.Need-first-again-requires
 first-again-requires c κs = search needs
 
-refused-requires-5 : tie.Need-refused-requires-5
-refused-requires-5 c κs = search needs
+refused-requires-2 : tie.Need-refused-requires-2
+refused-requires-2 c κs = search needs
 
-returns-5 : tie.Need-returns-5
-returns-5 c =
-    let b = c .before .before .before in let t = t₄ b in
-    c .refused5 .ensures
-    ∙ ap (answerOf 0) (sym (past₄ b ∙ check-stops 5 (t .m) (madeOnce t) accepted _ (c .before .before .first-again .ensures) (c .before .if5 .taken)))
+same-length-2 : tie.Need-same-length-2
+same-length-2 c = search needs
 
-returns-6 : tie.Need-returns-6
-returns-6 c =
-    let b = c .before .before in let t = t₄ b in
-    ap (answerOf 0) (sym (past₄ b ∙ check-passes 5 (t .m) (madeOnce t) accepted _ (c .before .first-again .ensures, c .if5 .left)))
+returns-3 : tie.Need-returns-3
+returns-3 c =
+    let e = c .before .before .before .before .before .before .before .before .before .before in let s = start e in let t = tables s in let bs = limits s in
+    rows-passed t bs _ (filled e (c .before .before .before .before .before .before .before .before .makers .ensures)) _ (refused 5 _) (past e)
+    (check-passes 4 (t .n) (boundsGood t bs) (fromFive t accepted) _ (least (c .before .before .before .before), c .before .before .before .if1 .left)
+    ∙ check-stops 5 (t .m) (madeOnce t) accepted _ (c .before .before .first-again .ensures) (c .before .if2 .taken))
+    (c .refused2 .ensures)
+
+same-length-3 : tie.Need-same-length-3
+same-length-3 c = search needs
+
+returns-4 : tie.Need-returns-4
+returns-4 c =
+    let e = c .before .before .before .before .before .before .before .before .before in let s = start e in let t = tables s in let bs = limits s in
+    rows-passed t bs _ (filled e (c .before .before .before .before .before .before .before .makers .ensures)) _ accepted (past e)
+    (check-passes 4 (t .n) (boundsGood t bs) (fromFive t accepted) _ (least (c .before .before .before), c .before .before .if1 .left)
+    ∙ check-passes 5 (t .m) (madeOnce t) accepted _ (c .before .first-again .ensures, c .if2 .left))
+    (c .before .before .before .before .before .before .before .before .before .before .before .row-checks .ensures ∙ ap (answerOf 0) (past e))
 
 pub table-checks-spec : {M : Type 1} → statement M
 table-checks-spec =
     tie.close
     (tie.spec
-    first-bad-kind-requires
-    refused-requires
+    row-checks-requires
+    enum-told
+    enum-told-2
     returns
-    first-bad-shape-requires
-    refused-requires-2
+    makers-requires
+    first-bad-bound-requires
+    refused-requires
+    same-length
     returns-2
-    total-of-requires
-    last-row-requires
-    refused-requires-3
-    returns-3
-    sub-first-bad-number
-    part-first-bad-number-start
-    part-first-bad-number-end
-    first-bad-number-requires
-    refused-requires-4
-    returns-4
     first-again-requires
-    refused-requires-5
-    returns-5
-    returns-6)
+    refused-requires-2
+    same-length-2
+    returns-3
+    same-length-3
+    returns-4)

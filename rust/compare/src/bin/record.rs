@@ -7,16 +7,18 @@
 //! | bytes | |
 //! |---|---|
 //! | 4, 4 | length L of the model file, number C of calls |
+//! | 64, 64 | the lowest and the highest allowed numbers of 16 variables, 4 bytes each |
 //! | L | the model file, at times damaged |
 //! | 48 C | the calls |
 //!
 //! A trial or a keep is: 1 or 2, route, pairs, asked (4 bytes each), 4 pair variables (2 each), 4 new values (4 each),
 //! 4 asked variables (2 each). What lies beyond pairs or asked means nothing; of a keep route and asked are 0. A change
 //! of one field of what is lent is: 3, row, place, new field (4 bytes each) and zeros. Row 0 is the record, with its moves
-//! kept at place 0 and its number of blanks at place 1; rows 1 to 15 are kinds, made variables, parameters, firsts, counts, entry variables, coefficients, numbers, order,
-//! stored values, of the index of readers the starts and the places, and of the log the sizes, the variables and the
-//! values. A taking back is 4 and zeros. All keeps and takings back of a session have one log, which the last files try
-//! over sessions of many calls.
+//! kept at place 0 and its number of blanks at place 1; rows 1 to 17 are kinds, made variables, parameters, firsts, counts,
+//! entry variables, coefficients, numbers, order, stored values, of the index of readers the starts and the places, of the
+//! log the sizes, the variables and the values, and the lowest and the highest allowed numbers. A taking back is 4 and
+//! zeros. All keeps and takings back of a session have one log, which the last files try over sessions of many calls; two
+//! of these have narrow bounds.
 //!
 //! The text has a line `read NUMBER PLACE N M E`; if that is accepted a line `build`; and if that is accepted a line for
 //! each call: `trial`, `keep`, `back` or `change ROW PLACE FIELD`. `build`, `trial`, `keep` and `back` go on with `NUMBER
@@ -29,24 +31,29 @@ use std::fmt::{Display, Write};
 use std::path::Path;
 use std::{env, fs, io};
 
-use compare::{Answer, Call, Case, Engine, Guarded, Random, Second, Sizes, damage, model, model_of, trial_of, value};
+use compare::{
+    Answer, Call, Case, Engine, Guarded, Random, Second, Sizes, damage, model, model_of, move_outside, near_a_bound,
+    trial_of, value,
+};
 use lent::{LOG_SIZES, Session};
-use second::BLANK;
+use second::{BLANK, HIGHEST, LOWEST};
 
 /// Where the random numbers start.
 const SEED: u64 = 20_261_115;
 
 /// The files, and the sessions of each; then files of one long session each, and its turns.
-const FILES: usize = 20;
-const SESSIONS: u32 = 15;
-const LONG_FILES: usize = 3;
+const FILES: usize = 26;
+const SESSIONS: u32 = 13;
+const LONG_FILES: usize = 4;
 const TURNS: usize = 230;
 
-/// The least calls of a long session that leave another number of blanks.
+/// The least calls of a long session that leave another number of blanks, and the least variables of a narrow one whose
+/// bounds are not full.
 const RECOUNTED: usize = 40;
+const NARROW: usize = 3;
 
 /// The longest file that is replayed.
-const LONGEST: usize = 12_288;
+const LONGEST: usize = 16_384;
 
 /// The rows and variables, the entries, and the pairs or asked variables that the program's buffers have room for.
 const ROWS: usize = 16;
@@ -69,8 +76,11 @@ fn main() -> io::Result<()> {
         let sessions = if file > FILES { 1 } else { SESSIONS };
         let mut data = sessions.to_le_bytes().to_vec();
         for _ in 0..sessions {
-            let recorded =
-                if file > FILES { Recording::of_long_session(&mut random) } else { Recording::of_session(&mut random) };
+            let recorded = if file > FILES {
+                Recording::of_long_session(&mut random, file % 2 == 0)
+            } else {
+                Recording::of_session(&mut random)
+            };
             data.extend(recorded.data());
             lines += &recorded.lines;
         }
@@ -87,6 +97,7 @@ fn main() -> io::Result<()> {
 /// A session as far as it is recorded.
 #[derive(Default)]
 struct Recording {
+    bounds: Vec<u8>,
     file: Vec<u8>,
     calls: Vec<u8>,
     lines: String,
@@ -97,27 +108,35 @@ impl Recording {
     /// The session of a random model: a read, a build, and calls one after another.
     fn of_session(random: &mut Random) -> Recording {
         let file = reading(random);
-        let mut session = Recording { file: file.bytes.to_vec(), ..Recording::default() };
+        let mut session = Recording::of_file(&file);
         if let Some(mut model) = session.read_and_build(file) {
-            for _ in 0..1 + random.below(9) {
+            for _ in 0..2 + random.below(11) {
                 session.turn(random, &mut model);
             }
         }
         session
     }
 
+    /// A session without calls.
+    fn of_file(file: &Case) -> Recording {
+        let bounds = file.lows.iter().chain(&*file.highs).flat_map(|bound| bound.to_le_bytes()).collect();
+        Recording { bounds, file: file.bytes.to_vec(), ..Recording::default() }
+    }
+
     /// A session of so many keeps that the log is full, then takings back among them, until none is left; over it blanks come
-    /// and go.
-    fn of_long_session(random: &mut Random) -> Recording {
+    /// and go. Its bounds are narrow or full.
+    fn of_long_session(random: &mut Random, narrow: bool) -> Recording {
         loop {
-            let session = Recording::of_keeps_and_takings_back(random);
-            if session.recounted >= RECOUNTED {
+            let (session, bounded) = Recording::of_keeps_and_takings_back(random);
+            let asked = if narrow { bounded >= NARROW } else { bounded == 0 };
+            if session.recounted >= RECOUNTED && asked {
                 return session;
             }
         }
     }
 
-    fn of_keeps_and_takings_back(random: &mut Random) -> Recording {
+    /// Such a session, with the number of variables whose bounds are not full.
+    fn of_keeps_and_takings_back(random: &mut Random) -> (Recording, usize) {
         let sizes = Sizes { variables: 12, entries: 48, inputs: 5 };
         let mut session = Recording::default();
         let mut model = None;
@@ -125,7 +144,7 @@ impl Recording {
             let drawn = model_of(random, 12, sizes);
             let length = length_of(&drawn);
             let file = into_program(written(drawn, length));
-            session = Recording { file: file.bytes.to_vec(), ..Recording::default() };
+            session = Recording::of_file(&file);
             model = session.read_and_build(file);
         }
         let mut model = model.unwrap_or_default();
@@ -134,13 +153,14 @@ impl Recording {
             let name = if back { Call::TakeBack } else { Call::Keep };
             session.call(random, &mut model, name, false);
         }
-        session
+        let bounded = (0..model.n).filter(|&variable| model.bounds(variable) != (LOWEST, HIGHEST)).count();
+        (session, bounded)
     }
 
     /// The bytes of the session.
     fn data(&self) -> Vec<u8> {
         let counts = [self.file.len(), self.calls.len() / CALL].map(|count| (count as u32).to_le_bytes());
-        [&counts.concat()[..], &self.file, &self.calls].concat()
+        [&counts.concat()[..], &self.bounds, &self.file, &self.calls].concat()
     }
 
     /// Reads and builds; gives the model if both are accepted.
@@ -172,8 +192,8 @@ impl Recording {
             if change.row == STORED && !random.once_in(4) {
                 self.count_blanks(model);
             }
-            self.any_call(random, model, change.row >= SIZES);
-            if change.row != STORED || random.once_in(2) {
+            self.any_call(random, model, (SIZES..=VALUES).contains(&change.row));
+            if change.row != STORED || !random.once_in(4) {
                 let back = Change { field: before, ..change };
                 back.put(model);
                 self.change(back);
@@ -269,8 +289,10 @@ fn written(model: Case, length: usize) -> Case {
     Case { call: Call::Read, ..case }
 }
 
-/// A read into tables as long as the program's.
+/// A read into tables as long as the program's, with as many bounds.
 fn into_program(mut case: Case) -> Case {
+    case.lows.edit(|lows| lows.resize(ROWS, LOWEST));
+    case.highs.edit(|highs| highs.resize(ROWS, HIGHEST));
     for table in [&mut case.kinds, &mut case.makes, &mut case.firsts, &mut case.counts] {
         *table = vec![0; ROWS].into();
     }
@@ -294,7 +316,8 @@ fn cut(mut case: Case) -> Case {
 /// Makes the move, the asked list, the route or a count wrong, or only other than it was.
 fn spoil(random: &mut Random, case: &mut Case) {
     let place = random.below(case.pairs);
-    match random.below(6) {
+    match random.below(10) {
+        6..=9 => move_outside(random, case),
         0 => case.move_vars.put(place, random.below(2 * case.n) as u16),
         1 => case.move_vars.put(place, case.move_vars[0]),
         2 => case.move_values.put(place, BLANK),
@@ -321,12 +344,14 @@ fn bytes_of(case: &Case) -> Vec<u8> {
     bytes
 }
 
-/// The numbers of the record, of the stored values and of the log's rows among the rows that a change names.
+/// The numbers of the record, of the stored values, of the log's rows and of the bounds among the rows that a change names.
 const RECORD: u32 = 0;
 const STORED: u32 = 10;
 const SIZES: u32 = 13;
 const VARS: u32 = 14;
 const VALUES: u32 = 15;
+const LOWS: u32 = 16;
+const HIGHS: u32 = 17;
 
 /// A change of one field.
 #[derive(Clone, Copy)]
@@ -339,20 +364,33 @@ struct Change {
 impl Change {
     /// A change that may be refused, or may be one model for another.
     fn random(random: &mut Random, model: &Case) -> Change {
-        let log = [SIZES, SIZES, VARS, VALUES];
-        let row = random
-            .pick(&[RECORD, RECORD, RECORD, 1, 1, 2, 2, 3, 4, 5, 6, 7, 8, 9, STORED, STORED, STORED, 11, 11, 12, 12]);
-        let row = if random.once_in(4) { random.pick(&log) } else { row };
+        if random.once_in(6)
+            && let Some(change) = Change::outside(random, model)
+        {
+            return change;
+        }
+        let log = [SIZES, SIZES, VARS, VALUES, VALUES];
+        let row = random.pick(&[
+            RECORD, RECORD, RECORD, 1, 1, 2, 2, 3, 4, 5, 6, 7, 8, 9, STORED, STORED, STORED, STORED, STORED, 11, 11,
+            12, 12,
+        ]);
+        let row = match random.below(8) {
+            0 => random.pick(&[LOWS, HIGHS]),
+            1 | 2 => random.pick(&log),
+            _ => row,
+        };
         let place = match row {
             RECORD => usize::from(!random.once_in(3)),
             6 | 7 | 12 => random.below(model.e),
-            8 | STORED => random.below(model.n),
+            8 | STORED | LOWS | HIGHS => random.below(model.n),
             11 => random.below(model.n + 1),
             SIZES => random.below(model.logged() + 1),
-            VARS | VALUES => 64 * random.below(model.logged()) + random.below(2),
+            VARS | VALUES => 64 * random.below(model.logged()) + usize::from(random.once_in(4)),
             _ => random.below(model.m),
         };
         let (variable, blanks) = (random.below(model.n + 1) as u32, model.session.blanks);
+        let bounded = if row == VALUES { usize::from(model.log_vars[place]) } else { place };
+        let near = near_a_bound(random, model, bounded) as u32;
         let field = match row {
             RECORD if place == 0 => random.pick(&[0, u32::MAX - 1, u32::MAX]),
             RECORD => random.pick(&[blanks + 1, blanks + 1, blanks.wrapping_sub(1), 0, u32::MAX]),
@@ -360,13 +398,29 @@ impl Change {
             2 if random.once_in(2) => model.makes[random.below(model.m)].into(),
             3 => random.pick(&[0, 1, 1_000_000_000, 1_000_000_001, (-1_000_000_001_i32) as u32]),
             7 => random.pick(&[1, 2, 1000, 1001, 0xFFFF, 0xFC17]),
+            LOWS | HIGHS => random.pick(&[near, near, BLANK as u32, LOWEST as u32, HIGHEST as u32, 0]),
             STORED | VALUES if random.once_in(2) => BLANK as u32,
+            STORED | VALUES if random.once_in(2) => near,
             VALUES => value(random) as u32,
             SIZES => random.pick(&[0, 1, 2, 3, 64, 65, 65535]),
             STORED => value(random) as u32,
             _ => variable,
         };
         Change { row, place: place as u32, field }
+    }
+
+    /// A stored or a logged value of a search variable one beyond a bound, if some variable has such a value.
+    fn outside(random: &mut Random, model: &Case) -> Option<Change> {
+        let stored = (0..model.n).filter(|&variable| model.numbers[variable] == 0).map(|place| (STORED, place, place));
+        let held = (0..model.logged()).filter(|kept| model.log_sizes[kept + 1] > 0).map(|kept| 64 * kept);
+        let logged = held.map(|place| (VALUES, place, usize::from(model.log_vars[place])));
+        let beyond = |(row, place, variable): (u32, usize, usize)| {
+            let (low, high) = model.bounds(variable);
+            let values = [low.checked_sub(1).filter(|&value| value != BLANK), high.checked_add(1)];
+            values.into_iter().flatten().map(move |value| Change { row, place: place as u32, field: value as u32 })
+        };
+        let changes: Vec<Change> = stored.chain(logged).flat_map(beyond).collect();
+        changes.get(random.below(changes.len())).copied()
     }
 
     /// Makes the change, and gives the field that was there.
@@ -389,6 +443,8 @@ impl Change {
             SIZES => put16(&mut model.log_sizes, place, field),
             VARS => put16(&mut model.log_vars, place, field),
             VALUES => put32(&mut model.log_values, place, field),
+            LOWS => put32(&mut model.lows, place, field),
+            HIGHS => put32(&mut model.highs, place, field),
             _ => put16(&mut model.reader_places, place, field),
         }
     }

@@ -71,13 +71,13 @@ fn verdict(case: &Case) -> Option<Refused> {
     }
     first([check_2(case), check_3(case)]).or_else(|| {
         let model = Model::of(case);
-        let mut checks = vec![check_4(&model), check_5(&model)];
+        let mut checks = vec![check_4(&model), model.check_4_of_bounds(case), check_5(&model)];
         match case.call {
             Call::Build => checks.extend([model.check_6(), model.check_7(case)]),
             Call::Trial => {
                 checks.extend([model.check_8(case), check_19(case), model.check_7(case)]);
                 checks.push(fixed(9, [1, 2, 3].contains(&case.route)));
-                checks.extend(model.checks_10_to_12(&Moved::of(case)));
+                checks.extend(model.checks_of_a_move(case, &Moved::of(case)));
                 checks.push(places(13, case.asked, |place| usize::from(case.asked_vars[place]) >= case.n));
             }
             Call::TakeBack => {
@@ -86,7 +86,7 @@ fn verdict(case: &Case) -> Option<Refused> {
             }
             _ => {
                 checks.extend([model.check_8(case), check_19(case), model.check_7(case)]);
-                checks.extend(model.checks_10_to_12(&Moved::of(case)));
+                checks.extend(model.checks_of_a_move(case, &Moved::of(case)));
                 checks.push(model.check_16(case));
             }
         }
@@ -98,6 +98,7 @@ fn verdict(case: &Case) -> Option<Refused> {
 fn check_1(case: &Case) -> bool {
     let Case { n, m, e, pairs, asked, .. } = *case;
     let counts = (1..=4096).contains(&n) && m <= n && e <= 16384;
+    let bounds = case.lows.len() >= n && case.highs.len() >= n;
     let tables = counts
         && case.kinds.len() >= m
         && case.makes.len() >= m
@@ -107,7 +108,7 @@ fn check_1(case: &Case) -> bool {
         && case.vars.len() >= e
         && case.coefs.len() >= e;
     let index = case.reader_starts.len() > n && case.reader_places.len() >= e;
-    let state = case.numbers.len() >= n && case.order.len() >= m && case.stored.len() >= n && index;
+    let state = case.numbers.len() >= n && case.order.len() >= m && case.stored.len() >= n && index && bounds;
     let moved = pairs <= 64 && case.move_vars.len() >= pairs && case.move_values.len() >= pairs;
     let changes = tables && state && case.flags.len() >= n;
     let sizes = case.log_sizes.len() >= 65;
@@ -160,6 +161,11 @@ fn check_4(model: &Model) -> Check {
 
 fn check_5(model: &Model) -> Check {
     places(5, model.rows.len(), |row| model.rows[..row].iter().any(|earlier| earlier.makes == model.rows[row].makes))
+}
+
+/// Whether a number lies below the lowest or above the highest allowed one of a variable; no variable beyond n has bounds.
+fn is_outside(case: &Case, variable: usize, value: i32) -> bool {
+    variable < case.n && (value < case.lows[variable] || case.highs[variable] < value)
 }
 
 /// How many variables have a blank stored value.
@@ -215,11 +221,22 @@ impl Model {
         places(6, self.n, |variable| self.number(variable, self.n).is_none())
     }
 
+    fn check_4_of_bounds(&self, case: &Case) -> Check {
+        let in_range = |exact: i128| (-2_147_483_647..=2_147_483_647).contains(&exact);
+        places(4, self.n, |variable| {
+            let (low, high) = (i128::from(case.lows[variable]), i128::from(case.highs[variable]));
+            match self.maker(variable) {
+                Some(_) => (low, high) != (-2_147_483_647, 2_147_483_647),
+                None => !in_range(low) || !in_range(high) || low > high,
+            }
+        })
+    }
+
     fn check_7(&self, case: &Case) -> Check {
         places(7, self.n, |variable| match (case.call, self.maker(variable)) {
-            (Call::Build, None) => case.starts[variable] == BLANK,
+            (Call::Build, None) => case.starts[variable] == BLANK || is_outside(case, variable, case.starts[variable]),
             (Call::Build, Some(_)) => case.starts[variable] != 0,
-            (_, None) => case.stored[variable] == BLANK,
+            (_, None) => case.stored[variable] == BLANK || is_outside(case, variable, case.stored[variable]),
             (_, Some(_)) => false,
         })
     }
@@ -244,21 +261,23 @@ impl Model {
         ((0..=self.n).map(|end| below(end).len() as u16).collect(), below(self.n))
     }
 
-    fn checks_10_to_12(&self, moved: &Moved) -> [Check; 3] {
+    /// Checks 10 to 12, and 17.
+    fn checks_of_a_move(&self, case: &Case, moved: &Moved) -> [Check; 4] {
         let variable = |pair: usize| moved.pairs[pair].0;
         let pairs = moved.pairs.len();
         [
             places(10, pairs, |pair| variable(pair) >= self.n || self.maker(variable(pair)).is_some()),
             places(11, pairs, |pair| (0..pair).any(|earlier| variable(earlier) == variable(pair))),
             places(12, pairs, |pair| moved.pairs[pair].1 == BLANK),
+            places(17, pairs, |pair| is_outside(case, variable(pair), moved.pairs[pair].1)),
         ]
     }
 
     /// A log holds at most 64 moves and no more than were kept, and each is at most 64 pairs that a move may have.
     fn check_16(&self, case: &Case) -> Check {
         let moves = usize::from(case.log_sizes[0]);
-        let good =
-            |k: usize| case.log_sizes[k + 1] <= 64 && first(self.checks_10_to_12(&Moved::back(case, k))).is_none();
+        let fit = |k: usize| first(self.checks_of_a_move(case, &Moved::back(case, k))).is_none();
+        let good = |k: usize| case.log_sizes[k + 1] <= 64 && fit(k);
         fixed(16, moves <= 64 && moves <= case.session.kept as usize && (0..moves).all(good))
     }
 }

@@ -1,10 +1,10 @@
 -- Build of the model of one window leaves DEPARTURES in variable 3 (`departures-stored`). Assumes nothing.
-use mathlib.Core.Path.{ap, _∙_}
-use lib.IntN.{pos}
+use mathlib.Core.Path.{ap, subst⁻¹, _∙_}
+use lib.IntN.{ℤ, pos}
 use lib.ListN.{getD}
 use borrow.Author.Needs.{needs, sfits-of}
 use mir.Syntax.{w32}
-use mir.Val.{toZ, ofZ}
+use mir.Val.{SFits, toZ, ofZ}
 use mir.Facts.{toZ-ofZ}
 use Rattle.paper.specs.Calls.{BuildLeft}
 use Rattle.boards.proofs.Window.{departures-stored}
@@ -56,11 +56,15 @@ build-new-requires c κs = search needs
 array-copy-out-result : tie.Need-array-copy-out-result
 array-copy-out-result c = search needs
 
+-- a number that was carried as its bits
+again : {z : ℤ} → SFits w32 z → SFits w32 (toZ w32 (ofZ w32 z))
+again f = subst⁻¹ (SFits w32) (toZ-ofZ f) f
+
 returns : tie.Need-returns
 returns c =
     let s = c .before .before .before .before .before .before .before .before .before .before .before .before .before .before .before .before .before .before .before .before in
     toZ-ofZ (sfits-of (c .result .given)) ∙ ap (λ (x : BuildLeft). getD (x .stored) 3 (pos 0)) (c .before .before .before .before .before .before .build-new .ensures)
-    ∙ departures-stored (toZ w32 (ofZ w32 (s .args .start))) (toZ w32 (ofZ w32 (s .args .end))) (toZ w32 (ofZ w32 (s .args .headway)))
+    ∙ departures-stored (toZ w32 (ofZ w32 (s .args .start))) (toZ w32 (ofZ w32 (s .args .end))) (toZ w32 (ofZ w32 (s .args .headway))) (again (s .fits .start)) (again (s .fits .end)) (again (s .fits .headway))
     ∙ simp (toZ-ofZ (s .fits .start), toZ-ofZ (s .fits .end), toZ-ofZ (s .fits .headway))
 
 pub departures-of-spec : {M : Type 1} → statement M

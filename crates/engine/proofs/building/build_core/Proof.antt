@@ -22,7 +22,7 @@ use Rattle.engine.proofs.building.build_core.Tie as tie
 abbrev lent : tie.Start → BuildLent
 lent s =
     let a = s .args in
-    toBuild (recordIn (a .session)) (a .n) (a .m) (a .e) (a .kinds .now) (a .makes .now) (a .params .now) (a .firsts .now) (a .counts .now) (a .vars .now) (a .coefs .now) (a .starts .now) (a .numbers .now) (a .order .now) (a .stored .now) (a .reader-starts .now) (a .reader-places .now) (a .log-sizes .now)
+    toBuild (recordIn (a .session)) (a .n) (a .m) (a .e) (a .kinds .now) (a .makes .now) (a .params .now) (a .firsts .now) (a .counts .now) (a .vars .now) (a .coefs .now) (a .lows .now) (a .highs .now) (a .starts .now) (a .numbers .now) (a .order .now) (a .stored .now) (a .reader-starts .now) (a .reader-places .now) (a .log-sizes .now)
 
 abbrev start : tie.After-enum-told → tie.Start
 start c = c .before .before .before .before .before .before .before .before .before .before .before .before .before .before .before .before .before .before .before .before
@@ -69,9 +69,20 @@ returns c =
 
 fill-model-requires : tie.Need-fill-model-requires
 fill-model-requires c κs =
-    let said = c .before .before .before .before .before .before .before .enum-told .given in let judged = c .before .before .before .before .before .before .before .before .before .judge-build .ensures in
-    let v = accepted-is 0 (said .0 .0) _ (sym (judged .verdict) ∙ said .1) in
-    record { verdict = v; numbered = judged .numbered v }
+    let e = c .before .before .before .before .before .before .before in let l = lent (start e) in let said = e .enum-told .given in let judged = e .before .before .judge-build .ensures in
+    let k = build-known l (passed e) in let fit = fitting l (k .fits) in
+    record {
+      sound = k .sound;
+      chains = k .chains;
+      in-starts = fit .starts;
+      in-numbers = fit .numbers;
+      in-order = fit .order;
+      in-stored = fit .stored;
+      index-starts = fit .index-starts;
+      index-places = fit .index-places;
+      in-log = fit .log;
+      numbered = judged .numbered (accepted-is 0 (said .0 .0) _ (sym (judged .verdict) ∙ said .1));
+    }
 
 cast-evaluations : tie.Need-cast-evaluations
 cast-evaluations c = let z = few (c .before .before .before .before .before .before .before .before .before .before .before .before .before .before .before .before .before .before .before) in omega (arith, z .m-most, z .n-most)

@@ -26,6 +26,12 @@ left l x new e =
 slice-aggregate-build-core : tie.Need-slice-aggregate-build-core
 slice-aggregate-build-core c = search needs
 
+slice-aggregate-build-core-2 : tie.Need-slice-aggregate-build-core-2
+slice-aggregate-build-core-2 c = search needs
+
+slice-aggregate-build-core-3 : tie.Need-slice-aggregate-build-core-3
+slice-aggregate-build-core-3 c = search needs
+
 build-core-requires : tie.Need-build-core-requires
 build-core-requires c κs = search needs
 
@@ -52,6 +58,8 @@ build-new-spec =
     tie.close
     (tie.spec
     slice-aggregate-build-core
+    slice-aggregate-build-core-2
+    slice-aggregate-build-core-3
     build-core-requires
     same-length
     same-length-2

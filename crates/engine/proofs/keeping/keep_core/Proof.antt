@@ -21,7 +21,7 @@ abbrev log : tie.Start → Log
 log s = let a = s .args in logIn (a .log-sizes .now) (a .log-vars .now) (a .log-values .now)
 
 abbrev model : tie.Start → Model
-model s = let a = s .args in toModel (a .n) (a .m) (a .e) (a .kinds .now) (a .makes .now) (a .params .now) (a .firsts .now) (a .counts .now) (a .vars .now) (a .coefs .now) (a .numbers .now) (a .order .now) (a .stored .now) (a .reader-starts .now) (a .reader-places .now)
+model s = let a = s .args in toModel (a .n) (a .m) (a .e) (a .kinds .now) (a .makes .now) (a .params .now) (a .firsts .now) (a .counts .now) (a .vars .now) (a .coefs .now) (a .lows .now) (a .highs .now) (a .numbers .now) (a .order .now) (a .stored .now) (a .reader-starts .now) (a .reader-places .now)
 
 abbrev keeping : tie.Start → Kept
 keeping s = let a = s .args in toKeep (a .pairs) (a .move-vars .now) (a .move-values .now) (a .flags .now)

@@ -13,7 +13,7 @@ abbrev session : tie.Start → Session
 session s = recordIn (s .args .session)
 
 abbrev model : tie.Start → Model
-model s = let a = s .args in toModel (a .n) (a .m) (a .e) (a .kinds .now) (a .makes .now) (a .params .now) (a .firsts .now) (a .counts .now) (a .vars .now) (a .coefs .now) (a .numbers .now) (a .order .now) (a .stored .now) (a .reader-starts .now) (a .reader-places .now)
+model s = let a = s .args in toModel (a .n) (a .m) (a .e) (a .kinds .now) (a .makes .now) (a .params .now) (a .firsts .now) (a .counts .now) (a .vars .now) (a .coefs .now) (a .lows .now) (a .highs .now) (a .numbers .now) (a .order .now) (a .stored .now) (a .reader-starts .now) (a .reader-places .now)
 
 abbrev batch : tie.Start → Batch
 batch s = let a = s .args in batchOf (a .moves) (a .move-pairs .now) (a .move-vars .now) (a .move-values .now)

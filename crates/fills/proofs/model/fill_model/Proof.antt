@@ -1,11 +1,12 @@
 -- The numbers, the order and the index first, then the start values, and over them every row along that order; the log's first size becomes 0. Assumes nothing.
 use native.Mathlib.Omega.{arith}
+use mathlib.Core.List.{[]}
 use mathlib.Core.Path.{refl}
 use Rattle.paper.specs.Calls.{BuildLent}
 use Rattle.order.proofs.Bare.{formed-of}
 use Rattle.judges.specs.Lent.{noRecord, toBuild}
 use Rattle.readers.proofs.Known.{entries-laid}
-use Rattle.fills.proofs.Built.{known, room, numbers-left, order-left, along, stored-long, stored-left}
+use Rattle.fills.proofs.Built.{numbers-left, order-left, along, stored-long, stored-left}
 use borrow.Author.Needs.{needs}
 use Rattle.fills.proofs.model.fill_model.Statement.{statement}
 use Rattle.fills.proofs.model.fill_model.Tie as tie
@@ -13,21 +14,21 @@ use Rattle.fills.proofs.model.fill_model.Tie as tie
 abbrev lent : tie.Start → BuildLent
 lent s =
     let a = s .args in
-    toBuild noRecord (a .n) (a .m) (a .e) (a .kinds .now) (a .makes .now) (a .params .now) (a .firsts .now) (a .counts .now) (a .vars .now) (a .coefs .now) (a .starts .now) (a .numbers .now) (a .order .now) (a .stored .now) (a .reader-starts .now) (a .reader-places .now) (a .log-sizes .now)
+    toBuild noRecord (a .n) (a .m) (a .e) (a .kinds .now) (a .makes .now) (a .params .now) (a .firsts .now) (a .counts .now) (a .vars .now) (a .coefs .now) [] [] (a .starts .now) (a .numbers .now) (a .order .now) (a .stored .now) (a .reader-starts .now) (a .reader-places .now) (a .log-sizes .now)
 
 write-numbers-requires : tie.Need-write-numbers-requires
-write-numbers-requires c κs = let s = c .before .before .before .before .before .before .before .before .before .before .before in (s .pre .numbered, room (lent s) _ (s .pre) .numbers)
+write-numbers-requires c κs = let s = c .before .before .before .before .before .before .before .before .before .before .before in (s .pre .numbered, s .pre .in-numbers)
 
 write-order-requires : tie.Need-write-order-requires
-write-order-requires c κs = let s = c .before .before .before .before .before .before .before .before .before .before .before .before .before .before .before in let l = lent s in (formed-of (l .tables) (known l _ (s .pre) .sound), (s .pre .numbered, room l _ (s .pre) .order))
+write-order-requires c κs = let s = c .before .before .before .before .before .before .before .before .before .before .before .before .before .before .before in let l = lent s in (formed-of (l .tables) (s .pre .sound), (s .pre .numbered, s .pre .in-order))
 
 write-readers-requires : tie.Need-write-readers-requires
 write-readers-requires c κs =
-    let s = c .before .before .before .before .before .before .before .before .before .before .before .before .before .before .before .before .before .before .before .before in let l = lent s in let r = room l _ (s .pre) in
-    (entries-laid (l .tables) (known l _ (s .pre) .sound), (r .index-starts, r .index-places))
+    let s = c .before .before .before .before .before .before .before .before .before .before .before .before .before .before .before .before .before .before .before .before in let l = lent s in let r = s .pre in
+    (entries-laid (l .tables) (s .pre .sound), (r .index-starts, r .index-places))
 
 copy-values-requires : tie.Need-copy-values-requires
-copy-values-requires c κs = let s = c .before .before .before .before .before .before .before .before .before .before .before .before .before .before .before .before .before .before .before .before .before .before .before .before .before .before in let r = room (lent s) _ (s .pre) in (r .starts, r .stored)
+copy-values-requires c κs = let s = c .before .before .before .before .before .before .before .before .before .before .before .before .before .before .before .before .before .before .before .before .before .before .before .before .before .before in let r = s .pre in (r .in-starts, r .in-stored)
 
 work-out-requires : tie.Need-work-out-requires
 work-out-requires c κs =
@@ -35,7 +36,7 @@ work-out-requires c κs =
     (along l _ (s .pre) _ (c .before .before .before .before .before .before .before .before .before .before .before .before .before .before .write-order .ensures), stored-long l _ (s .pre) _ (c .before .before .before .copy-values .ensures))
 
 slice-write-log-sizes : tie.Need-slice-write-log-sizes
-slice-write-log-sizes c = let s = c .before .before .before .before .before .before .before .before .before .before .before .before .before .before .before .before .before .before .before .before .before .before .before .before .before .before .before .before .before .before .before .before in let long = room (lent s) _ (s .pre) .log in omega arith
+slice-write-log-sizes c = let s = c .before .before .before .before .before .before .before .before .before .before .before .before .before .before .before .before .before .before .before .before .before .before .before .before .before .before .before .before .before .before .before .before in let long = s .pre .in-log in omega arith
 
 same-length : tie.Need-same-length
 same-length c = search needs

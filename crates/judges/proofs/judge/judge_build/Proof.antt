@@ -11,8 +11,10 @@ use Rattle.paper.specs.Checks.{accepted, tableChecks, Sound}
 use Rattle.paper.specs.Calls.{BuildLent, buildFits}
 use Rattle.paper.proofs.Verdicts.{Past}
 use Rattle.tables.specs.Answers.{answerOf}
-use Rattle.tables.proofs.Judged.{accepted-is, refused-is, judged-sound}
-use Rattle.tables.proofs.Made.{makers-filled, sound-makes}
+use Rattle.tables.specs.Makers.{Makers}
+use Rattle.tables.proofs.Judged.{accepted-is, refused-is}
+use Rattle.paper.proofs.Sizes.{sized-of}
+use Rattle.paper.proofs.Accept.{tables-passed}
 use Rattle.order.proofs.Bare.{formed-of, makers-bare, ends-bare}
 use Rattle.judges.specs.Lent.{noRecord, toBuild}
 use Rattle.judges.proofs.Judging.{judged-refused, fitting, stops-1, stops-tables, stops-6, stops-7, passes}
@@ -22,7 +24,7 @@ use Rattle.judges.proofs.judge.judge_build.Tie as tie
 abbrev asked : tie.Start → BuildLent
 asked s =
     let a = s .args in
-    toBuild noRecord (a .n) (a .m) (a .e) (a .kinds .now) (a .makes .now) (a .params .now) (a .firsts .now) (a .counts .now) (a .vars .now) (a .coefs .now) (a .starts .now) (a .numbers .now) (a .order .now) (a .stored .now) (a .reader-starts .now) (a .reader-places .now) (a .log-sizes .now)
+    toBuild noRecord (a .n) (a .m) (a .e) (a .kinds .now) (a .makes .now) (a .params .now) (a .firsts .now) (a .counts .now) (a .vars .now) (a .coefs .now) (a .lows .now) (a .highs .now) (a .starts .now) (a .numbers .now) (a .order .now) (a .stored .now) (a .reader-starts .now) (a .reader-places .now) (a .log-sizes .now)
 
 build-fits-requires : tie.Need-build-fits-requires
 build-fits-requires c κs = search needs
@@ -42,8 +44,11 @@ l₁ c = asked (c .before .before .before .before .before .before .before .befor
 fits : (c : tie.Else1) → buildFits (l₁ c) ≡ true
 fits c = sym (c .before .build-fits .ensures) ∙ not-false _ (c .if1 .left)
 
+slice-aggregate-table-checks : tie.Need-slice-aggregate-table-checks
+slice-aggregate-table-checks c = search needs
+
 table-checks-requires : tie.Need-table-checks-requires
-table-checks-requires c κs = fitting (l₁ c) (fits c) .held
+table-checks-requires c κs = let fit = fitting (l₁ (c .before)) (fits (c .before)) in let n = fit .held .n-most in (fit .held, (fit .lows, fit .highs, omega arith))
 
 enum-told : tie.Need-enum-told
 enum-told c = search needs
@@ -53,74 +58,63 @@ enum-told-2 c = search needs
 
 returns-2 : tie.Need-returns-2
 returns-2 c =
-    let e = c .before .before .before in let l = l₁ e in let said = c .enum-told2 .given in let judged = c .before .before .table-checks .ensures in
-    judged-refused l _ _ (said .0 .0) (said .0 .1 .0) (said .1) (stops-tables l (fits e) _ _ (refused-is 0 _ _ (tableChecks (l .tables) accepted) (sym judged ∙ said .1)))
+    let e = c .before .before .before .before .before in let l = l₁ e in let said = c .enum-told2 .given in let judged = c .before .before .before .table-checks .ensures .verdict in
+    judged-refused l _ _ (said .0 .0) (said .0 .1 .0) (said .1) (stops-tables l (fits e) _ _ (refused-is 0 _ _ (tableChecks (l .tables) (l .bounds) accepted) (sym judged ∙ said .1)))
 
 -- ── past check 5 ──
 abbrev l₅ : tie.After-enum-told → BuildLent
-l₅ c = l₁ (c .before .before .before)
+l₅ c = l₁ (c .before .before .before .before .before)
+
+-- the verdict of checks 2 to 5, and what it leaves
+passed : (c : tie.After-enum-told) → let l = l₅ c in tableChecks (l .tables) (l .bounds) accepted ≡ accepted
+passed c = let said = c .enum-told .given in accepted-is 0 (said .0 .0) _ (sym (c .before .before .before .table-checks .ensures .verdict) ∙ said .1)
 
 sound : (c : tie.After-enum-told) → Sound (l₅ c .tables)
-sound c =
-    let l = l₅ c in let said = c .enum-told .given in
-    judged-sound (l .tables) _ (said .0 .0) (fitting l (fits (c .before .before .before)) .held) (c .before .before .table-checks .ensures) (said .1)
-
-slice-aggregate-makers : tie.Need-slice-aggregate-makers
-slice-aggregate-makers c = search needs
-
-makers-requires : tie.Need-makers-requires
-makers-requires c κs =
-    let e = c .before in let l = l₅ e in let z = fitting l (fits (e .before .before .before)) .held in
-    let n = z .n-most in let m = z .m-most in
-    ((z .makes, omega arith, omega arith), sound-makes (l .tables) (sound e))
+sound c = let l = l₅ c in tables-passed (l .tables) (l .bounds) (sized-of (l .tables) (fitting l (fits (c .before .before .before .before .before)) .held)) accepted (passed c) .0
 
 slice-aggregate-find-numbers : tie.Need-slice-aggregate-find-numbers
 slice-aggregate-find-numbers c = search needs
 
 find-numbers-requires : tie.Need-find-numbers-requires
 find-numbers-requires c κs =
-    let e = c .before .before .before .before .before in let l = l₅ e in let t = l .tables in let n = fitting l (fits (e .before .before .before)) .held .n-most in
-    let clean = c .before .before .before .before .before .before .before .before .before .before .before .before .before .before .before .before .before .before .before .before .pre in
-    (formed-of t (sound e), (makers-bare t _ (makers-filled t _ _ (omega arith) (c .before .before .before .makers .ensures)), record { long = omega (arith, clean .long); at = clean .at }))
+    let e = c .before .before in let l = l₅ e in let t = l .tables in let n = fitting l (fits (e .before .before .before .before .before)) .held .n-most in
+    let clean = c .before .before .before .before .before .before .before .before .before .before .before .before .before .before .before .before .before .before .before .pre in
+    (formed-of t (sound e), (makers-bare t _ (e .before .before .before .table-checks .ensures .makers (passed e)), record { long = omega (arith, clean .long); at = clean .at }))
 
 refused-requires-2 : tie.Need-refused-requires-2
-refused-requires-2 c κs =
-    let n = fitting (l₅ (c .before .before .before .before .before .before .before)) (fits (c .before .before .before .before .before .before .before .before .before .before)) .held .n-most in omega arith
+refused-requires-2 c κs = let n = fitting (l₅ (c .before .before .before .before)) (fits (c .before .before .before .before .before .before .before .before .before)) .held .n-most in omega arith
 
 returns-3 : tie.Need-returns-3
 returns-3 c =
-    let e = c .before .before .before .before .before .before .before .before in let l = l₅ e in let t = l .tables in
-    judged-refused l _ _ 6 _ (c .refused2 .ensures) (stops-6 l (fits (e .before .before .before)) (sound e) _ (c .before .before .find-numbers .ensures .least ∙ ap (λ f. firstFail f (t .n)) (ends-bare t)) (c .before .if2 .taken))
+    let e = c .before .before .before .before .before in let l = l₅ e in let t = l .tables in
+    judged-refused l _ _ 6 _ (c .refused2 .ensures) (stops-6 l (fits (e .before .before .before .before .before)) (passed e) _ (c .before .before .find-numbers .ensures .least ∙ ap (λ f. firstFail f (t .n)) (ends-bare t)) (c .before .if2 .taken))
 
 -- ── past check 6 ──
-past₆ : (c : tie.Else2) → Past (ends (l₅ (c .before .before .before .before .before .before .before) .tables)) (l₅ (c .before .before .before .before .before .before .before) .tables .n) (c .before .find-numbers .result)
-past₆ c = let t = l₅ (c .before .before .before .before .before .before .before) .tables in (c .before .find-numbers .ensures .least ∙ ap (λ f. firstFail f (t .n)) (ends-bare t), c .if2 .left)
+past₆ : (c : tie.Else2) → let t = l₅ (c .before .before .before .before) .tables in Past (ends t) (t .n) (c .before .find-numbers .result)
+past₆ c = let t = l₅ (c .before .before .before .before) .tables in (c .before .find-numbers .ensures .least ∙ ap (λ f. firstFail f (t .n)) (ends-bare t), c .if2 .left)
 
 slice-aggregate-first-bad-value : tie.Need-slice-aggregate-first-bad-value
 slice-aggregate-first-bad-value c = search needs
 
 first-bad-value-requires : tie.Need-first-bad-value-requires
-first-bad-value-requires c κs =
-    let l = l₅ (c .before .before .before .before .before .before .before .before) in let fit = fitting l (fits (c .before .before .before .before .before .before .before .before .before .before .before)) in let n = fit .held .n-most in (omega arith, fit .starts)
+first-bad-value-requires c κs = let l = l₅ (c .before .before .before .before .before) in let fit = fitting l (fits (c .before .before .before .before .before .before .before .before .before .before)) in let n = fit .held .n-most in (omega arith, fit .lows, fit .highs, fit .starts)
 
 refused-requires-3 : tie.Need-refused-requires-3
-refused-requires-3 c κs =
-    let n = fitting (l₅ (c .before .before .before .before .before .before .before .before .before .before)) (fits (c .before .before .before .before .before .before .before .before .before .before .before .before .before)) .held .n-most in omega arith
+refused-requires-3 c κs = let n = fitting (l₅ (c .before .before .before .before .before .before .before)) (fits (c .before .before .before .before .before .before .before .before .before .before .before .before)) .held .n-most in omega arith
 
 returns-4 : tie.Need-returns-4
 returns-4 c =
-    let e = c .before .before .before .before .before .before .before .before .before .before .before in let l = l₅ e in let t = l .tables in let n = fitting l (fits (e .before .before .before)) .held .n-most in
+    let e = c .before .before .before .before .before .before .before .before in let l = l₅ e in let t = l .tables in
     judged-refused l _ _ 7 _ (c .refused3 .ensures)
-    (stops-7 l (fits (e .before .before .before)) (sound e) _ (past₆ (c .before .before .before .before))
-    _ (c .before .before .first-bad-value .ensures .of t refl (makers-filled t _ _ (omega arith) (c .before .before .before .before .before .before .before .before .before .makers .ensures))) (c .before .if3 .taken))
+    (stops-7 l (fits (e .before .before .before .before .before)) (passed e) _ (past₆ (c .before .before .before .before)) _ (c .before .before .first-bad-value .ensures .of t refl (e .before .before .before .table-checks .ensures .makers (passed e))) (c .before .if3 .taken))
 
 returns-5 : tie.Need-returns-5
 returns-5 c =
-    let e = c .before .before .before .before .before .before .before .before .before .before in let l = l₅ e in let t = l .tables in let said = e .enum-told .given in let judged = e .before .before .table-checks .ensures in let n = fitting l (fits (e .before .before .before)) .held .n-most in
+    let e = c .before .before .before .before .before .before .before in let l = l₅ e in let t = l .tables in
     record {
       verdict =
-          judged ∙ ap (answerOf 0) (accepted-is 0 (said .0 .0) (tableChecks t accepted) (sym judged ∙ said .1) ∙ sym (passes l (fits (e .before .before .before)) (sound e) _ (past₆ (c .before .before .before))
-          _ (c .before .first-bad-value .ensures .of t refl (makers-filled t _ _ (omega arith) (c .before .before .before .before .before .before .before .before .makers .ensures)), c .if3 .left)));
+          e .before .before .before .table-checks .ensures .verdict
+          ∙ ap (answerOf 0) (passed e ∙ sym (passes l (fits (e .before .before .before .before .before)) (passed e) _ (past₆ (c .before .before .before)) _ (c .before .first-bad-value .ensures .of t refl (e .before .before .before .table-checks .ensures .makers (passed e)), c .if3 .left)));
       numbered = λ _. c .before .before .before .before .find-numbers .ensures .numbered (c .before .before .before .if2 .left);
     }
 
@@ -131,12 +125,11 @@ judge-build-spec =
     build-fits-requires
     refused-requires
     returns
+    slice-aggregate-table-checks
     table-checks-requires
     enum-told
     enum-told-2
     returns-2
-    slice-aggregate-makers
-    makers-requires
     slice-aggregate-find-numbers
     find-numbers-requires
     refused-requires-2

@@ -5,10 +5,11 @@ use mathlib.Core.Path.{_≡_, sym, _∙_}
 use borrow.Author.Needs.{needs}
 use borrow.Author.Tests.{not-true, not-false}
 use Rattle.paper.specs.Tables.{Tables}
-use Rattle.paper.specs.Checks.{Verdict, accepted, moveChecks}
+use Rattle.paper.specs.Checks.{Verdict, accepted}
 use Rattle.paper.specs.Log.{Log, logIn}
 use Rattle.paper.specs.Calls.{Model, Kept, keepFits, keepVerdict}
 use Rattle.paper.proofs.Lists.{each}
+use Rattle.moves.specs.Moves.{pairChecks}
 use Rattle.judges.specs.Lent.{toModel, toKeep}
 use Rattle.judges.specs.Judged.{logChecks}
 use Rattle.judges.proofs.JudgingMoves.{model-fitting, move-ready, call-stops-1, call-stops, call-next}
@@ -18,7 +19,7 @@ use Rattle.judges.proofs.judge_moves.judge_keep.Tie as tie
 abbrev model : tie.Start → Model
 model s =
     let a = s .args in
-    toModel (a .n) (a .m) (a .e) (a .kinds .now) (a .makes .now) (a .params .now) (a .firsts .now) (a .counts .now) (a .vars .now) (a .coefs .now) (a .numbers .now) (a .order .now) (a .stored .now) (a .reader-starts .now) (a .reader-places .now)
+    toModel (a .n) (a .m) (a .e) (a .kinds .now) (a .makes .now) (a .params .now) (a .firsts .now) (a .counts .now) (a .vars .now) (a .coefs .now) (a .lows .now) (a .highs .now) (a .numbers .now) (a .order .now) (a .stored .now) (a .reader-starts .now) (a .reader-places .now)
 
 abbrev log : tie.Start → Log
 log s = let a = s .args in logIn (a .log-sizes .now) (a .log-vars .now) (a .log-values .now)
@@ -26,9 +27,9 @@ log s = let a = s .args in logIn (a .log-sizes .now) (a .log-vars .now) (a .log-
 abbrev kept : tie.Start → Kept
 kept s = let a = s .args in toKeep (a .pairs) (a .move-vars .now) (a .move-values .now) (a .flags .now)
 
--- checks 10 to 12, and 16
+-- checks 10 to 12, 17 and 16
 abbrev rest : tie.Start → Tables → Verdict
-rest s = λ t. moveChecks (kept s .move) t (logChecks (log s) t (s .args .kept) accepted)
+rest s = λ t. pairChecks (kept s .move) (model s .bounds) t (logChecks (log s) t (model s .bounds) (s .args .kept) accepted)
 
 keep-fits-requires : tie.Need-keep-fits-requires
 keep-fits-requires c κs = search needs

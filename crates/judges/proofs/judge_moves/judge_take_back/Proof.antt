@@ -19,14 +19,14 @@ use Rattle.judges.proofs.judge_moves.judge_take_back.Tie as tie
 abbrev model : tie.Start → Model
 model s =
     let a = s .args in
-    toModel (a .n) (a .m) (a .e) (a .kinds .now) (a .makes .now) (a .params .now) (a .firsts .now) (a .counts .now) (a .vars .now) (a .coefs .now) (a .numbers .now) (a .order .now) (a .stored .now) (a .reader-starts .now) (a .reader-places .now)
+    toModel (a .n) (a .m) (a .e) (a .kinds .now) (a .makes .now) (a .params .now) (a .firsts .now) (a .counts .now) (a .vars .now) (a .coefs .now) (a .lows .now) (a .highs .now) (a .numbers .now) (a .order .now) (a .stored .now) (a .reader-starts .now) (a .reader-places .now)
 
 abbrev log : tie.Start → Log
 log s = let a = s .args in logIn (a .log-sizes .now) (a .log-vars .now) (a .log-values .now)
 
 -- checks 16 and 15
 abbrev rest : tie.Start → Tables → Verdict
-rest s = λ t. logChecks (log s) t (s .args .kept) (require 15 0 (ltb 0 (logged (log s))) accepted)
+rest s = λ t. logChecks (log s) t (model s .bounds) (s .args .kept) (require 15 0 (ltb 0 (logged (log s))) accepted)
 
 take-fits-requires : tie.Need-take-fits-requires
 take-fits-requires c κs = search needs

@@ -17,14 +17,14 @@ use Rattle.judges.proofs.judge_moves.judge_trial.Tie as tie
 abbrev model : tie.Start → Model
 model s =
     let a = s .args in
-    toModel (a .n) (a .m) (a .e) (a .kinds .now) (a .makes .now) (a .params .now) (a .firsts .now) (a .counts .now) (a .vars .now) (a .coefs .now) (a .numbers .now) (a .order .now) (a .stored .now) (a .reader-starts .now) (a .reader-places .now)
+    toModel (a .n) (a .m) (a .e) (a .kinds .now) (a .makes .now) (a .params .now) (a .firsts .now) (a .counts .now) (a .vars .now) (a .coefs .now) (a .lows .now) (a .highs .now) (a .numbers .now) (a .order .now) (a .stored .now) (a .reader-starts .now) (a .reader-places .now)
 
 abbrev tried : tie.Start → Tried
 tried s = let a = s .args in toTry (a .pairs) (a .move-vars .now) (a .move-values .now) (a .asked) (a .asked-vars .now) (a .route) (a .results .now) (a .trial .now) (a .flags .now)
 
 -- checks 9 to 13
 abbrev rest : tie.Start → Tables → Verdict
-rest s = askChecks (tried s)
+rest s = λ t. askChecks (tried s) t (model s .bounds)
 
 trial-fits-requires : tie.Need-trial-fits-requires
 trial-fits-requires c κs = search needs

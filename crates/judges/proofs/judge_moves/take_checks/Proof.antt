@@ -8,7 +8,7 @@ use lib.ListN.{length}
 use borrow.Author.Needs.{needs}
 use borrow.Author.Tests.{not-true, not-false, leb-true, lt-ltb, le-ltb}
 use Rattle.paper.specs.Tables.{Tables}
-use Rattle.paper.specs.Checks.{Verdict, accepted, require}
+use Rattle.paper.specs.Checks.{Verdict, accepted, require, Bounds, boundsIn}
 use Rattle.paper.specs.Log.{Log, logIn, logged, logGood}
 use Rattle.paper.proofs.Lists.{each}
 use Rattle.paper.proofs.Verdicts.{require-stops, require-next}
@@ -17,6 +17,9 @@ use Rattle.tables.specs.Makers.{Makers}
 use Rattle.judges.specs.Judged.{logChecks}
 use Rattle.judges.proofs.judge_moves.take_checks.Statement.{statement}
 use Rattle.judges.proofs.judge_moves.take_checks.Tie as tie
+
+abbrev bounds : tie.Start → Bounds
+bounds s = let a = s .args in boundsIn (a .lows .now) (a .highs .now)
 
 abbrev log : tie.Start → Log
 log s = let a = s .args in logIn (a .log-sizes .now) (a .log-vars .now) (a .log-values .now)
@@ -36,13 +39,13 @@ returns c =
     let s = c .before .before .before .before .before .before in record {
       of = λ t q k.
           c .refused .ensures
-          ∙ ap (answerOf 0) (sym (require-stops 16 0 (logGood (log s) t (s .args .kept)) (rest s) (sym (c .before .before .log-good .ensures .of t q k) ∙ not-true _ (c .before .if1 .taken))));
+          ∙ ap (answerOf 0) (sym (require-stops 16 0 (logGood (log s) t (bounds s) (s .args .kept)) (rest s) (sym (c .before .before .log-good .ensures .of t q k) ∙ not-true _ (c .before .if1 .taken))));
     }
 
 -- ── past check 16 ──
 past₁₆ : (c : tie.Else1) (t : Tables) → t .n ≡ c .before .before .before .before .before .args .n → Makers t (c .before .before .before .before .before .args .by .now)
-    → let s = c .before .before .before .before .before in logChecks (log s) t (s .args .kept) (rest s) ≡ rest s
-past₁₆ c t q k = let s = c .before .before .before .before .before in require-next 16 0 (logGood (log s) t (s .args .kept)) (rest s) (sym (c .before .log-good .ensures .of t q k) ∙ not-false _ (c .if1 .left))
+    → let s = c .before .before .before .before .before in logChecks (log s) t (bounds s) (s .args .kept) (rest s) ≡ rest s
+past₁₆ c t q k = let s = c .before .before .before .before .before in require-next 16 0 (logGood (log s) t (bounds s) (s .args .kept)) (rest s) (sym (c .before .log-good .ensures .of t q k) ∙ not-false _ (c .if1 .left))
 
 shared-slice-read-if2 : tie.Need-shared-slice-read-if2
 shared-slice-read-if2 c =

@@ -34,83 +34,83 @@ wide-requires-2 c κs = search needs
 add-end : tie.Need-add-end
 add-end c = search needs
 
-mul-table-checks : tie.Need-mul-table-checks
-mul-table-checks c = search needs
+mul-row-checks : tie.Need-mul-row-checks
+mul-row-checks c = search needs
 
-sub-table-checks : tie.Need-sub-table-checks
-sub-table-checks c = search needs
+sub-row-checks : tie.Need-sub-row-checks
+sub-row-checks c = search needs
 
-part-table-checks-start : tie.Need-part-table-checks-start
-part-table-checks-start c = search needs
+part-row-checks-start : tie.Need-part-row-checks-start
+part-row-checks-start c = search needs
 
-part-table-checks-end : tie.Need-part-table-checks-end
-part-table-checks-end c = search needs
+part-row-checks-end : tie.Need-part-row-checks-end
+part-row-checks-end c = search needs
 
-mul-table-checks-2 : tie.Need-mul-table-checks-2
-mul-table-checks-2 c = search needs
+mul-row-checks-2 : tie.Need-mul-row-checks-2
+mul-row-checks-2 c = search needs
 
-sub-table-checks-2 : tie.Need-sub-table-checks-2
-sub-table-checks-2 c = search needs
+sub-row-checks-2 : tie.Need-sub-row-checks-2
+sub-row-checks-2 c = search needs
 
-part-table-checks-start-2 : tie.Need-part-table-checks-start-2
-part-table-checks-start-2 c = search needs
+part-row-checks-start-2 : tie.Need-part-row-checks-start-2
+part-row-checks-start-2 c = search needs
 
-part-table-checks-end-2 : tie.Need-part-table-checks-end-2
-part-table-checks-end-2 c = search needs
+part-row-checks-end-2 : tie.Need-part-row-checks-end-2
+part-row-checks-end-2 c = search needs
 
-mul-table-checks-3 : tie.Need-mul-table-checks-3
-mul-table-checks-3 c = search needs
+mul-row-checks-3 : tie.Need-mul-row-checks-3
+mul-row-checks-3 c = search needs
 
-sub-table-checks-3 : tie.Need-sub-table-checks-3
-sub-table-checks-3 c = search needs
+sub-row-checks-3 : tie.Need-sub-row-checks-3
+sub-row-checks-3 c = search needs
 
-part-table-checks-start-3 : tie.Need-part-table-checks-start-3
-part-table-checks-start-3 c = search needs
+part-row-checks-start-3 : tie.Need-part-row-checks-start-3
+part-row-checks-start-3 c = search needs
 
-part-table-checks-end-3 : tie.Need-part-table-checks-end-3
-part-table-checks-end-3 c = search needs
+part-row-checks-end-3 : tie.Need-part-row-checks-end-3
+part-row-checks-end-3 c = search needs
 
-slice-aggregate-table-checks : tie.Need-slice-aggregate-table-checks
-slice-aggregate-table-checks c = search needs
+slice-aggregate-row-checks : tie.Need-slice-aggregate-row-checks
+slice-aggregate-row-checks c = search needs
 
-mul-table-checks-4 : tie.Need-mul-table-checks-4
-mul-table-checks-4 c = search needs
+mul-row-checks-4 : tie.Need-mul-row-checks-4
+mul-row-checks-4 c = search needs
 
-sub-table-checks-4 : tie.Need-sub-table-checks-4
-sub-table-checks-4 c = search needs
+sub-row-checks-4 : tie.Need-sub-row-checks-4
+sub-row-checks-4 c = search needs
 
-part-table-checks-start-4 : tie.Need-part-table-checks-start-4
-part-table-checks-start-4 c = search needs
+part-row-checks-start-4 : tie.Need-part-row-checks-start-4
+part-row-checks-start-4 c = search needs
 
-part-table-checks-end-4 : tie.Need-part-table-checks-end-4
-part-table-checks-end-4 c = search needs
+part-row-checks-end-4 : tie.Need-part-row-checks-end-4
+part-row-checks-end-4 c = search needs
 
-mul-table-checks-5 : tie.Need-mul-table-checks-5
-mul-table-checks-5 c = search needs
+mul-row-checks-5 : tie.Need-mul-row-checks-5
+mul-row-checks-5 c = search needs
 
-sub-table-checks-5 : tie.Need-sub-table-checks-5
-sub-table-checks-5 c = search needs
+sub-row-checks-5 : tie.Need-sub-row-checks-5
+sub-row-checks-5 c = search needs
 
-part-table-checks-start-5 : tie.Need-part-table-checks-start-5
-part-table-checks-start-5 c = search needs
+part-row-checks-start-5 : tie.Need-part-row-checks-start-5
+part-row-checks-start-5 c = search needs
 
-part-table-checks-end-5 : tie.Need-part-table-checks-end-5
-part-table-checks-end-5 c = search needs
+part-row-checks-end-5 : tie.Need-part-row-checks-end-5
+part-row-checks-end-5 c = search needs
 
-mul-table-checks-6 : tie.Need-mul-table-checks-6
-mul-table-checks-6 c = search needs
+mul-row-checks-6 : tie.Need-mul-row-checks-6
+mul-row-checks-6 c = search needs
 
-sub-table-checks-6 : tie.Need-sub-table-checks-6
-sub-table-checks-6 c = search needs
+sub-row-checks-6 : tie.Need-sub-row-checks-6
+sub-row-checks-6 c = search needs
 
-part-table-checks-start-6 : tie.Need-part-table-checks-start-6
-part-table-checks-start-6 c = search needs
+part-row-checks-start-6 : tie.Need-part-row-checks-start-6
+part-row-checks-start-6 c = search needs
 
-part-table-checks-end-6 : tie.Need-part-table-checks-end-6
-part-table-checks-end-6 c = search needs
+part-row-checks-end-6 : tie.Need-part-row-checks-end-6
+part-row-checks-end-6 c = search needs
 
-table-checks-requires : tie.Need-table-checks-requires
-table-checks-requires c κs =
+row-checks-requires : tie.Need-row-checks-requires
+row-checks-requires c κs =
     let w = c .before .before .before .before .before .before .before in let s = w .before .before .before .before .before .before .before .before .before in
     alone-sized (tables s) (s .pre .0) (s .args .row) (s .pre .1 .0) (w .before .before .wide .result) (w .wide2 .result) (w .before .before .wide .ensures .0) (w .wide2 .ensures .0) (s .pre .1 .1)
 
@@ -124,13 +124,13 @@ returns : tie.Need-returns
 returns c =
     let w = c .before .before .before .before .before .before .before .before .before .before in let s = w .before .before .before .before .before .before .before .before .before in
     alone-no (tables s) (s .pre .0) (s .args .row) (s .pre .1 .0) (w .before .before .wide .result) (w .wide2 .result) (w .before .before .wide .ensures .0) (w .wide2 .ensures .0)
-    _ (c .before .before .table-checks .ensures) _ _ (c .enum-told2 .given .1)
+    _ (c .before .before .row-checks .ensures) _ _ (c .enum-told2 .given .1)
 
 returns-2 : tie.Need-returns-2
 returns-2 c =
     let w = c .before .before .before .before .before .before .before .before .before .before in let s = w .before .before .before .before .before .before .before .before .before in
     alone-yes (tables s) (s .pre .0) (s .args .row) (s .pre .1 .0) (w .before .before .wide .result) (w .wide2 .result) (w .before .before .wide .ensures .0) (w .wide2 .ensures .0)
-    _ (c .before .before .table-checks .ensures) _ (c .enum-told .given .1)
+    _ (c .before .before .row-checks .ensures) _ (c .enum-told .given .1)
 
 pub alone-good-spec : {M : Type 1} → statement M
 alone-good-spec =
@@ -144,32 +144,32 @@ alone-good-spec =
     shared-slice-read-wide-2
     wide-requires-2
     add-end
-    mul-table-checks
-    sub-table-checks
-    part-table-checks-start
-    part-table-checks-end
-    mul-table-checks-2
-    sub-table-checks-2
-    part-table-checks-start-2
-    part-table-checks-end-2
-    mul-table-checks-3
-    sub-table-checks-3
-    part-table-checks-start-3
-    part-table-checks-end-3
-    slice-aggregate-table-checks
-    mul-table-checks-4
-    sub-table-checks-4
-    part-table-checks-start-4
-    part-table-checks-end-4
-    mul-table-checks-5
-    sub-table-checks-5
-    part-table-checks-start-5
-    part-table-checks-end-5
-    mul-table-checks-6
-    sub-table-checks-6
-    part-table-checks-start-6
-    part-table-checks-end-6
-    table-checks-requires
+    mul-row-checks
+    sub-row-checks
+    part-row-checks-start
+    part-row-checks-end
+    mul-row-checks-2
+    sub-row-checks-2
+    part-row-checks-start-2
+    part-row-checks-end-2
+    mul-row-checks-3
+    sub-row-checks-3
+    part-row-checks-start-3
+    part-row-checks-end-3
+    slice-aggregate-row-checks
+    mul-row-checks-4
+    sub-row-checks-4
+    part-row-checks-start-4
+    part-row-checks-end-4
+    mul-row-checks-5
+    sub-row-checks-5
+    part-row-checks-start-5
+    part-row-checks-end-5
+    mul-row-checks-6
+    sub-row-checks-6
+    part-row-checks-start-6
+    part-row-checks-end-6
+    row-checks-requires
     enum-told
     enum-told-2
     returns

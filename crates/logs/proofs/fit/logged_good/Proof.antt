@@ -1,8 +1,8 @@
--- Past 64 pairs it is not good, and else the answer of checks 10 to 12 decides. Assumes nothing.
+-- Past 64 pairs it is not good, and else the answer of checks 10, 11, 12 and 17 decides. Assumes nothing.
 use native.Mathlib.Omega.{arith}
 use mathlib.Core.Path.{sym, _∙_}
 use borrow.Author.Needs.{needs}
-use Rattle.paper.specs.Checks.{accepted, refused}
+use Rattle.paper.specs.Checks.{accepted, refused, Bounds, boundsIn}
 use Rattle.paper.specs.Log.{Log, logIn}
 use Rattle.tables.proofs.Judged.{accepted-is, refused-is}
 use Rattle.logs.proofs.Noted.{log-long}
@@ -13,6 +13,9 @@ use Rattle.logs.proofs.fit.logged_good.Tie as tie
 -- the log as it is lent
 abbrev log : tie.Start → Log
 log s = let a = s .args in logIn (a .log-sizes .now) (a .log-vars .now) (a .log-values .now)
+
+abbrev limits : tie.Start → Bounds
+limits s = boundsIn (s .args .lows .now) (s .args .highs .now)
 
 add-wide : tie.Need-add-wide
 add-wide c = search needs
@@ -27,7 +30,7 @@ wide-requires : tie.Need-wide-requires
 wide-requires c κs = search needs
 
 returns : tie.Need-returns
-returns c = let s = c .before .before .before .before .before .before in let w = c .before .wide in record { of = λ t e q. back-many (log s) (s .args .k) (w .result) (w .ensures .0) t (c .if1 .taken) }
+returns c = let s = c .before .before .before .before .before .before in let w = c .before .wide in record { of = λ t e q. back-many (log s) (s .args .k) (w .result) (w .ensures .0) t (limits s) (c .if1 .taken) }
 
 mul-move-checks : tie.Need-mul-move-checks
 mul-move-checks c = search needs
@@ -73,12 +76,12 @@ enum-told-2 c = search needs
 returns-2 : tie.Need-returns-2
 returns-2 c =
     let s = c .before .before .before .before .before .before .before .before .before .before .before in let w = c .before .before .before .before .before .before .wide in let few = c .before .before .before .before .before .if1 .left in let said = c .enum-told2 .given in let checked = c .before .before .move-checks .ensures in
-    record { of = λ t e q. back-told (log s) (s .args .k) (w .result) (w .ensures .0) t few (refused (said .0 .0) (said .0 .1 .0)) (refused-is 0 _ _ _ (sym (checked .of t e q) ∙ said .1)) }
+    record { of = λ t e q. back-told (log s) (s .args .k) (w .result) (w .ensures .0) t (limits s) few (refused (said .0 .0) (said .0 .1 .0)) (refused-is 0 _ _ _ (sym (checked .of t e q) ∙ said .1)) }
 
 returns-3 : tie.Need-returns-3
 returns-3 c =
     let s = c .before .before .before .before .before .before .before .before .before .before .before in let w = c .before .before .before .before .before .before .wide in let few = c .before .before .before .before .before .if1 .left in let said = c .enum-told .given in let checked = c .before .before .move-checks .ensures in
-    record { of = λ t e q. back-told (log s) (s .args .k) (w .result) (w .ensures .0) t few accepted (accepted-is 0 (said .0 .0) _ (sym (checked .of t e q) ∙ said .1)) }
+    record { of = λ t e q. back-told (log s) (s .args .k) (w .result) (w .ensures .0) t (limits s) few accepted (accepted-is 0 (said .0 .0) _ (sym (checked .of t e q) ∙ said .1)) }
 
 pub logged-good-spec : {M : Type 1} → statement M
 logged-good-spec =

@@ -13,7 +13,7 @@ use mir.Val.{SFits}
 use mir.Facts.{toZ-ofZ}
 use Rattle.paper.specs.Lists.{nat}
 use Rattle.paper.specs.Tables.{valuesIn}
-use Rattle.paper.specs.Checks.{startGood, storedGood}
+use Rattle.paper.specs.Checks.{boundsIn, startAllowed, storedAllowed}
 use Rattle.paper.proofs.Scan.{Scan, scan-start, scan-next, scan-found, scan-all}
 use Rattle.moves.specs.Moves.{OfMakers, valueGood}
 use Rattle.moves.proofs.OverMakers.{value-same}
@@ -21,10 +21,10 @@ use Rattle.moves.proofs.value.first_bad_value.Statement.{statement}
 use Rattle.moves.proofs.value.first_bad_value.Tie as tie
 
 abbrev Inv-loop : tie.InvT-loop
-Inv-loop building n by values v₀ v = OfMakers n by (λ t. Scan (cond building (startGood t) (storedGood t) (valuesIn t values)) n v)
+Inv-loop building n by lows highs values v₀ v = OfMakers n by (λ t. Scan (cond building (startAllowed t) (storedAllowed t) (boundsIn lows highs) (valuesIn t values)) n v)
 
 abbrev μ-loop : tie.MeasureT-loop
-μ-loop building n by values v₀ v = n - v
+μ-loop building n by lows highs values v₀ v = n - v
 
 loop-holds : tie.Need-loop-holds Inv-loop μ-loop
 loop-holds c = record { of = λ t e k. scan-start _ _ }
@@ -41,22 +41,36 @@ mul-value-good-2 c = search needs
 shared-slice-copy-out-value-good : tie.Need-shared-slice-copy-out-value-good Inv-loop μ-loop
 shared-slice-copy-out-value-good c = search needs
 
+mul-value-good-3 : tie.Need-mul-value-good-3 Inv-loop μ-loop
+mul-value-good-3 c = search needs
+
+shared-slice-copy-out-value-good-2 : tie.Need-shared-slice-copy-out-value-good-2 Inv-loop μ-loop
+shared-slice-copy-out-value-good-2 c = search needs
+
+mul-value-good-4 : tie.Need-mul-value-good-4 Inv-loop μ-loop
+mul-value-good-4 c = search needs
+
+shared-slice-copy-out-value-good-3 : tie.Need-shared-slice-copy-out-value-good-3 Inv-loop μ-loop
+shared-slice-copy-out-value-good-3 c = search needs
+
 value-good-requires : tie.Need-value-good-requires Inv-loop μ-loop
 value-good-requires c κs = search needs
 
 -- the test of this turn, over any such tables
 here : (c : tie.After-value-good Inv-loop μ-loop)
-    → let a = c .before .before .before .before .before .before .args in let v = c .before .before .before .before .loop .v in
-    OfMakers (a .n) (a .by .now) (λ t. cond (a .building) (startGood t) (storedGood t) (valuesIn t (a .values .now)) v ≡ c .value-good .result)
+    → let a = c .before .before .before .before .before .before .before .before .args in let v = c .before .before .before .before .before .before .loop .v in
+    OfMakers (a .n) (a .by .now) (λ t. cond (a .building) (startAllowed t) (storedAllowed t) (boundsIn (a .lows .now) (a .highs .now)) (valuesIn t (a .values .now)) v ≡ c .value-good .result)
 here c =
-    let a = c .before .before .before .before .before .before .args in let v = c .before .before .before .before .loop .v in
-    let fits : SFits w32 (getD (a .values .now) v (pos 0)) = sfits-of (c .before .value-good-arg .given) in
-    let said = c .value-good .ensures ∙ ap (valueGood (a .building) (not (eqb (nat (a .by .now) v) 0))) (toZ-ofZ fits) in
-    record { of = λ t e k. sym (said ∙ value-same t (a .by .now) k (a .building) (a .values .now) v (omega arith)) }
+    let a = c .before .before .before .before .before .before .before .before .args in let v = c .before .before .before .before .before .before .loop .v in
+    let low : SFits w32 (getD (a .lows .now) v (pos 0)) = sfits-of (c .before .before .before .value-good-arg .given) in
+    let value : SFits w32 (getD (a .values .now) v (pos 0)) = sfits-of (c .before .before .value-good-arg2 .given) in
+    let high : SFits w32 (getD (a .highs .now) v (pos 0)) = sfits-of (c .before .value-good-arg3 .given) in
+    let said = simp (toZ-ofZ low, toZ-ofZ value, toZ-ofZ high) at (c .value-good .ensures) in
+    record { of = λ t e k. sym (said ∙ value-same t (a .by .now) k (a .building) (boundsIn (a .lows .now) (a .highs .now)) (a .values .now) v (omega arith)) }
 
 returns : tie.Need-returns Inv-loop μ-loop
 returns c =
-    let l = c .before .before .before .before .before .loop in
+    let l = c .before .before .before .before .before .before .before .loop in
     record { of = λ t e k. scan-found _ _ _ (l .inv .of t e k) (omega arith) (here (c .before) .of t e k ∙ not-true _ (c .if1 .taken)) }
 
 add-v : tie.Need-add-v Inv-loop μ-loop
@@ -67,7 +81,7 @@ loop-less c = search needs
 
 loop-again : tie.Need-loop-again Inv-loop μ-loop
 loop-again c =
-    let l = c .before .before .before .before .before .loop in
+    let l = c .before .before .before .before .before .before .before .loop in
     record { of = λ t e k. scan-next _ _ _ (l .inv .of t e k) (omega arith) (here (c .before) .of t e k ∙ not-false _ (c .if1 .left)) }
 
 returns-2 : tie.Need-returns-2 Inv-loop μ-loop
@@ -84,6 +98,10 @@ first-bad-value-spec =
     shared-slice-read-value-good
     mul-value-good-2
     shared-slice-copy-out-value-good
+    mul-value-good-3
+    shared-slice-copy-out-value-good-2
+    mul-value-good-4
+    shared-slice-copy-out-value-good-3
     value-good-requires
     returns
     add-v

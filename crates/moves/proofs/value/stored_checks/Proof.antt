@@ -11,7 +11,7 @@ use borrow.Author.Needs.{needs}
 use borrow.Author.Tests.{eq-eqb, ne-eqb}
 use Rattle.paper.specs.Lists.{firstFail}
 use Rattle.paper.specs.Tables.{Tables, valuesIn}
-use Rattle.paper.specs.Checks.{Verdict, accepted, check, storedGood}
+use Rattle.paper.specs.Checks.{Verdict, accepted, check, Bounds, boundsIn, storedAllowed}
 use Rattle.paper.specs.Calls.{blanksAmong}
 use Rattle.paper.proofs.Verdicts.{require-stops, require-next, check-stops, check-passes}
 use Rattle.tables.specs.Answers.{answerOf}
@@ -21,12 +21,15 @@ use Rattle.moves.proofs.OverMakers.{blanks-same}
 use Rattle.moves.proofs.value.stored_checks.Statement.{statement}
 use Rattle.moves.proofs.value.stored_checks.Tie as tie
 
+abbrev limits : tie.Start → Bounds
+limits s = boundsIn (s .args .lows .now) (s .args .highs .now)
+
 -- checks 19 and 7, whichever tables the makers are of
 abbrev right : tie.Start → Tables → ℕ
 right s t = blanksAmong (t .n) (valuesIn t (s .args .stored .now))
 
 abbrev rest : tie.Start → Tables → Verdict
-rest s t = check 7 (t .n) (storedGood t (valuesIn t (s .args .stored .now))) accepted
+rest s t = check 7 (t .n) (storedAllowed t (limits s) (valuesIn t (s .args .stored .now))) accepted
 
 blanks-among-requires : tie.Need-blanks-among-requires
 blanks-among-requires c κs = search needs
@@ -48,7 +51,7 @@ returns c =
 
 -- ── past check 19 ──
 past₁₉ : (c : tie.Else1) (t : Tables) → t .n ≡ c .before .before .before .args .n
-    → let s = c .before .before .before in storedChecks (s .args .blanks) (s .args .stored .now) t accepted ≡ rest s t
+    → let s = c .before .before .before in storedChecks (s .args .blanks) (limits s) (s .args .stored .now) t accepted ≡ rest s t
 past₁₉ c t q = let s = c .before .before .before in
     require-next 19 0 (eqb (s .args .blanks) (right s t)) (rest s t) (eq-eqb _ _ (c .if1 .left ∙ counted (c .before) t q))
 
@@ -56,9 +59,10 @@ first-bad-value-requires : tie.Need-first-bad-value-requires
 first-bad-value-requires c κs = search needs
 
 -- the least variable that fails check 7
-least : (c : tie.After-first-bad-value) (t : Tables) → t .n ≡ c .before .before .before .before .args .n → Makers t (c .before .before .before .before .args .by .now)
-    → c .first-bad-value .result ≡ firstFail (storedGood t (valuesIn t (c .before .before .before .before .args .stored .now))) (t .n)
-least c t q k = c .first-bad-value .ensures .of t q k ∙ ap (firstFail (storedGood t (valuesIn t (c .before .before .before .before .args .stored .now)))) (sym q)
+least : (c : tie.After-first-bad-value) (t : Tables) → let s = c .before .before .before .before in
+    t .n ≡ s .args .n → Makers t (s .args .by .now) → c .first-bad-value .result ≡ firstFail (storedAllowed t (limits s) (valuesIn t (s .args .stored .now))) (t .n)
+least c t q k = let s = c .before .before .before .before in
+    c .first-bad-value .ensures .of t q k ∙ ap (firstFail (storedAllowed t (limits s) (valuesIn t (s .args .stored .now)))) (sym q)
 
 refused-requires-2 : tie.Need-refused-requires-2
 refused-requires-2 c κs = search needs
@@ -68,13 +72,13 @@ returns-2 c =
     let e = c .before .before .before in let s = e .before .before .before in record {
       of = λ t q k.
           c .refused2 .ensures
-          ∙ ap (answerOf 0) (sym (past₁₉ e t q ∙ check-stops 7 (t .n) (storedGood t (valuesIn t (s .args .stored .now))) accepted _ (least (c .before .before) t q k) (let low = c .before .if2 .taken in omega arith)));
+          ∙ ap (answerOf 0) (sym (past₁₉ e t q ∙ check-stops 7 (t .n) (storedAllowed t (limits s) (valuesIn t (s .args .stored .now))) accepted _ (least (c .before .before) t q k) (let low = c .before .if2 .taken in omega arith)));
     }
 
 returns-3 : tie.Need-returns-3
 returns-3 c =
     let e = c .before .before in let s = e .before .before .before in record {
-      of = λ t q k. ap (answerOf 0) (sym (past₁₉ e t q ∙ check-passes 7 (t .n) (storedGood t (valuesIn t (s .args .stored .now))) accepted _ (least (c .before) t q k, let high = c .if2 .left in omega arith)));
+      of = λ t q k. ap (answerOf 0) (sym (past₁₉ e t q ∙ check-passes 7 (t .n) (storedAllowed t (limits s) (valuesIn t (s .args .stored .now))) accepted _ (least (c .before) t q k, let high = c .if2 .left in omega arith)));
     }
 
 pub stored-checks-spec : {M : Type 1} → statement M
