@@ -12,7 +12,7 @@
  *                                                    first entry, number of entries
  *   vars, coefs                            e each    the entries: variable, coefficient
  *   lows, highs                            n each    bounds on what may be moved: the lowest and the highest allowed
- *                                                    number of each variable
+ *                                                    number of each variable; files of version 2 hold them
  *   starts                                 n         start values; 0 for a variable that a row makes
  *   numbers, stored                        n each    topological numbers and values, filled by build
  *   order                                  m         rows by number, filled by build
@@ -27,9 +27,11 @@
  *                                                    how many pairs each has (0 to 64), the oldest first
  *   log_vars, log_values                   4,096     the pairs of the log: variable, and its value before the move; those
  *                                          each      of move k, from 0, stand from place 64 k on
- *   bytes                                            a model file: 24 + 4n + 12m + 4e bytes, little-endian; for salvage
- *                                                    a damaged one, of any length
- *   file                                             the file saved of it; 131,096 bytes are room for any
+ *   bytes                                            a model file, little-endian: 24 + 4n + 12m + 4e bytes in version 1,
+ *                                                    28 + 12n + 12m + 4e in version 2; for salvage a damaged one, of any
+ *                                                    length
+ *   file                                             the file saved of it, 131,096 bytes are room for any; or the file of
+ *                                                    the other version, for which 163,868 are
  *   list                                             what was not saved: rows of the damaged file, ascending, and then
  *                                                    variables, ascending; m + n places are room for any, and 8,192
  *
@@ -53,11 +55,11 @@
  * values, and the lowest is not above the highest. A variable that a row makes has full bounds, LUKHANDRO_LOWEST and
  * LUKHANDRO_HIGHEST, and so may one that is to have any value. Start values, stored values of search variables, new
  * values and the values in the log are held to them. Lend the same bounds to every call on a model, or wider ones; what
- * no longer lies within narrower ones is refused. A model file has no bounds.
+ * no longer lies within narrower ones is refused. A model file of version 1 has no bounds: lend full ones with what was
+ * read from it. One of version 2 has its own; build judges them, as it judges the tables.
  *
  * REFUSALS. Number 0 is accepted. Any other number is a refusal: the call has changed no byte that it was lent, and
- * place is the smallest row, variable, pair, asked index or byte that offends. Numbers are the specification's, 1 to 17
- * and 19:
+ * place is the smallest row, variable, pair, asked index or byte that offends. Numbers are the specification's, 1 to 19:
  *    1 a count outside its bound or a short buffer     8 numbers, order or readers that build does not give
  *    2 no such kind                                    9 no such route
  *    3 variable, input count or part of a row         10 a pair names a made variable or none
@@ -70,16 +72,20 @@
  *    7 a search variable's value is blank or outside its bounds, or a made variable's start value is not 0
  *   16 the log is unfit, place 0: it holds more moves than 64 or than the record's number kept, a move of more than 64
  *      pairs, a made variable, one not below n, one twice in a move, a blank, or a value outside its variable's bounds
+ *   18 going back to version 1 would lose bounds, place the least variable whose bounds are not full
  *   19 the record's blanks is not how many of the n stored values are blank, place 0: lend the record and the stored
  *      values that the calls left, together
- * Checks run in ascending number, but 8 and then 19 come before 7, 17 right after 12, and 16 before 15.
+ * Checks run in ascending number, but 8 and then 19 come before 7, 17 right after 12, and 16 before 15; of the calls on
+ * files 14 comes first, then 18, then 1.
  *
  * STACK. On the deepest models, chains of 4,095 rows, a program that makes this call and no other needs a stack of
  *     lukhandro_build                          480 KiB
  *     lukhandro_trial by route 2 or 3        1,056 KiB
  *     lukhandro_trial by route 1, and
  *     lukhandro_keep, _take_back,
- *     _read and _write                         128 KiB or less
+ *     _read, _write, _read_bounded,
+ *     _write_bounded, _to_version_2
+ *     and _to_version_1                        128 KiB or less
  *     lukhandro_salvage                        768 KiB
  * These figures were measured, in steps of 16 KiB, on an x86-64 machine; no proof states them. The tests send
  * these models through every call on a stack of 2 MiB: a thread that calls should have as much.
@@ -131,6 +137,12 @@ typedef struct {
     size_t rows;     /* rows dropped, the front of the list */
     size_t values;   /* variables whose start value is missing or reset, which stand behind the rows */
 } lukhandro_salvage_outcome;
+
+typedef struct {
+    uint32_t number; /* 0 accepted, else the refusal */
+    uint32_t place;  /* 0 if accepted */
+    size_t length;   /* bytes of the new file, 0 if refused */
+} lukhandro_move_outcome;
 
 /* Fills numbers, order, stored and the readers from tables and start values, and empties the log. Refusals 1 to 7. */
 lukhandro_outcome lukhandro_build(
@@ -197,8 +209,8 @@ lukhandro_outcome lukhandro_take_back(
     uint8_t *flags, size_t flags_length, uint16_t *log_sizes, size_t log_sizes_length,
     const uint16_t *log_vars, size_t log_vars_length, const int32_t *log_values, size_t log_values_length);
 
-/* Fills tables from a model file of exactly bytes_length bytes. Refusal 14, then 1 for short tables. What is in the
- * tables is judged by build. */
+/* Fills tables from a model file of version 1 of exactly bytes_length bytes. Refusal 14, then 1 for short tables. What is
+ * in the tables is judged by build. */
 lukhandro_read_outcome lukhandro_read(
     const uint8_t *bytes, size_t bytes_length, int32_t *starts, size_t starts_length,
     uint16_t *kinds, size_t kinds_length, uint16_t *makes, size_t makes_length,
@@ -206,7 +218,7 @@ lukhandro_read_outcome lukhandro_read(
     uint16_t *counts, size_t counts_length, uint16_t *vars, size_t vars_length,
     int16_t *coefs, size_t coefs_length);
 
-/* Fills the front of bytes with the model file of the tables. Refusal 1. */
+/* Fills the front of bytes with the model file of version 1 of the tables. Refusal 1. */
 lukhandro_outcome lukhandro_write(
     size_t n, size_t m, size_t e, const int32_t *starts, size_t starts_length,
     const uint16_t *kinds, size_t kinds_length, const uint16_t *makes, size_t makes_length,
@@ -229,6 +241,36 @@ lukhandro_outcome lukhandro_write(
 lukhandro_salvage_outcome lukhandro_salvage(
     const uint8_t *bytes, size_t bytes_length, uint8_t *file, size_t file_length,
     uint16_t *list, size_t list_length);
+
+/* Fills tables and bounds from a model file of version 2 of exactly bytes_length bytes. Refusal 14, then 1 for short rows.
+ * What is in them is judged by build. */
+lukhandro_read_outcome lukhandro_read_bounded(
+    const uint8_t *bytes, size_t bytes_length, int32_t *starts, size_t starts_length,
+    uint16_t *kinds, size_t kinds_length, uint16_t *makes, size_t makes_length,
+    int32_t *params, size_t params_length, uint16_t *firsts, size_t firsts_length,
+    uint16_t *counts, size_t counts_length, uint16_t *vars, size_t vars_length,
+    int16_t *coefs, size_t coefs_length, int32_t *lows, size_t lows_length,
+    int32_t *highs, size_t highs_length);
+
+/* Fills the front of bytes with the model file of version 2 of the tables and bounds. Refusal 1. */
+lukhandro_outcome lukhandro_write_bounded(
+    size_t n, size_t m, size_t e, const int32_t *starts, size_t starts_length,
+    const uint16_t *kinds, size_t kinds_length, const uint16_t *makes, size_t makes_length,
+    const int32_t *params, size_t params_length, const uint16_t *firsts, size_t firsts_length,
+    const uint16_t *counts, size_t counts_length, const uint16_t *vars, size_t vars_length,
+    const int16_t *coefs, size_t coefs_length, const int32_t *lows, size_t lows_length,
+    const int32_t *highs, size_t highs_length, uint8_t *bytes, size_t bytes_length);
+
+/* Fills the front of file with a model file of version 1 as one of version 2, whose bounds are all full: 8n + 4 bytes more.
+ * Refusal 14, then 1 for a short buffer. */
+lukhandro_move_outcome lukhandro_to_version_2(
+    const uint8_t *bytes, size_t bytes_length, uint8_t *file, size_t file_length);
+
+/* Fills the front of file with a model file of version 2 as one of version 1, which has no bounds. Refusal 14, then 18 with
+ * the least variable whose bounds are not full, then 1 for a short buffer. Going up and back gives the same bytes, and so
+ * does going back and up where back is accepted. */
+lukhandro_move_outcome lukhandro_to_version_1(
+    const uint8_t *bytes, size_t bytes_length, uint8_t *file, size_t file_length);
 
 #ifdef __cplusplus
 }

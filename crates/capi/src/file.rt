@@ -12,8 +12,8 @@ use files::Written;
 use files::read;
 use files::write;
 
-// What `write` answers, as three numbers.
-fn written_numbers(told: Written) -> Outcome
+// What `write` and `write_bounded` answer, as three numbers.
+pub fn written_numbers(told: Written) -> Outcome
     ensures { λ r. ⌜ r ≡ inNumbers (answered (verdict told) 0) ⌝ }
 {
     match told {
@@ -30,8 +30,8 @@ fn written_numbers(told: Written) -> Outcome
     }
 }
 
-// What `read` answers, as five numbers.
-fn read_numbers(told: Reading) -> ReadOutcome
+// What `read` and `read_bounded` answer, as five numbers.
+pub fn read_numbers(told: Reading) -> ReadOutcome
     requires { ⌜ Small told ⌝ }
     ensures { λ r. ⌜ r ≡ readInNumbers told ⌝ }
 {

@@ -1,4 +1,5 @@
 pub mod Judged
+pub mod Versions
 pub mod One
 pub mod Two
 pub mod Three

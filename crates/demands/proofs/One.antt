@@ -8,7 +8,7 @@ use Rattle.paper.specs.Tables.{Tables}
 use Rattle.paper.specs.Checks.{Verdict, accepted, refused}
 use Rattle.paper.specs.Log.{Log}
 use Rattle.paper.specs.Calls.{Session, Answer, Accepted, Refused, numberOf, answered, BuildLent, BuildLeft, buildVerdict, Model, Tried, TrialLeft, trialVerdict, Kept, KeepLeft, keepVerdict, takeVerdict}
-use Rattle.paper.specs.File.{write, writeVerdict, read, readVerdict, header, counted}
+use Rattle.paper.specs.File.{writeVerdictAs, write, headerAs, readVerdictAs, read, counted}
 use Rattle.paper.proofs.Outcomes.{build-judged, trial-judged, keep-judged, take-judged}
 use Rattle.paper.proofs.Demands as paper
 use Rattle.tables.specs.declared.Answer as code-answer
@@ -22,6 +22,8 @@ use Rattle.files.specs.declared.Reading.the-variants as reading
 use Rattle.demands.specs.Stated.{BuildOutcome, leftBuilt, TrialOutcome, leftTried, KeepOutcome, leftKept, TakeOutcome, leftTaken, WriteOutcome, leftWritten, ReadOutcome, leftRead}
 use Rattle.demands.specs.Refusals.{buildTable, trialTable, keepTable, takeTable, writeTable, headerLines, roomLines, readTable}
 use Rattle.demands.specs.Demands.{BuildWorks, TrialWorks, KeepWorks, TakeWorks, WriteWorks, ReadWorks, Demand1}
+use Rattle.demands.proofs.Versions as versions
+use Rattle.demands.proofs.Versions.{some-number, writtenBy, written-is, readBy, read-is}
 use Rattle.demands.proofs.Judged.{judged, judged-then, lineNumber, works, call-works}
 
 -- ── which numbers each call gives, in which order ──
@@ -56,12 +58,12 @@ module _ (s : Session) (g : Log) (w : Model) where
   unfolding takeVerdict
   take-table flags = refl
 
-write-table : (t : Tables) (starts : List ℤ) (lent : List ℕ) → writeVerdict t starts lent ≡ judged (writeTable t starts lent)
-unfolding writeVerdict
+write-table : (t : Tables) (starts : List ℤ) (lent : List ℕ) → write t starts lent .0 ≡ judged (writeTable t starts lent)
+unfolding writeVerdictAs
 write-table t starts lent = refl
 
-read-table : (bytes : List ℕ) (t : Tables) (starts : List ℤ) → readVerdict bytes t starts ≡ judged (readTable bytes t starts)
-unfolding readVerdict header
+read-table : (bytes : List ℕ) (t : Tables) (starts : List ℤ) → read bytes t starts .0 ≡ judged (readTable bytes t starts)
+unfolding readVerdictAs headerAs
 read-table bytes t starts = sym (judged-then (headerLines bytes) (roomLines bytes t starts))
 
 -- ── build, trial, keep and taking back ──
@@ -78,10 +80,7 @@ module _ (s : Session) (g : Log) (w : Model) where
   pub take-works : (flags : List ℕ) (o : TakeOutcome s g w flags) → TakeWorks s g w flags (leftTaken o)
   take-works flags o = call-works (takeTable s g w flags) (leftTaken o) _ (take-judged s g w flags) refl (take-table s g w flags) refl (o .stated)
 
--- ── files: a verdict that is not acceptance has a number ──
-some-number : (v : Verdict) → (numberOf (answered v 0) ≡ 0 → ⊥) → v ≡ accepted → ⊥
-some-number v wrong e = wrong (ap (λ u. numberOf (answered u 0)) e)
-
+-- ── files of version 1 ──
 pub write-works : (t : Tables) (starts : List ℤ) (lent : List ℕ) (o : WriteOutcome t starts lent) → WriteWorks t starts lent (leftWritten o)
 write-works t starts lent o =
     let x = write t starts lent in
@@ -105,22 +104,6 @@ answer-is (code.Refused number place) = refl
 
 one-answer : {r r′ : code-answer.Answer} → answerIn r ≡ answerIn r′ → r ≡ r′
 one-answer {r} {r′} e = sym (answer-is r) ∙ ap answerBy e ∙ answer-is r′
-
-abbrev writtenBy : Verdict → Written
-writtenBy accepted = written.Accepted
-writtenBy (refused number place) = written.Refused number place
-
-written-is : (r : Written) → writtenBy (verdict r) ≡ r
-written-is written.Accepted = refl
-written-is (written.Refused number place) = refl
-
-abbrev readBy : Verdict → Tables → Reading
-readBy accepted t = reading.Accepted (t .n) (t .m) (t .e)
-readBy (refused number place) t = reading.Refused number place
-
-read-is : (r : Reading) (t : Tables) (starts : List ℤ) → let x = hasRead r t starts in readBy (x .0) (x .1 .0) ≡ r
-read-is (reading.Accepted n m e) t starts = refl
-read-is (reading.Refused number place) t starts = refl
 
 rows-are : (r : Reading) (t : Tables) (starts : List ℤ) → let x = hasRead r t starts in (counted 0 0 0 (x .1 .0) ≡ counted 0 0 0 t) × (x .1 .1 ≡ starts)
 rows-are (reading.Accepted n m e) t starts = (refl, refl)
@@ -148,4 +131,11 @@ demand1 = record {
         sym (a .0) ∙ ap (λ x. counted 0 0 0 (x .1 .0)) e ∙ a′ .0,
         sym (a .1) ∙ ap (λ x. x .1 .1) e ∙ a′ .1,
       );
+  write-bounded = versions.write-works;
+  read-bounded = versions.read-works;
+  to-version-2 = versions.up-works;
+  to-version-1 = versions.back-works;
+  write-bounded-one = versions.write-one;
+  read-bounded-one = versions.read-one;
+  move-one = versions.move-one;
 }

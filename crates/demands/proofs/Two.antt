@@ -1,19 +1,21 @@
 -- Demand 2: an accepted build's outcome has the paper's numbers, order, index and values, a build refuses with 6 exactly if some variable depends on
 -- itself, and files go there and back. Assumes nothing.
 use Prim.Native.Nat.{ℕ, suc, zero, _<_}
-use mathlib.Core.Bool.{cond}
-use mathlib.Core.Path.{_≡_, ap, sym, _∙_, subst⁻¹}
+use mathlib.Core.Bool.{true, cond, _&&_}
+use mathlib.Core.List.{List}
+use mathlib.Core.Path.{_≡_, ap, ap₂, sym, _∙_, subst⁻¹}
 use lib.IntN.{pos}
-use lib.ListN.{getD, take}
+use lib.Dec.{leb·zero}
+use lib.ListN.{length, getD, take}
 use Rattle.integers.specs.Integers.{eqZ}
-use Rattle.paper.specs.Lists.{nat, greatest}
+use Rattle.paper.specs.Lists.{nat, greatest, over}
 use Rattle.paper.specs.Formula.{blank}
 use Rattle.paper.specs.Net.{Values, number, afresh}
 use Rattle.paper.specs.Tables.{Tables, net, isMade, inputsOf, valuesIn}
-use Rattle.paper.specs.Checks.{accepted, Sound}
+use Rattle.paper.specs.Checks.{accepted, require, leaves, lowest, highest, Sound}
 use Rattle.paper.specs.Calls.{Session, numberOf, BuildLent, BuildLeft, startValues, build}
-use Rattle.paper.specs.File.{endsAt, counted, write, read}
-use Rattle.paper.specs.Demands.{BuildRight, cut}
+use Rattle.paper.specs.File.{version1, version2, endsAs, endsAt, Contents, contents, held, heldAs, counted, countedAs, write, writeBounded, nIn, mIn, eIn, header, readVerdictAs, read, readBounded, toVersion2, toVersion1}
+use Rattle.paper.specs.Demands.{BuildRight, cut, cutAs}
 use Rattle.paper.proofs.Lists.{map-same}
 use Rattle.paper.proofs.Buffers.{getD-below, over-at, over-front}
 use Rattle.paper.proofs.Accept.{inputs-below}
@@ -23,6 +25,7 @@ use Rattle.paper.proofs.Count.{size-same}
 use Rattle.paper.proofs.Outcomes.{build-judged}
 use Rattle.paper.proofs.Demands as paper
 use Rattle.demands.specs.Stated.{BuildOutcome, leftBuilt}
+use Rattle.demands.proofs.Versions.{moved-front}
 use Rattle.demands.specs.Demands.{BuiltRight, CircularExactly, Demand2}
 
 -- ── build ──
@@ -73,6 +76,20 @@ module _ {l : BuildLent} (o : BuildOutcome l) where
   circular-exactly = let c = paper.demand2 .build-circular l in
       subst⁻¹ (λ (x : BuildLeft). CircularExactly l (x .answer)) (o .stated) (record { given = c .given; only = c .only; place = c .place })
 
+-- ── a file of version 1 that was moved up; what version 1 reads does not look at the lent bounds ──
+plain-verdict : (bytes : List ℕ) (c : Contents) → readVerdictAs version1 bytes c ≡ read bytes (c .tables) (c .starts) .0
+unfolding readVerdictAs
+plain-verdict bytes c =
+    let good = held (counted (nIn bytes) (mIn bytes) (eIn bytes) (c .tables)) (c .starts) in
+    ap₂ (λ a b. leaves (header bytes) (require 1 0 (a && b && good) accepted) (header bytes)) (leb·zero (length (c .lows))) (leb·zero (length (c .highs)))
+
+model-moved : (bytes lent : List ℕ) → toVersion2 bytes lent .0 ≡ accepted → (c : Contents) → heldAs version2 (countedAs (nIn bytes) (mIn bytes) (eIn bytes) c) ≡ true
+    → let x = read bytes (counted 0 0 0 (c .tables)) (c .starts) in x .0 ≡ accepted → let (end, moved) = toVersion2 bytes lent .1 in
+    readBounded (take end moved) (countedAs 0 0 0 c)
+    ≡ (accepted, contents (x .1 .0) (x .1 .1) (over (nIn bytes) (λ v. lowest) (c .lows)) (over (nIn bytes) (λ v. highest) (c .highs)))
+model-moved bytes lent ok c room was =
+    let there = plain-verdict bytes (countedAs 0 0 0 c) ∙ was in rw was (rw there at (paper.demand2 .same-model version1 version2 bytes lent ok (countedAs 0 0 0 c) there room))
+
 -- ── the demand ──
 pub demand2 : Demand2
 demand2 = record {
@@ -85,4 +102,19 @@ demand2 = record {
   written-back = λ bytes small t₀ starts₀ r ok lent room w.
       w .stated ∙ ap (λ x. write (x .1 .0) (x .1 .1) lent) (r .stated)
       ∙ paper.demand2 .written-back bytes small (counted 0 0 0 t₀) starts₀ (sym (ap (λ x. x .0) (r .stated)) ∙ ok) lent room;
+  read-back-bounded = λ c lent w fit ok c₀ room r.
+      subst⁻¹ (λ x. (x .0 ≡ accepted) × (cutAs version2 (x .1) ≡ cutAs version2 c))
+      (r .stated ∙ ap (λ x. let t = c .tables in readBounded (take (endsAs version2 (t .n) (t .m) (t .e)) (x .1)) (countedAs 0 0 0 c₀)) (w .stated))
+      (paper.demand2 .read-back-as version2 c lent fit (sym (ap (λ x. x .0) (w .stated)) ∙ ok) (countedAs 0 0 0 c₀) room);
+  written-back-bounded = λ bytes small c₀ r ok lent room w.
+      w .stated ∙ ap (λ x. writeBounded (x .1) lent) (r .stated)
+      ∙ paper.demand2 .written-back-as version2 bytes small (countedAs 0 0 0 c₀) (sym (ap (λ x. x .0) (r .stated)) ∙ ok) lent room;
+  up-and-back = λ bytes small lent o ok lent₂ room p.
+      p .stated ∙ ap (λ l. toVersion1 l lent₂) (moved-front o) ∙ paper.demand2 .up-and-back bytes small lent (sym (ap (λ x. x .0) (o .stated)) ∙ ok) lent₂ room;
+  back-and-up = λ bytes small lent o ok lent₂ room p.
+      p .stated ∙ ap (λ l. toVersion2 l lent₂) (moved-front o) ∙ paper.demand2 .back-and-up bytes small lent (sym (ap (λ x. x .0) (o .stated)) ∙ ok) lent₂ room;
+  same-model = λ bytes lent o ok c room r was p.
+      p .stated ∙ ap (λ l. readBounded l (countedAs 0 0 0 c)) (moved-front o)
+      ∙ model-moved bytes lent (sym (ap (λ x. x .0) (o .stated)) ∙ ok) c room (sym (ap (λ x. x .0) (r .stated)) ∙ was)
+      ∙ ap (λ x. (accepted, contents (x .1 .0) (x .1 .1) (over (nIn bytes) (λ v. lowest) (c .lows)) (over (nIn bytes) (λ v. highest) (c .highs)))) (sym (r .stated));
 }

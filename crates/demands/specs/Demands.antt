@@ -9,13 +9,14 @@ use lib.ListN.{length, set, take, drop}
 use Rattle.paper.specs.Lists.{nat, over}
 use Rattle.paper.specs.Net.{valuation, numbering, input-to-output}
 use Rattle.paper.specs.Tables.{Tables, net, valuesIn, order, index}
-use Rattle.paper.specs.Checks.{Verdict, accepted}
+use Rattle.paper.specs.Checks.{Verdict, accepted, lowest, highest}
 use Rattle.paper.specs.Log.{Log, logGood}
 use Rattle.paper.specs.Calls.{Session, blanksAmong, Answer, Accepted, Refused, numberOf, placeOf, evaluationsOf, answered, BuildLent, BuildLeft, startValues, Model, Tried, TrialLeft, Kept, KeepLeft, latest}
-use Rattle.paper.specs.File.{endsAt, held, counted}
-use Rattle.paper.specs.Demands.{buildAsWas, trialAsWas, keepAsWas, Circular, FivePassed, LeastUnnumbered, Fitting, cut, Lent, own, Lends, Call, keeps, takes, State, lentOf, modelOf, passedOn, ownModel, after, history, old, renewed, restored, evaluatedBy, Told, tried, triedSet, TrialRight, kept, KeepRight, taken, TakeRight}
+use Rattle.paper.specs.File.{Version, version1, version2, bounded, endsAs, endsAt, Contents, contents, held, heldAs, counted, countedAs, nIn, mIn, eIn}
+use Rattle.paper.specs.Demands.{buildAsWas, trialAsWas, keepAsWas, Circular, FivePassed, LeastUnnumbered, Fitting, FittingAs, cut, cutAs, Lent, own, Lends, Call, keeps, takes, State, lentOf, modelOf, passedOn, ownModel, after, history, old, renewed, restored, evaluatedBy, Told, tried, triedSet, TrialRight, kept, KeepRight, taken, TakeRight}
 use Rattle.demands.specs.Stated.{BuildOutcome, leftBuilt, TrialOutcome, leftTried, KeepOutcome, leftKept, TakeOutcome, leftTaken, WriteOutcome, leftWritten, ReadOutcome, leftRead}
 use Rattle.demands.specs.Refusals.{Line, Passes, Gives, buildTable, trialTable, keepTable, takeTable, writeTable, readTable}
+use Rattle.demands.specs.Versions.{WriteBoundedOutcome, leftWrittenBounded, ReadBoundedOutcome, leftReadBounded, MoveOutcome, leftMoved, writeBoundedTable, readBoundedTable, upTable, backTable}
 use Rattle.demands.specs.Runs.{ownOf, afterTrial, Run}
 
 -- ── demand 1: a call works, or refuses with the paper's number and place exactly where the table gives them, and then changes nothing ──
@@ -48,6 +49,16 @@ WriteWorks t starts lent = Works (writeTable t starts lent) (λ x. answered (x .
 abbrev pub ReadWorks : (bytes : List ℕ) (lent : Tables) (lentStarts : List ℤ) → Verdict × (Tables × List ℤ) → Type 0
 ReadWorks bytes lent lentStarts = Works (readTable bytes lent lentStarts) (λ x. answered (x .0) 0) (λ x. (x .0, (counted 0 0 0 lent, lentStarts)))
 
+-- of version 2, and of the moves between the versions
+abbrev pub WriteBoundedWorks : (c : Contents) (lent : List ℕ) → Verdict × List ℕ → Type 0
+WriteBoundedWorks c lent = Works (writeBoundedTable c lent) (λ x. answered (x .0) 0) (λ x. (x .0, lent))
+
+abbrev pub ReadBoundedWorks : (bytes : List ℕ) (lent : Contents) → Verdict × Contents → Type 0
+ReadBoundedWorks bytes lent = Works (readBoundedTable bytes lent) (λ x. answered (x .0) 0) (λ x. (x .0, countedAs 0 0 0 lent))
+
+abbrev pub MoveWorks : List Line → List ℕ → Verdict × (ℕ × List ℕ) → Type 0
+MoveWorks table lent = Works table (λ x. answered (x .0) 0) (λ x. (x .0, (0, lent)))
+
 pub record Demand1 : Type 0 where
   pub build : (l : BuildLent) (o : BuildOutcome l) → BuildWorks l (leftBuilt o)
   pub trial : (s : Session) (w : Model) (c : Tried) (o : TrialOutcome s w c) → TrialWorks s w c (leftTried o)
@@ -63,6 +74,14 @@ pub record Demand1 : Type 0 where
   pub write-one : (t : Tables) (starts : List ℤ) (lent : List ℕ) (o o′ : WriteOutcome t starts lent) → (o .answer ≡ o′ .answer) × (o .bytes ≡ o′ .bytes)
   pub read-one : (bytes : List ℕ) (lent : Tables) (lentStarts : List ℤ) (o o′ : ReadOutcome bytes lent lentStarts)
       → (o .answer ≡ o′ .answer) × (counted 0 0 0 (o .rows) ≡ counted 0 0 0 (o′ .rows)) × (o .starts ≡ o′ .starts)
+  -- files of version 2, and moves between the versions
+  pub write-bounded : (c : Contents) (lent : List ℕ) (o : WriteBoundedOutcome c lent) → WriteBoundedWorks c lent (leftWrittenBounded o)
+  pub read-bounded : (bytes : List ℕ) (lent : Contents) (o : ReadBoundedOutcome bytes lent) → ReadBoundedWorks bytes lent (leftReadBounded o)
+  pub to-version-2 : (bytes lent : List ℕ) (o : MoveOutcome version1 version2 bytes lent) → MoveWorks (upTable bytes lent) lent (leftMoved o)
+  pub to-version-1 : (bytes lent : List ℕ) (o : MoveOutcome version2 version1 bytes lent) → MoveWorks (backTable bytes lent) lent (leftMoved o)
+  pub write-bounded-one : (c : Contents) (lent : List ℕ) (o o′ : WriteBoundedOutcome c lent) → (o .answer ≡ o′ .answer) × (o .bytes ≡ o′ .bytes)
+  pub read-bounded-one : (bytes : List ℕ) (lent : Contents) (o o′ : ReadBoundedOutcome bytes lent) → (o .answer ≡ o′ .answer) × (countedAs 0 0 0 (o .rows) ≡ countedAs 0 0 0 (o′ .rows))
+  pub move-one : (from to : Version) (bytes lent : List ℕ) (o o′ : MoveOutcome from to bytes lent) → (o .answer ≡ o′ .answer) × (o .buffer ≡ o′ .buffer)
 
 -- ── demand 2: every value is the one its formula gives ──
 -- an accepted build
@@ -98,6 +117,26 @@ pub record Demand2 : Type 0 where
   pub written-back : (bytes : List ℕ) → ((i : ℕ) → nat bytes i < 256) → (t₀ : Tables) (starts₀ : List ℤ) (r : ReadOutcome bytes t₀ starts₀) → leftRead r .0 ≡ accepted
       → (lent : List ℕ) → length bytes ≤ length lent
       → (w : WriteOutcome (leftRead r .1 .0) (leftRead r .1 .1) lent) → leftWritten w ≡ (accepted, bytes ++ drop (length bytes) lent)
+  -- the same of version 2, with its bounds
+  pub read-back-bounded : (c : Contents) (lent : List ℕ) (w : WriteBoundedOutcome c lent) → FittingAs version2 c → leftWrittenBounded w .0 ≡ accepted
+      → let t = c .tables in (c₀ : Contents) → heldAs version2 (countedAs (t .n) (t .m) (t .e) c₀) ≡ true
+      → (r : ReadBoundedOutcome (take (endsAs version2 (t .n) (t .m) (t .e)) (w .bytes)) c₀) → (leftReadBounded r .0 ≡ accepted) × (cutAs version2 (leftReadBounded r .1) ≡ cutAs version2 c)
+  pub written-back-bounded : (bytes : List ℕ) → ((i : ℕ) → nat bytes i < 256) → (c₀ : Contents) (r : ReadBoundedOutcome bytes c₀) → leftReadBounded r .0 ≡ accepted
+      → (lent : List ℕ) → length bytes ≤ length lent
+      → (w : WriteBoundedOutcome (leftReadBounded r .1) lent) → leftWrittenBounded w ≡ (accepted, bytes ++ drop (length bytes) lent)
+  -- going up and back gives the same bytes, and so does going back and up, where each was accepted
+  pub up-and-back : (bytes : List ℕ) → ((i : ℕ) → nat bytes i < 256) → (lent : List ℕ) (o : MoveOutcome version1 version2 bytes lent) → leftMoved o .0 ≡ accepted
+      → (lent₂ : List ℕ) → length bytes ≤ length lent₂
+      → (p : MoveOutcome version2 version1 (take (leftMoved o .1 .0) (o .buffer)) lent₂) → leftMoved p ≡ (accepted, (length bytes, bytes ++ drop (length bytes) lent₂))
+  pub back-and-up : (bytes : List ℕ) → ((i : ℕ) → nat bytes i < 256) → (lent : List ℕ) (o : MoveOutcome version2 version1 bytes lent) → leftMoved o .0 ≡ accepted
+      → (lent₂ : List ℕ) → length bytes ≤ length lent₂
+      → (p : MoveOutcome version1 version2 (take (leftMoved o .1 .0) (o .buffer)) lent₂) → leftMoved p ≡ (accepted, (length bytes, bytes ++ drop (length bytes) lent₂))
+  -- a file of version 1 that was moved up is read to the same tables and start values, with full bounds
+  pub same-model : (bytes lent : List ℕ) (o : MoveOutcome version1 version2 bytes lent) → leftMoved o .0 ≡ accepted
+      → (c : Contents) → heldAs version2 (countedAs (nIn bytes) (mIn bytes) (eIn bytes) c) ≡ true
+      → (r : ReadOutcome bytes (c .tables) (c .starts)) → leftRead r .0 ≡ accepted
+      → (p : ReadBoundedOutcome (take (leftMoved o .1 .0) (o .buffer)) c) → let (t, s) = leftRead r .1 in
+      leftReadBounded p ≡ (accepted, contents t s (over (nIn bytes) (λ v. lowest) (c .lows)) (over (nIn bytes) (λ v. highest) (c .highs)))
 
 -- ── demand 3: over any run of trials, kept moves and takings back after an accepted build ──
 module _ {b : BuildLent} (start : BuildOutcome b) (room : List ℕ × List ℤ) (cs : List Call) (now : State) where

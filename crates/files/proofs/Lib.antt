@@ -1,5 +1,2 @@
-pub mod Widths
-pub mod Runs
-pub mod Signed
-pub mod Counted
 pub mod Answered
+pub mod Moving

@@ -1,28 +1,20 @@
-// The model file: `write` stores a model as bytes, and `read` lays the model that bytes hold over lent rows. Whatever a call is lent, it answers
-// and leaves what the paper says; a refused call changes nothing. The counts, the layout and the columns are also there for whoever takes a file
-// whose header is wrong behind its counts.
-mod columns;
-mod fields;
+// The model file in its two versions: `write` stores a model as bytes and `read` lays the model that bytes hold over lent rows, both of version 1;
+// `write_bounded` and `read_bounded` do so with bounds, in version 2; `to_version_2` and `to_version_1` make a file of the one a file of the other.
+// Whatever a call is lent, it answers and leaves what the paper says; a refused call changes nothing.
+mod convert;
 mod header;
-mod layout;
-mod lines;
+mod lay;
+mod store;
 
-pub use columns::lay_entries;
-pub use columns::lay_rows;
-pub use columns::lay_starts;
-pub use header::counts;
-pub use layout::ends_at;
-pub use layout::entries_at;
 ghost use mathlib.Core.Path.{_≡_};
 ghost use Rattle.paper.specs.Tables.{lent};
-ghost use Rattle.files.specs.Answers.{verdict, hasRead};
+ghost use Rattle.paper.specs.Checks.{accepted};
+ghost use Rattle.files.specs.Answers.{answer, verdict, hasRead, hasReadBounded, hasConverted};
 ghost use Rattle.paper.specs.File as File;
-use crate::header::header;
-use crate::header::put_header;
-use crate::lines::put_entries;
-use crate::lines::put_rows;
-use crate::lines::put_starts;
-use tables::sizes;
+use crate::convert::convert;
+use crate::header::counts_as;
+use crate::lay::read_as;
+use crate::store::write_as;
 
 // What a call that writes answers: the file stands in front of the bytes, or why not.
 pub enum Written {
@@ -36,7 +28,20 @@ pub enum Reading {
     Refused { number: u32, place: u32 },
 }
 
-// Stores the file of a model in front of the lent bytes.
+// What a move from one version to the other answers: the length of the new file, which stands in front of the buffer, or why not.
+pub enum Converted {
+    Accepted { length: usize },
+    Refused { number: u32, place: u32 },
+}
+
+// The counts that a file of version 1 states, or the first of its length, its version and its counts that is wrong.
+pub fn counts(bytes: &[u8]) -> Reading
+    ensures { λ r. ⌜ r ≡ answer (now (bytes .entry)) (File.headed (now (bytes .entry)) accepted) ⌝ }
+{
+    counts_as(bytes, false)
+}
+
+// Stores the file of a model, of version 1, in front of the lent bytes.
 pub fn write(
     n: usize,
     m: usize,
@@ -58,10 +63,13 @@ pub fn write(
         (now (starts .entry)) (now (bytes .entry))
         ⌝ }
 {
-    let held = sizes(
+    let none = [0i32; 0];
+    write_as(
+        false,
         n,
         m,
         e,
+        starts,
         kinds,
         makes,
         params,
@@ -69,28 +77,56 @@ pub fn write(
         counts,
         vars,
         coefs,
-        starts,
-    );
-    if !held {
-        return Written::Refused {
-            number: 1,
-            place: 0,
-        };
-    }
-    if bytes.len() < ends_at(n, m, e) {
-        return Written::Refused {
-            number: 1,
-            place: 0,
-        };
-    }
-    put_header(bytes, n, m, e);
-    put_starts(bytes, n, starts);
-    put_rows(bytes, n, m, kinds, makes, params, firsts, counts);
-    put_entries(bytes, n, m, e, vars, coefs);
-    Written::Accepted
+        &none,
+        &none,
+        bytes,
+    )
 }
 
-// Lays the model that a file holds over the lent rows.
+// Stores the file of a model with bounds, of version 2, in front of the lent bytes.
+pub fn write_bounded(
+    n: usize,
+    m: usize,
+    e: usize,
+    starts: &[i32],
+    kinds: &[u16],
+    makes: &[u16],
+    params: &[i32],
+    firsts: &[u16],
+    counts: &[u16],
+    vars: &[u16],
+    coefs: &[i16],
+    lows: &[i32],
+    highs: &[i32],
+    bytes: &mut [u8],
+) -> Written
+    ensures { λ r. ⌜
+        (verdict r, now (bytes .exit))
+        ≡ File.writeBounded (File.contents
+        (lent n m e (now (kinds .entry)) (now (makes .entry)) (now (params .entry)) (now (firsts .entry)) (now (counts .entry)) (now (vars .entry)) (now (coefs .entry)))
+        (now (starts .entry)) (now (lows .entry)) (now (highs .entry))) (now (bytes .entry))
+        ⌝ }
+{
+    write_as(
+        true,
+        n,
+        m,
+        e,
+        starts,
+        kinds,
+        makes,
+        params,
+        firsts,
+        counts,
+        vars,
+        coefs,
+        lows,
+        highs,
+        bytes,
+    )
+}
+
+// Lays the model that a file of version 1 holds over the lent rows.
 pub fn read(
     bytes: &[u8],
     starts: &mut [i32],
@@ -111,14 +147,12 @@ pub fn read(
         (now (starts .entry))
         ⌝ }
 {
-    let told = header(bytes);
-    let Reading::Accepted { n, m, e } = told else {
-        return told;
-    };
-    let held = sizes(
-        n,
-        m,
-        e,
+    let mut lows = [0i32; 0];
+    let mut highs = [0i32; 0];
+    read_as(
+        false,
+        bytes,
+        starts,
         kinds,
         makes,
         params,
@@ -126,16 +160,60 @@ pub fn read(
         counts,
         vars,
         coefs,
+        &mut lows,
+        &mut highs,
+    )
+}
+
+// Lays the model with bounds that a file of version 2 holds over the lent rows.
+pub fn read_bounded(
+    bytes: &[u8],
+    starts: &mut [i32],
+    kinds: &mut [u16],
+    makes: &mut [u16],
+    params: &mut [i32],
+    firsts: &mut [u16],
+    counts: &mut [u16],
+    vars: &mut [u16],
+    coefs: &mut [i16],
+    lows: &mut [i32],
+    highs: &mut [i32],
+) -> Reading
+    ensures { λ r. ⌜
+        hasReadBounded r (File.contents
+        (lent 0 0 0 (now (kinds .exit)) (now (makes .exit)) (now (params .exit)) (now (firsts .exit)) (now (counts .exit)) (now (vars .exit)) (now (coefs .exit)))
+        (now (starts .exit)) (now (lows .exit)) (now (highs .exit)))
+        ≡ File.readBounded (now (bytes .entry)) (File.contents
+        (lent 0 0 0 (now (kinds .entry)) (now (makes .entry)) (now (params .entry)) (now (firsts .entry)) (now (counts .entry)) (now (vars .entry)) (now (coefs .entry)))
+        (now (starts .entry)) (now (lows .entry)) (now (highs .entry)))
+        ⌝ }
+{
+    read_as(
+        true,
+        bytes,
         starts,
-    );
-    if !held {
-        return Reading::Refused {
-            number: 1,
-            place: 0,
-        };
-    }
-    lay_starts(bytes, n, starts);
-    lay_rows(bytes, n, m, kinds, makes, params, firsts, counts);
-    lay_entries(bytes, n, m, e, vars, coefs);
-    told
+        kinds,
+        makes,
+        params,
+        firsts,
+        counts,
+        vars,
+        coefs,
+        lows,
+        highs,
+    )
+}
+
+// Stores a file of version 1 as one of version 2, with all bounds full.
+pub fn to_version_2(bytes: &[u8], file: &mut [u8]) -> Converted
+    ensures { λ r. ⌜ hasConverted r (now (file .exit)) ≡ File.toVersion2 (now (bytes .entry)) (now (file .entry)) ⌝ }
+{
+    convert(false, true, bytes, file)
+}
+
+// Stores a file of version 2 as one of version 1, if it has only full bounds.
+pub fn to_version_1(bytes: &[u8], file: &mut [u8]) -> Converted
+    ensures { λ r. ⌜ hasConverted r (now (file .exit)) ≡ File.toVersion1 (now (bytes .entry)) (now (file .entry)) ⌝ }
+{
+    convert(true, false, bytes, file)
 }

@@ -13,13 +13,13 @@ use lib.Seq.{getD-set-same, getD-set-other}
 use borrow.Author.Tests.{leb-true, eqb-true, eqb-false}
 use Rattle.paper.specs.Lists.{any, total, nat, over}
 use Rattle.paper.specs.Tables.{Tables, lent}
-use Rattle.paper.specs.File.{endsAt, mIn, eIn}
+use Rattle.paper.specs.File.{version1, endsAt, mIn, eIn}
 use Rattle.paper.specs.Demands.{cut}
 use Rattle.paper.proofs.Lists.{and-left, and-right}
 use Rattle.paper.proofs.Buffers.{Filled, filled-end, over-at}
 use Rattle.paper.proofs.Scan.{any-append}
 use Rattle.paper.proofs.Sizes.{Sized}
-use Rattle.files.proofs.Counted.{counted-facts}
+use Rattle.layouts.proofs.Counted.{counted-facts}
 use Rattle.tables.proofs.Tests.{in-two}
 use Rattle.kept.specs.Saved.{given, rowWhole, entriesWhole, aloneGood, canKeep, keptRows}
 use Rattle.kept.specs.Scratch.{Laid, Kept}
@@ -32,7 +32,7 @@ enough : {A : Type 0} (n : ℕ) (f : ℕ → A) → n ≤ length (over n f [])
 enough n f = let h = over-long n f in omega arith
 
 pub gives-sized : {bytes : List ℕ} {t : Tables} → Gives bytes t → Sized t
-gives-sized {bytes} g = let h = counted-facts bytes (g .head) in rw (g .is) (record {
+gives-sized {bytes} g = let h = counted-facts version1 bytes (g .head) in rw (g .is) (record {
   n-some = h .n-some;
   n-most = h .n-most;
   m-most = h .m-most;

@@ -13,9 +13,9 @@ ghost use Rattle.paper.proofs.Sizes.{Sized};
 ghost use Rattle.kept.specs.Saved.{rowWhole, aloneGood, canKeep, keptRows};
 ghost use Rattle.kept.specs.Scratch.{Kept};
 ghost use Rattle.kept.specs.Keeping.{Gives, Taken};
-use files::ends_at;
-use files::entries_at;
 use integers::wide;
+use layouts::ends_at;
+use layouts::entries_at;
 use repeats::mark;
 use sound::row_checks;
 use tables::Answer;
@@ -25,7 +25,7 @@ fn row_whole(bytes: &[u8], n: usize, row: usize) -> bool
     requires { ⌜ (n ≡ nIn (now bytes)) × (n ≤ 4096) × (row < 4096) ⌝ }
     ensures { λ r. ⌜ r ≡ rowWhole (now (bytes .entry)) row ⌝ }
 {
-    entries_at(n, row + 1) <= bytes.len()
+    entries_at(24, n, row + 1) <= bytes.len()
 }
 
 // The entries of a row with this part are whole: they end within e and within the file.
@@ -37,7 +37,7 @@ fn entries_whole(bytes: &[u8], n: usize, m: usize, e: usize, first: u16, count: 
     if e < end {
         return false;
     }
-    ends_at(n, m, end) <= bytes.len()
+    ends_at(false, n, m, end) <= bytes.len()
 }
 
 // The row is good on its own: checks 2 to 4 accept a table of this row alone.

@@ -6,9 +6,9 @@ ghost use Rattle.paper.specs.Tables.{lent};
 ghost use Rattle.paper.specs.Checks.{accepted};
 ghost use Rattle.paper.specs.File.{headed, nIn, mIn, eIn};
 ghost use Rattle.kept.specs.Scratch.{Laid};
-use files::lay_entries;
-use files::lay_rows;
-use files::lay_starts;
+use layouts::lay_entries;
+use layouts::lay_rows;
+use layouts::lay_starts;
 
 // The byte at a place, 0 if the file lacks it.
 fn byte_at(bytes: &[u8], i: usize) -> u8
@@ -51,7 +51,7 @@ pub fn lay_given(
 {
     let mut file = [0u8; 131096];
     fill(bytes, &mut file);
-    lay_starts(&file, n, starts);
-    lay_rows(&file, n, m, kinds, makes, params, firsts, counts);
-    lay_entries(&file, n, m, e, vars, coefs);
+    lay_starts(&file, 24, n, starts);
+    lay_rows(&file, 24, n, m, kinds, makes, params, firsts, counts);
+    lay_entries(&file, 24, n, m, e, vars, coefs);
 }

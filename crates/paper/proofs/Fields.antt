@@ -7,7 +7,7 @@ use mathlib.Core.Bool.{Bool, true, false}
 use mathlib.Core.List.{List, [], _∷_, _++_}
 use mathlib.Core.Path.{_≡_, refl, ap, ap₂, sym, _∙_}
 use lib.Dec.{ltb}
-use lib.ListN.{length, drop, drop-of-length-le}
+use lib.ListN.{length, take, drop, take-append-drop, drop-of-length-le}
 use lib.Seq.{drop-cons}
 use borrow.Author.Tests.{ltb-true, ltb-false}
 use Rattle.paper.specs.Lists.{nat, joined}
@@ -28,6 +28,12 @@ pub stands-self : (b : List ℕ) → Stands b 0 b
 stands-self [] = tt
 stands-self (x ∷ b) = (refl, stands-behind x b 0 b (stands-self b))
 
+-- what is left from a place on stands there
+stands-drop : (b : List ℕ) (k : ℕ) → Stands b k (drop k b)
+stands-drop b zero = stands-self b
+stands-drop [] (suc k) = tt
+stands-drop (x ∷ b) (suc k) = stands-behind x b k (drop k b) (stands-drop b k)
+
 module _ (b : List ℕ) where
   -- bytes up to the end are all that is left
   pub stands-end : (k : ℕ) (xs : List ℕ) → length b ≡ k + length xs → Stands b k xs → xs ≡ drop k b
@@ -41,6 +47,12 @@ module _ (b : List ℕ) where
   pub stands-split : (k j : ℕ) (xs ys : List ℕ) → j ≡ k + length xs → Stands b k (xs ++ ys) → Stands b k xs × Stands b j ys
   stands-split k j [] ys e h = let z : j ≡ k = omega arith in (tt, rw z h)
   stands-split k j (x ∷ xs) ys e h = let s = stands-split (suc k) j xs ys (omega arith) (h .1) in ((h .0, s .0), s .1)
+
+  -- and so does a part of it
+  pub stands-part : (k n : ℕ) → Stands b k (take n (drop k b))
+  stands-part k n =
+      stands-split k (k + length (take n (drop k b))) (take n (drop k b)) (drop n (drop k b)) refl
+      (rw (take-append-drop n (drop k b)) (stands-drop b k)) .0
 
   -- ── a number ──
   stands-field : (w k x : ℕ) → x < 256 ^ w → Stands b k (bytesOf w x) → field w k b ≡ x

@@ -1,4 +1,4 @@
--- A small file byte by byte, and each refusal of the two calls, by computation. Assumes nothing.
+-- A small file byte by byte, in both versions, and each refusal of the calls, by computation. Assumes nothing.
 use Prim.Native.Nat.{ℕ, _+_}
 use mathlib.Core.Bool.{cond}
 use mathlib.Core.List.{List, [], _∷_, _++_, map}
@@ -8,8 +8,8 @@ use lib.Dec.{eqb}
 use lib.ListN.{take, drop, replicate}
 use Rattle.paper.specs.Lists.{every, below}
 use Rattle.paper.specs.Tables.{Tables, lent}
-use Rattle.paper.specs.Checks.{accepted, refused}
-use Rattle.paper.specs.File.{fileBytes, writeVerdict, write, counted, header, readVerdict, read}
+use Rattle.paper.specs.Checks.{accepted, refused, lowest, highest}
+use Rattle.paper.specs.File.{Version, version1, version2, Contents, contents, plain, counted, countedAs, fileBytesAs, writeVerdictAs, write, writeBounded, headerAs, readVerdictAs, read, readBounded, converted, convertVerdict, toVersion2, toVersion1}
 
 -- variable 1 is LINEAR of variable 0 with coefficient -2 and parameter 7; variable 0 starts at -2
 abbrev model : Tables
@@ -26,12 +26,12 @@ body = 254 ∷ 255 ∷ 255 ∷ 255 ∷ 0 ∷ 0 ∷ 0 ∷ 0 ∷ 1 ∷ 0 ∷ 1 ∷
 
 -- ── writing ──
 pub file-written : write model starts (replicate 49 9) ≡ (accepted, head ++ body ++ (9 ∷ []))
-unfolding writeVerdict fileBytes every
+unfolding writeVerdictAs fileBytesAs every
 file-written = refl
 
 -- a byte too few, and a start value too few
-pub write-refusals : writeVerdict model starts (replicate 47 9) ∷ writeVerdict model (take 1 starts) (replicate 48 9) ∷ [] ≡ replicate 2 (refused 1 0)
-unfolding writeVerdict every
+pub write-refusals : write model starts (replicate 47 9) .0 ∷ write model (take 1 starts) (replicate 48 9) .0 ∷ [] ≡ replicate 2 (refused 1 0)
+unfolding writeVerdictAs every
 write-refusals = refl
 
 -- ── reading ──
@@ -48,16 +48,16 @@ abbrev values : ℕ → List ℤ
 values short = pos 9 ∷ replicate (long short 7) (pos 9)
 
 pub file-read : read (head ++ body) (rows 8) (values 8 ++ (pos 9 ∷ [])) ≡ (accepted, (model, starts ++ (pos 9 ∷ [])))
-unfolding readVerdict header every
+unfolding readVerdictAs headerAs every
 file-read = refl
 
-pub short-refusals : below (λ short. readVerdict (head ++ body) (rows short) (values short)) 9 ≡ replicate 8 (refused 1 0) ++ (accepted ∷ [])
-unfolding readVerdict header every
+pub short-refusals : below (λ short. read (head ++ body) (rows short) (values short) .0) 9 ≡ replicate 8 (refused 1 0) ++ (accepted ∷ [])
+unfolding readVerdictAs headerAs every
 short-refusals = refl
 
 -- the head is judged first, and a refused call leaves the rows as they were
 pub file-refused : read (take 20 head) (rows 0) [] ≡ (refused 14 20, (counted 0 0 0 (rows 0), []))
-unfolding readVerdict header every
+unfolding readVerdictAs headerAs every
 file-refused = refl
 
 -- the file with another byte at k
@@ -71,6 +71,84 @@ wrong =
     ∷ (put 8 25, 8) ∷ (put 12 31, 12) ∷ (put 3 15, 12) ∷ (put 16 45, 16) ∷ (put 4 2, 16) ∷ (put 20 49, 20) ∷ (put 7 63, 20)
     ∷ (head ++ body ++ (0 ∷ []), 20) ∷ (head ++ take 23 body, 20) ∷ []
 
-pub head-refusals : map (λ w. header (w .0)) wrong ≡ map (λ w. refused 14 (w .1)) wrong
-unfolding header
+pub head-refusals : map (λ w. headerAs (w .0) version1) wrong ≡ map (λ w. refused 14 (w .1)) wrong
+unfolding headerAs
 head-refusals = refl
+
+-- ── version 2: the same model, variable 0 from -5 to 60 and variable 1 with full bounds ──
+abbrev head2 : List ℕ
+head2 = 2 ∷ 0 ∷ 2 ∷ 0 ∷ 1 ∷ 0 ∷ 1 ∷ 0 ∷ 28 ∷ 0 ∷ 0 ∷ 0 ∷ 36 ∷ 0 ∷ 0 ∷ 0 ∷ 48 ∷ 0 ∷ 0 ∷ 0 ∷ 68 ∷ 0 ∷ 0 ∷ 0 ∷ 52 ∷ 0 ∷ 0 ∷ 0 ∷ []
+
+abbrev full : List ℕ
+full = 1 ∷ 0 ∷ 0 ∷ 128 ∷ 255 ∷ 255 ∷ 255 ∷ 127 ∷ []
+
+abbrev narrow : List ℕ
+narrow = 251 ∷ 255 ∷ 255 ∷ 255 ∷ 60 ∷ 0 ∷ 0 ∷ 0 ∷ []
+
+abbrev file2 : List ℕ
+file2 = head2 ++ body ++ narrow ++ full
+
+abbrev lows : List ℤ
+lows = negsuc 4 ∷ lowest ∷ []
+
+abbrev highs : List ℤ
+highs = pos 60 ∷ highest ∷ []
+
+pub bounded-written : writeBounded (contents model starts lows highs) (replicate 69 9) ≡ (accepted, file2 ++ (9 ∷ []))
+unfolding writeVerdictAs fileBytesAs every
+bounded-written = refl
+
+-- a byte too few, and a bound too few of either kind
+pub bounded-write-refusals :
+    writeBounded (contents model starts lows highs) (replicate 67 9) .0 ∷ writeBounded (contents model starts (take 1 lows) highs) (replicate 68 9) .0
+    ∷ writeBounded (contents model starts lows (take 1 highs)) (replicate 68 9) .0 ∷ []
+    ≡ replicate 3 (refused 1 0)
+unfolding writeVerdictAs every
+bounded-write-refusals = refl
+
+-- a place more of the lowest, and one too few of the highest
+pub bounded-read : readBounded file2 (contents (rows 8) (values 8) (replicate 3 (pos 9)) (replicate 2 (pos 9))) ≡ (accepted, contents model starts (lows ++ (pos 9 ∷ [])) highs)
+unfolding readVerdictAs headerAs every
+bounded-read = refl
+
+pub bounded-refused :
+    readBounded file2 (contents (rows 8) (values 8) (replicate 2 (pos 9)) (pos 9 ∷ []))
+    ≡ (refused 1 0, countedAs 0 0 0 (contents (rows 8) (values 8) (replicate 2 (pos 9)) (pos 9 ∷ [])))
+unfolding readVerdictAs headerAs every
+bounded-refused = refl
+
+abbrev put2 : ℕ → ℕ → List ℕ
+put2 k x = take k file2 ++ (x ∷ drop (k + 1) file2)
+
+-- 28 for 24; the field behind the total is the last to be judged
+abbrev wrong2 : List (List ℕ × ℕ)
+wrong2 =
+    (head ++ body, 0) ∷ (take 27 head2, 27) ∷ (take 24 head, 24) ∷ (put2 0 1, 0) ∷ (put2 2 0, 2) ∷ (put2 4 3, 4) ∷ (put2 7 64, 6) ∷ (put2 8 24, 8) ∷ (put2 12 32, 12)
+    ∷ (put2 16 44, 16) ∷ (put2 20 52, 20) ∷ (put2 24 68, 24) ∷ (file2 ++ (0 ∷ []), 20) ∷ (take 67 file2, 20) ∷ []
+
+pub head2-refusals : map (λ w. headerAs (w .0) version2) wrong2 ≡ map (λ w. refused 14 (w .1)) wrong2
+unfolding headerAs
+head2-refusals = refl
+
+-- and a file of version 2 is none of version 1
+pub head2-not-1 : headerAs file2 version1 ≡ refused 14 0
+unfolding headerAs
+head2-not-1 = refl
+
+-- ── from one version to the other ──
+pub moved-up : toVersion2 (head ++ body) (replicate 69 9) ≡ (accepted, (68, head2 ++ body ++ full ++ full ++ (9 ∷ [])))
+unfolding convertVerdict converted headerAs
+moved-up = refl
+
+pub moved-back : toVersion1 (head2 ++ body ++ full ++ full) (replicate 48 9) ≡ (accepted, (48, head ++ body))
+unfolding convertVerdict converted headerAs
+moved-back = refl
+
+-- bounds of variable 0 would be lost, even where the buffer is short too; a bound of variable 1; a short buffer; the header comes first
+pub moved-refusals :
+    toVersion1 file2 [] ∷ toVersion1 (head2 ++ body ++ full ++ narrow) (replicate 48 9) ∷ toVersion1 (head2 ++ body ++ full ++ full) (replicate 47 9)
+    ∷ toVersion2 (head ++ body) (replicate 67 9) ∷ toVersion1 (head ++ body) [] ∷ toVersion2 file2 [] ∷ []
+    ≡ (refused 18 0, (0, [])) ∷ (refused 18 1, (0, replicate 48 9)) ∷ (refused 1 0, (0, replicate 47 9))
+    ∷ (refused 1 0, (0, replicate 67 9)) ∷ (refused 14 0, (0, [])) ∷ (refused 14 0, (0, [])) ∷ []
+unfolding convertVerdict converted headerAs
+moved-refusals = refl

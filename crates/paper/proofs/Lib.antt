@@ -31,11 +31,13 @@ pub mod Ranges
 pub mod Bytes
 pub mod Written
 pub mod Fields
-pub mod Shown
 pub mod Reading
+pub mod Heads
+pub mod Shown
 pub mod Rewritten
 pub mod Reread
 pub mod RoundTrips
+pub mod Converted
 pub mod FileRuns
 pub mod Proved
 pub mod Demands

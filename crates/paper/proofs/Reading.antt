@@ -1,4 +1,5 @@
--- The outcome of a call that reads: the header is refused, or a lent row is too short, or each column is laid over its row. Assumes nothing.
+-- The outcome of a call that reads, whatever the version: the header is refused, or a lent row is too short, or each column is laid over its
+-- row. Assumes nothing.
 use Prim.Native.Nat.{ℕ, _≤_}
 use mathlib.Core.Bool.{Bool, true, false, _&&_}
 use mathlib.Core.List.{List, [], _∷_, map}
@@ -9,11 +10,11 @@ use lib.ListN.{length}
 use borrow.Author.Tests.{leb-true, le-leb, eqb-true, eq-eqb}
 use Rattle.paper.specs.Lists.{between}
 use Rattle.paper.specs.Tables.{Tables, lent}
-use Rattle.paper.specs.Checks.{Verdict, accepted, refused, require, leaves}
-use Rattle.paper.specs.File.{field, rowsAt, entriesAt, endsAt, held, header, counted, nIn, mIn, eIn, laid, readVerdict, read}
+use Rattle.paper.specs.Checks.{Verdict, accepted, refused, require}
+use Rattle.paper.specs.File.{field, Version, versionNumber, headOf, rowsFrom, entriesFrom, endsAs, Contents, contents, countedAs, heldAs, nIn, mIn, eIn, boundsTold, headerAs, laidAs, readVerdictAs, readAs}
 use Rattle.paper.proofs.Lists.{and-left, and-right, Each}
 use Rattle.paper.proofs.Least.{between-in}
-use Rattle.paper.proofs.Verdicts.{require-held, require-rest, require-next}
+use Rattle.paper.proofs.Verdicts.{then-first, require-held, require-rest, require-next}
 
 -- ── check 14: one test after another, each with its place ──
 abbrev judged : List (ℕ × Bool) → Verdict
@@ -28,7 +29,7 @@ each-judged : (tests : List (ℕ × Bool)) → Each (map (λ test. test .1) test
 each-judged [] h = refl
 each-judged ((place, good) ∷ rest) h = require-next 14 place good (judged rest) (h .0) ∙ each-judged rest (h .1)
 
-module _ (bytes : List ℕ) where
+module _ (v : Version) (bytes : List ℕ) where
   abbrev n : ℕ
   n = nIn bytes
 
@@ -38,63 +39,68 @@ module _ (bytes : List ℕ) where
   abbrev e : ℕ
   e = eIn bytes
 
+  abbrev h : ℕ
+  h = headOf v
+
   -- those of the header
   abbrev tests : List (ℕ × Bool)
   tests =
-      (length bytes, leb 24 (length bytes)) ∷ (0, eqb (field 2 0 bytes) 1) ∷ (2, between 1 n 4096) ∷ (4, leb m n) ∷ (6, leb e 16384)
-      ∷ (8, eqb (field 4 8 bytes) 24) ∷ (12, eqb (field 4 12 bytes) (rowsAt n)) ∷ (16, eqb (field 4 16 bytes) (entriesAt n m))
-      ∷ (20, eqb (field 4 20 bytes) (endsAt n m e) && eqb (length bytes) (endsAt n m e)) ∷ []
+      (length bytes, leb h (length bytes)) ∷ (0, eqb (field 2 0 bytes) (versionNumber v)) ∷ (2, between 1 n 4096) ∷ (4, leb m n) ∷ (6, leb e 16384)
+      ∷ (8, eqb (field 4 8 bytes) h) ∷ (12, eqb (field 4 12 bytes) (rowsFrom h n)) ∷ (16, eqb (field 4 16 bytes) (entriesFrom h n m))
+      ∷ (20, eqb (field 4 20 bytes) (endsAs v n m e) && eqb (length bytes) (endsAs v n m e)) ∷ (24, boundsTold bytes v) ∷ []
 
   -- what they say
   pub record Headed : Type 0 where
-    pub long : 24 ≤ length bytes
-    pub version : field 2 0 bytes ≡ 1
+    pub long : h ≤ length bytes
+    pub version : field 2 0 bytes ≡ versionNumber v
     pub n-some : 1 ≤ n
     pub n-most : n ≤ 4096
     pub m-most : m ≤ n
     pub e-most : e ≤ 16384
-    pub starts : field 4 8 bytes ≡ 24
-    pub rows : field 4 12 bytes ≡ rowsAt n
-    pub entries : field 4 16 bytes ≡ entriesAt n m
-    pub end : field 4 20 bytes ≡ endsAt n m e
-    pub whole : length bytes ≡ endsAt n m e
+    pub starts : field 4 8 bytes ≡ h
+    pub rows : field 4 12 bytes ≡ rowsFrom h n
+    pub entries : field 4 16 bytes ≡ entriesFrom h n m
+    pub end : field 4 20 bytes ≡ endsAs v n m e
+    pub whole : length bytes ≡ endsAs v n m e
+    pub bounds : boundsTold bytes v ≡ true
 
-  pub headed : header bytes ≡ accepted → Headed
-  unfolding header
-  headed h = let passed = judged-each tests h in search (leb-true, eqb-true, and-left, and-right)
+  pub headed : headerAs bytes v ≡ accepted → Headed
+  unfolding headerAs
+  headed a = let passed = judged-each tests a in search (leb-true, eqb-true, and-left, and-right)
 
-  pub header-of : Headed → header bytes ≡ accepted
-  unfolding header
-  header-of h = let last = ap₂ _&&_ (eq-eqb _ _ (h .end)) (eq-eqb _ _ (h .whole)) in each-judged tests (search (le-leb, eq-eqb, between-in) depth 10)
+  pub header-of : Headed → headerAs bytes v ≡ accepted
+  unfolding headerAs
+  header-of a = let last = ap₂ _&&_ (eq-eqb _ _ (a .end)) (eq-eqb _ _ (a .whole)) in each-judged tests (search (le-leb, eq-eqb, between-in) depth 11)
 
   -- ── the call ──
-  module _ (t : Tables) (starts : List ℤ) where
-    pub read-refused : (number place : ℕ) → header bytes ≡ refused number place
-        → _≡_ {A = Verdict × (Tables × List ℤ)} (refused number place, (counted 0 0 0 t, starts)) (read bytes t starts)
-    unfolding readVerdict
-    read-refused number place h = simp h
+  module _ (c : Contents) where
+    pub read-refused : (number place : ℕ) → headerAs bytes v ≡ refused number place
+        → _≡_ {A = Verdict × Contents} (refused number place, countedAs 0 0 0 c) (readAs v bytes c)
+    unfolding readVerdictAs
+    read-refused number place a = simp a
 
-    pub read-short : header bytes ≡ accepted → held (counted n m e t) starts ≡ false
-        → _≡_ {A = Verdict × (Tables × List ℤ)} (refused 1 0, (counted 0 0 0 t, starts)) (read bytes t starts)
-    unfolding readVerdict
-    read-short h l = simp (h, l)
+    pub read-short : headerAs bytes v ≡ accepted → heldAs v (countedAs n m e c) ≡ false
+        → _≡_ {A = Verdict × Contents} (refused 1 0, countedAs 0 0 0 c) (readAs v bytes c)
+    unfolding readVerdictAs
+    read-short a l = simp (a, l)
 
-    pub read-done : header bytes ≡ accepted → held (counted n m e t) starts ≡ true → {after : Tables × List ℤ} → after ≡ laid bytes n m e t starts
-        → _≡_ {A = Verdict × (Tables × List ℤ)} (accepted, after) (read bytes t starts)
-    unfolding readVerdict
-    read-done h l q = simp (h, l) (ap (λ z. (accepted, z)) q)
+    pub read-done : headerAs bytes v ≡ accepted → heldAs v (countedAs n m e c) ≡ true → {after : Contents} → after ≡ laidAs bytes n m e v c
+        → _≡_ {A = Verdict × Contents} (accepted, after) (readAs v bytes c)
+    unfolding readVerdictAs
+    read-done a l q = simp (a, l) (ap (λ z. (accepted, z)) q)
 
     -- what is accepted had an accepted header
-    pub read-headed : readVerdict bytes t starts ≡ accepted → header bytes ≡ accepted
-    unfolding readVerdict
-    read-headed = go (header bytes) (require 1 0 (held (counted n m e t) starts) accepted)
-      where
-        go : (v w : Verdict) → leaves v w v ≡ accepted → v ≡ accepted
-        go accepted w h = refl
-        go (refused number place) w h = h
+    pub read-headed : readVerdictAs v bytes c ≡ accepted → headerAs bytes v ≡ accepted
+    unfolding readVerdictAs
+    read-headed = then-first (headerAs bytes v) (require 1 0 (heldAs v (countedAs n m e c)) accepted)
 
 -- a model is its counts and its rows: the columns may be laid one by one
 pub same-rows : {n m e : ℕ} {kinds kinds′ makes makes′ firsts firsts′ counts counts′ vars vars′ : List ℕ} {params params′ coefs coefs′ starts starts′ : List ℤ}
     → starts ≡ starts′ → kinds ≡ kinds′ → makes ≡ makes′ → params ≡ params′ → firsts ≡ firsts′ → counts ≡ counts′ → vars ≡ vars′ → coefs ≡ coefs′
     → _≡_ {A = Tables × List ℤ} (lent n m e kinds makes params firsts counts vars coefs, starts) (lent n m e kinds′ makes′ params′ firsts′ counts′ vars′ coefs′, starts′)
 same-rows s k a p f c v o = cc
+
+-- and so are contents
+pub same-contents : {t t′ : Tables} {starts starts′ lows lows′ highs highs′ : List ℤ} → _≡_ {A = Tables × List ℤ} (t, starts) (t′, starts′) → lows ≡ lows′ → highs ≡ highs′
+    → contents t starts lows highs ≡ contents t′ starts′ lows′ highs′
+same-contents {t} {t′} {starts} {starts′} {lows} {lows′} {highs} p l h = ap (λ (z : Tables × List ℤ). contents (z .0) (z .1) lows highs) p ∙ ap₂ (contents t′ starts′) l h

@@ -8,7 +8,7 @@ use lib.ListN.{length}
 use borrow.Author.Tests.{leb-true, le-leb}
 use Rattle.paper.specs.Tables.{Tables}
 use Rattle.paper.specs.Checks.{sized}
-use Rattle.paper.specs.File.{held}
+use Rattle.paper.specs.File.{Version, bounded, Contents, held, heldAs}
 use Rattle.paper.proofs.Lists.{and-left, and-right, each, all-yes}
 use Rattle.paper.proofs.Least.{between-in}
 
@@ -38,3 +38,17 @@ module _ (t : Tables) where
 
     pub held-of : Sized t → t .n ≤ length starts → held t starts ≡ true
     held-of s h = ap₂ _&&_ (sized-of s) (le-leb _ _ h)
+
+-- ── what a file of either version asks of the rows ──
+pub record Held (v : Version) (c : Contents) : Type 0 where
+  pub sized : Sized (c .tables)
+  pub starts : c .tables .n ≤ length (c .starts)
+  pub lows : bounded v (c .tables .n) ≤ length (c .lows)
+  pub highs : bounded v (c .tables .n) ≤ length (c .highs)
+
+module _ (v : Version) (c : Contents) where
+  pub held-as-facts : heldAs v c ≡ true → Held v c
+  held-as-facts h = search (sized-facts, leb-true, and-left, and-right)
+
+  pub held-as-of : Held v c → heldAs v c ≡ true
+  held-as-of s = ap₂ _&&_ (ap₂ _&&_ (le-leb _ _ (s .lows)) (le-leb _ _ (s .highs))) (held-of (c .tables) (c .starts) (s .sized) (s .starts))

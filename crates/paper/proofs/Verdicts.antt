@@ -25,6 +25,14 @@ same-place e = cc
 abbrev pub andThen : Verdict → Verdict → Verdict
 andThen first second = leaves first second first
 
+pub then-first : (a b : Verdict) → andThen a b ≡ accepted → a ≡ accepted
+then-first accepted b h = refl
+then-first (refused number place) b h = h
+
+pub then-second : (a b : Verdict) → andThen a b ≡ accepted → b ≡ accepted
+then-second accepted b h = h
+then-second (refused number place) b h = refused-not h
+
 pub then-then : (a b c : Verdict) → andThen (andThen a b) c ≡ andThen a (andThen b c)
 then-then accepted b c = refl
 then-then (refused number place) b c = refl

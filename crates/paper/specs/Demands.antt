@@ -11,10 +11,10 @@ use mir.Val.{SFits}
 use Rattle.paper.specs.Lists.{nat, size, tally, over}
 use Rattle.paper.specs.Net.{Net, Values, Route, Depends, numbering, number, valuation, afresh, moved, names, evaluated, input-to-output}
 use Rattle.paper.specs.Tables.{Tables, Index, lent, net, inputsOf, order, index}
-use Rattle.paper.specs.Checks.{Verdict, accepted, refused, require, leaves, Bounds, tableChecks, Move, movePairs}
+use Rattle.paper.specs.Checks.{Verdict, accepted, refused, require, leaves, Bounds, lowest, highest, tableChecks, Move, movePairs}
 use Rattle.paper.specs.Log.{Log, logIn, logged, logGood}
 use Rattle.paper.specs.Calls.{Session, blanksAmong, Answer, Accepted, numberOf, placeOf, evaluationsOf, BuildLent, BuildLeft, startValues, buildFits, build, Model, Tried, TrialLeft, askedList, routeOf, trial, trialVerdict, Kept, KeepLeft, keep, keepVerdict, latest, takeBack, takeVerdict}
-use Rattle.paper.specs.File.{endsAt, held, write, counted, read}
+use Rattle.paper.specs.File.{Version, version1, version2, bounded, endsAs, endsAt, Contents, contents, held, heldAs, writeAs, write, counted, countedAs, readAs, nIn, mIn, eIn, read, convert}
 
 -- ── demand 1: a call works, or refuses with a number of its own and changes nothing ──
 -- everything but the answer as it was
@@ -43,6 +43,10 @@ pub record Demand1 : Type 0 where
       → takeBack s l w flags ≡ keepAsWas s l w flags (takeBack s l w flags .answer)
   pub write-refused : (t : Tables) (starts : List ℤ) (bytes : List ℕ) → (write t starts bytes .0 ≡ accepted → ⊥) → write t starts bytes ≡ (refused 1 0, bytes)
   pub read-refused : (bytes : List ℕ) (t : Tables) (starts : List ℤ) → (read bytes t starts .0 ≡ accepted → ⊥) → read bytes t starts .1 ≡ (counted 0 0 0 t, starts)
+  -- files of either version, and moves between them
+  pub write-as-refused : (v : Version) (c : Contents) (bytes : List ℕ) → (writeAs v c bytes .0 ≡ accepted → ⊥) → writeAs v c bytes ≡ (refused 1 0, bytes)
+  pub read-as-refused : (v : Version) (bytes : List ℕ) (c : Contents) → (readAs v bytes c .0 ≡ accepted → ⊥) → readAs v bytes c .1 ≡ countedAs 0 0 0 c
+  pub convert-refused : (from to : Version) (bytes file : List ℕ) → (convert from to bytes file .0 ≡ accepted → ⊥) → convert from to bytes file .1 ≡ (0, file)
 
 -- ── demand 2: numbers, values and files are what the paper says ──
 module _ (N : Net) where
@@ -120,11 +124,60 @@ WrittenBack =
     → (buffer : List ℕ) → length bytes ≤ length buffer
     → write (read bytes t₀ starts₀ .1 .0) (read bytes t₀ starts₀ .1 .1) buffer ≡ (accepted, bytes ++ drop (length bytes) buffer)
 
+-- the same of either version: bounds are held in version 2 alone
+module _ (v : Version) where
+  pub record FittingAs (c : Contents) : Type 0 where
+    pub model : Fitting (c .tables) (c .starts)
+    pub bounds : (i : ℕ) → i < bounded v (c .tables .n) → SFits w32 (getD (c .lows) i (pos 0)) × SFits w32 (getD (c .highs) i (pos 0))
+
+  abbrev pub cutAs : Contents → Contents
+  cutAs c = let (t, s) = cut (c .tables, c .starts) in let k = bounded v (c .tables .n) in contents t s (take k (c .lows)) (take k (c .highs))
+
+  abbrev pub ReadBackAs : Type 0
+  ReadBackAs =
+      (c : Contents) (bytes : List ℕ) → FittingAs c → writeAs v c bytes .0 ≡ accepted
+      → let t = c .tables in (c₀ : Contents) → heldAs v (countedAs (t .n) (t .m) (t .e) c₀) ≡ true
+      → let file = take (endsAs v (t .n) (t .m) (t .e)) (writeAs v c bytes .1) in
+      (readAs v file c₀ .0 ≡ accepted) × (cutAs (readAs v file c₀ .1) ≡ cutAs c)
+
+  abbrev pub WrittenBackAs : Type 0
+  WrittenBackAs =
+      (bytes : List ℕ) → ((i : ℕ) → nat bytes i < 256) → (c₀ : Contents) → readAs v bytes c₀ .0 ≡ accepted
+      → (buffer : List ℕ) → length bytes ≤ length buffer
+      → writeAs v (readAs v bytes c₀ .1) buffer ≡ (accepted, bytes ++ drop (length bytes) buffer)
+
+-- a file that was moved to another version comes back the same, into any buffer that holds it
+abbrev pub ThereAndBack : Version → Version → Type 0
+ThereAndBack from to =
+    (bytes : List ℕ) → ((i : ℕ) → nat bytes i < 256) → (file : List ℕ) → convert from to bytes file .0 ≡ accepted
+    → (buffer : List ℕ) → length bytes ≤ length buffer
+    → let (end, moved) = convert from to bytes file .1 in
+    convert to from (take end moved) buffer ≡ (accepted, (length bytes, bytes ++ drop (length bytes) buffer))
+
+-- it is read there to the same tables and start values, into any rows that hold it, and with full bounds
+abbrev pub SameModel : Version → Version → Type 0
+SameModel from to =
+    (bytes file : List ℕ) → convert from to bytes file .0 ≡ accepted
+    → (c : Contents) → readAs from bytes c .0 ≡ accepted → heldAs to (countedAs (nIn bytes) (mIn bytes) (eIn bytes) c) ≡ true
+    → let (end, moved) = convert from to bytes file .1 in let there = readAs from bytes c .1 in let k = bounded to (nIn bytes) in
+    readAs to (take end moved) c ≡ (accepted, contents (there .tables) (there .starts) (over k (λ v. lowest) (c .lows)) (over k (λ v. highest) (c .highs)))
+
+abbrev pub UpAndBack : Type 0
+UpAndBack = ThereAndBack version1 version2
+
+abbrev pub BackAndUp : Type 0
+BackAndUp = ThereAndBack version2 version1
+
 pub record Demand2 : Type 0 where
   pub build-accepted : (b : BuildLent) → numberOf (build b .answer) ≡ 0 → BuildRight b
   pub build-circular : (b : BuildLent) → CircularExactly b
   pub read-back : ReadBack
   pub written-back : WrittenBack
+  pub read-back-as : (v : Version) → ReadBackAs v
+  pub written-back-as : (v : Version) → WrittenBackAs v
+  pub up-and-back : UpAndBack
+  pub back-and-up : BackAndUp
+  pub same-model : (from to : Version) → SameModel from to
 
 -- ── demand 3: over any run of trials, keeps and takings back after an accepted build ──
 -- All that a call is lent is free but the session record. A run lists its calls with the latest first, so what holds after every run holds after

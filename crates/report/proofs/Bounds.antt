@@ -20,7 +20,7 @@ use Rattle.paper.specs.Net.{Values, runs, number, afresh}
 use Rattle.paper.specs.Tables.{Tables, net, isMade, inputsOf, rowOf, formOf, valuesIn}
 use Rattle.paper.specs.Checks.{Verdict, accepted, refused, leaves, Sound}
 use Rattle.paper.specs.Calls.{BuildLent, BuildLeft, buildVerdict, buildLeaves, build, startValues}
-use Rattle.paper.specs.File.{column, counted, laid, nIn, mIn, eIn, startsIn, readVerdict, read}
+use Rattle.paper.specs.File.{version1, Contents, plain, countedAs, column, nIn, mIn, eIn, startsIn, laidAs, readVerdictAs, read}
 use Rattle.paper.proofs.Buffers.{over-at}
 use Rattle.paper.proofs.Accept.{sound-row, made-row}
 use Rattle.paper.proofs.Sizes.{sized-facts}
@@ -108,7 +108,7 @@ module _ (b : BuildLent) (from : (v : ℕ) → v < b .tables .n → good (getD (
 module _ (file : List ℕ) (t₀ : Tables) (starts₀ : List ℤ) where
   read-length : length (ofRead (read file t₀ starts₀)) ≤ 90112
   unfolding ofTables
-  read-length = go (readVerdict file t₀ starts₀)
+  read-length = go (readVerdictAs version1 file (plain t₀ starts₀))
     where
       n : ℕ
       n = nIn file
@@ -116,7 +116,10 @@ module _ (file : List ℕ) (t₀ : Tables) (starts₀ : List ℤ) where
       from : (v : ℕ) → v < n → good (getD (startsIn file n (mIn file) (eIn file) starts₀) v (pos 0)) ≡ true
       from v l = ap good (over-at (λ u. toZ w32 (column file 4 24 4 u)) n starts₀ v (pos 0) l) ∙ bits-good (column file 4 24 4 v)
 
-      go : (u : Verdict) → length (ofRead (u, leaves u (laid file n (mIn file) (eIn file) t₀ starts₀) (counted 0 0 0 t₀, starts₀))) ≤ 90112
+      after : Verdict → Contents
+      after u = leaves u (laidAs file (nIn file) (mIn file) (eIn file) version1 (plain t₀ starts₀)) (countedAs 0 0 0 (plain t₀ starts₀))
+
+      go : (u : Verdict) → length (ofRead (u, (after u .tables, after u .starts))) ≤ 90112
       go accepted = built-length (fresh _ _) from
       go (refused number place) = let h = refusal-length number place in omega arith
 

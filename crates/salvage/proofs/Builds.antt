@@ -20,7 +20,7 @@ use Rattle.paper.specs.Formula.{blank}
 use Rattle.paper.specs.Tables.{Tables, isMade, ends, valuesIn}
 use Rattle.paper.specs.Checks.{accepted, sized, boundGood, within, startGood, inBounds, startAllowed, Sound}
 use Rattle.paper.specs.Calls.{BuildLent, startValues, buildFits, buildVerdict}
-use Rattle.paper.specs.File.{held, nIn, mIn, eIn}
+use Rattle.paper.specs.File.{version1, plain, held, nIn, mIn, eIn}
 use Rattle.paper.specs.Demands.{Fitting, cut}
 use Rattle.paper.proofs.Lists.{and-left, and-right}
 use Rattle.paper.proofs.Buffers.{length-below, getD-below}
@@ -28,6 +28,7 @@ use Rattle.paper.proofs.Verdicts.{check-next, require-next}
 use Rattle.paper.proofs.Sizes.{held-of}
 use Rattle.paper.proofs.Accept.{tables-next}
 use Rattle.paper.proofs.Reread.{reread, cut-back}
+use Rattle.paper.proofs.RoundTrips.{fitting-plain}
 use Rattle.kept.specs.Saved.{packed, given, startGiven, keptRows, stands, startWhole, savedTables, startKept, savedStarts, savedFile}
 use Rattle.salvage.specs.Promises.{Readable, AllFull, Builds, SalvageBuilds}
 use Rattle.kept.proofs.Packed.{Rows, packed-sized, packed-sound}
@@ -142,8 +143,9 @@ module _ (bytes : List ℕ) (ok : Readable bytes) where
   unfolding savedFile
   builds = record {
     reads = λ t₀ starts₀ h.
-        subst (λ back. (back .0 ≡ accepted) × (cut (back .1) ≡ cut (S, savedStarts bytes))) (reread S (savedStarts bytes) holds fits t₀ starts₀ h)
-        (refl, cut-back S (savedStarts bytes) holds fits t₀ starts₀);
+        let own = plain S (savedStarts bytes) in let into = plain t₀ starts₀ in let fit = fitting-plain fits in
+        subst (λ back. (back .0 ≡ accepted) × (cut (back .1 .tables, back .1 .starts) ≡ cut (S, savedStarts bytes))) (reread version1 own holds fit into h)
+        (refl, ap (λ c. (c .tables, c .starts)) (cut-back version1 own holds fit into));
     builds = build-accepts S (savedStarts bytes) sound chains starts-good start-fits;
   }
 

@@ -10,7 +10,7 @@ use lib.IntN.{ℤ, pos}
 use lib.ListN.{length, getD, drop, length-append}
 use borrow.Author.Tests.{leb-true}
 use Rattle.paper.specs.Checks.{Verdict, accepted, refused, require, Sound}
-use Rattle.paper.specs.File.{field, endsAt, fileBytes, nIn, mIn, eIn, headed, write}
+use Rattle.paper.specs.File.{field, version1, endsAt, plain, fileBytes, nIn, mIn, eIn, headed, write}
 use Rattle.paper.specs.Lists.{any, between, those}
 use Rattle.paper.specs.Tables.{Tables}
 use Rattle.paper.proofs.Buffers.{length-below}
@@ -140,7 +140,7 @@ module _ (bytes : List ℕ) (m : ℕ) (t : Tables) (starts : List ℤ) (row take
   file-is = sym (ap₂ fileBytes (R .tables) (R .values))
 
   long-is : length (savedFile bytes) ≡ endsAt (t .n) (t .m) (t .e)
-  long-is = ap length file-is ∙ file-length t starts
+  long-is = ap length file-is ∙ file-length version1 (plain t starts)
 
   rows-are : droppedRows bytes ≡ flagged false row m
   rows-are = sym (those-same (λ r. not (getD row r false)) (λ r. not (stands bytes r)) m (λ r l. ap not (R .standing r l)) ∙ ap (those (λ r. not (stands bytes r))) (R .rows))
@@ -172,7 +172,7 @@ module _ (bytes : List ℕ) (m : ℕ) (t : Tables) (starts : List ℤ) (row take
           → left (Accepted size rows values) after put ≡ salvage (lends bytes file list)
       ready-done {v} {after} {put} b w =
           let l = leb-true size (length file) (and-left (leb size (length file)) (leb (rows + values) (length list)) h) in
-          let whole = write-whole t starts file (held-of t starts ready-sized starts-long) (omega arith) in
+          let whole = write-whole version1 (plain t starts) file (held-of t starts ready-sized starts-long) (omega arith) in
           let written : after ≡ fileBytes t starts ++ drop (endsAt (t .n) (t .m) (t .e)) file = ap (λ (z : Verdict × List ℕ). z .1) (w ∙ sym whole) in
           same (e ∙ sym long-is) (p ∙ ap length (sym rows-are)) (q ∙ ap length (sym values-are))
           (written ∙ ap₂ (λ f k. f ++ drop k file) (sym file-is) (sym long-is))

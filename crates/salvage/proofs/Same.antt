@@ -14,7 +14,7 @@ use borrow.Author.Tests.{le-leb}
 use Rattle.paper.specs.Lists.{any, total, nat, those}
 use Rattle.paper.specs.Tables.{Tables, lent, ends, valuesIn}
 use Rattle.paper.specs.Checks.{accepted, leaves, startGood, Sound}
-use Rattle.paper.specs.File.{fileBytes, rowsAt, entriesAt, endsAt, nIn, mIn, eIn, header, counted, laid}
+use Rattle.paper.specs.File.{version1, rowsAt, entriesAt, endsAt, plain, countedAs, fileBytes, nIn, mIn, eIn, header, laidAs}
 use Rattle.paper.specs.Demands.{cut}
 use Rattle.paper.proofs.Lists.{all-yes}
 use Rattle.paper.proofs.Those.{those-same}
@@ -44,8 +44,8 @@ module _ (bytes : List ℕ) (small : (i : ℕ) → nat bytes i < 256) (good : he
   abbrev m : ℕ
   m = mIn bytes
 
-  head : Headed bytes
-  head = headed bytes good
+  head : Headed version1 bytes
+  head = headed version1 bytes good
 
   -- ── the rows ──
   keeps-row : (r : ℕ) → r < m → keptRows bytes r ≡ numbers r → canKeep bytes (keptRows bytes r) r ≡ true
@@ -92,13 +92,13 @@ module _ (bytes : List ℕ) (small : (i : ℕ) → nat bytes i < 256) (good : he
   pub same : Same bytes
   unfolding savedFile savedList
   same = record {
-    file = ap₂ fileBytes tables-same starts-same ∙ rewritten bytes good (lent 0 0 0 [] [] [] [] [] [] []) [] small;
+    file = ap₂ fileBytes tables-same starts-same ∙ rewritten version1 bytes good (plain (lent 0 0 0 [] [] [] [] [] [] []) []) small;
     none = ap₂ _++_ (those-none (λ r. not (stands bytes r)) m (λ r l. ap not (stands-all r l))) (those-none (λ v. not (startKept bytes v)) (nIn bytes) (λ v l. ap not (start-kept v l)));
   }
 
 pub undamaged-same : UndamagedSame
 undamaged-same bytes small t₀ starts₀ ok b e v =
-    same bytes small (read-headed bytes t₀ starts₀ ok) (subst (λ p. Sound (p .0)) is (bare-sound (b .tables) (k .sound)))
+    same bytes small (read-headed version1 bytes (plain t₀ starts₀) ok) (subst (λ p. Sound (p .0)) is (bare-sound (b .tables) (k .sound)))
     (λ u. subst (λ p. ends (p .0) u ≡ true) is (bare-ends (b .tables) (k .sound) u ∙ k .chains u))
     (subst (λ p. (u : ℕ) → u < p .0 .n → startGood (p .0) (valuesIn (p .0) (p .1)) u ≡ true) is (λ u l. bare-starts (b .tables) (b .starts) u ∙ k .starts u l))
   where
@@ -107,4 +107,4 @@ undamaged-same bytes small t₀ starts₀ ok b e v =
 
     -- what was read, without what the lent rows hold beyond the counts, is what the file gives
     is : cut (b .tables, b .starts) ≡ (given bytes, startGiven bytes)
-    is = ap cut (e ∙ ap (λ w. leaves w (laid bytes (nIn bytes) (mIn bytes) (eIn bytes) t₀ starts₀) (counted 0 0 0 t₀, starts₀)) ok) ∙ laid-given bytes t₀ starts₀
+    is = ap cut (e ∙ ap (λ w. let c = leaves w (laidAs bytes (nIn bytes) (mIn bytes) (eIn bytes) version1 (plain t₀ starts₀)) (countedAs 0 0 0 (plain t₀ starts₀)) in (c .tables, c .starts)) ok) ∙ laid-given bytes t₀ starts₀

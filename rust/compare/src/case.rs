@@ -23,6 +23,14 @@ pub enum Call {
     Write,
     /// A file from a damaged one, and a list of what was not saved.
     Salvage,
+    /// Tables and bounds from a file of version 2.
+    ReadBounded,
+    /// A file of version 2 from tables and bounds.
+    WriteBounded,
+    /// A file of version 2 from one of version 1.
+    ToVersion2,
+    /// A file of version 1 from one of version 2.
+    ToVersion1,
 }
 
 /// A call with its counts and every buffer that any call is lent; a call uses those that are its own.
@@ -197,6 +205,15 @@ impl Answer {
         saved.map_or_else(Answer::refused, |(length, rows, values)| {
             let [length, rows, values] = [length, rows, values].map(|count| u32::try_from(count).unwrap_or(u32::MAX));
             Answer { length, rows, values, ..Answer::default() }
+        })
+    }
+
+    /// The answer of a move from one version to the other.
+    #[must_use]
+    pub fn of_move(length: Result<usize, Refused>) -> Answer {
+        length.map_or_else(Answer::refused, |length| {
+            let length = u32::try_from(length).unwrap_or(u32::MAX);
+            Answer { length, ..Answer::default() }
         })
     }
 

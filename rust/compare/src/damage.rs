@@ -254,11 +254,23 @@ impl<T: Element> Length for Guarded<T> {
     }
 }
 
+/// How long a file of these counts is in the other version, 0 without counts.
+fn moved_length(bytes: &[u8], up: bool) -> usize {
+    let Some(&[n0, n1, m0, m1, e0, e1]) = bytes.get(2..8) else { return 0 };
+    let [n, m, e] = [[n0, n1], [m0, m1], [e0, e1]].map(|count| usize::from(u16::from_le_bytes(count)));
+    let (head, bound) = if up { (28, 8) } else { (24, 0) };
+    head + (4 + bound) * n + 12 * m + 4 * e
+}
+
 /// The buffers that the call is lent, each with the length that the counts, or what is saved, ask of it.
 fn buffers(case: &mut Case) -> Vec<(&mut dyn Length, usize)> {
     if case.call == Call::Salvage {
         let (file, list) = room_for(&case.bytes);
         return vec![(&mut case.file, file), (&mut case.list, list)];
+    }
+    if matches!(case.call, Call::ToVersion2 | Call::ToVersion1) {
+        let length = moved_length(&case.bytes, case.call == Call::ToVersion2);
+        return vec![(&mut case.file, length)];
     }
     let Case { n, m, e, pairs, asked, .. } = *case;
     let total = n.saturating_mul(4).saturating_add(m.saturating_mul(12)).saturating_add(e.saturating_mul(4));
@@ -272,7 +284,11 @@ fn buffers(case: &mut Case) -> Vec<(&mut dyn Length, usize)> {
         (&mut case.coefs, e),
     ];
     match case.call {
-        Call::Read | Call::Build => lent.push((&mut case.starts, n)),
+        Call::Read | Call::ReadBounded | Call::Build => lent.push((&mut case.starts, n)),
+        Call::WriteBounded => {
+            lent.push((&mut case.starts, n));
+            lent.push((&mut case.bytes, total.saturating_add(n.saturating_mul(8)).saturating_add(28)));
+        }
         Call::Write => {
             lent.push((&mut case.starts, n));
             lent.push((&mut case.bytes, total.saturating_add(24)));
@@ -281,7 +297,7 @@ fn buffers(case: &mut Case) -> Vec<(&mut dyn Length, usize)> {
             lent.push((&mut case.move_vars, pairs));
             lent.push((&mut case.move_values, pairs));
         }
-        Call::TakeBack | Call::Salvage => {}
+        Call::TakeBack | Call::Salvage | Call::ToVersion2 | Call::ToVersion1 => {}
     }
     if case.call == Call::Trial {
         lent.push((&mut case.trial, n));
@@ -298,9 +314,11 @@ fn buffers(case: &mut Case) -> Vec<(&mut dyn Length, usize)> {
         lent.push((&mut case.log_vars, LOG_PLACES));
         lent.push((&mut case.log_values, LOG_PLACES));
     }
-    if matches!(case.call, Call::Build | Call::Trial | Call::Keep | Call::TakeBack) {
+    if !matches!(case.call, Call::Read | Call::Write) {
         lent.push((&mut case.lows, n));
         lent.push((&mut case.highs, n));
+    }
+    if matches!(case.call, Call::Build | Call::Trial | Call::Keep | Call::TakeBack) {
         lent.push((&mut case.numbers, n));
         lent.push((&mut case.order, m));
         lent.push((&mut case.stored, n));

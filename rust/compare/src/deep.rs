@@ -4,6 +4,7 @@ use std::thread;
 
 use crate::runs::{built, keep, take_back, trial};
 use crate::salvages::salvage_of;
+use crate::versions::{moving, reading_bounded, writing};
 use crate::{Answer, Call, Case, Engine, Side, chain, edges};
 
 /// The stack on which every call is to come back, in bytes.
@@ -34,7 +35,10 @@ fn every_row(name: &str, answer: Answer) {
     assert_eq!(answer.number, 0, "{name}");
     match name {
         "read" => assert_eq!((answer.n, answer.m, answer.e), (4096, 4095, 16380)),
-        "write" => {}
+        "read bounded" => assert_eq!((answer.n, answer.m, answer.e), (4096, 4095, 16380)),
+        "write" | "write bounded" => {}
+        "to version 2" => assert_eq!(answer.length, 163_840),
+        "to version 1" => assert_eq!(answer.length, 131_068),
         "salvage" => assert_eq!((answer.length, answer.rows, answer.values), (131_068, 0, 0)),
         "route 1" | "keep" | "taking back" => assert!(answer.evaluations > 0, "{name}"),
         _ => assert_eq!(answer.evaluations, 4095, "{name}"),
@@ -55,7 +59,7 @@ pub fn models() -> Vec<Case> {
 
 /// Every call on a deepest model by name; a move at the near end of the chain is tried, kept and taken back, and the far
 /// end asked.
-pub fn calls(engine: &dyn Engine, model: &Case) -> [(&'static str, Case); 9] {
+pub fn calls(engine: &dyn Engine, model: &Case) -> [(&'static str, Case); 13] {
     let built = built(engine, model);
     let numbered = |wanted| built.numbers.iter().position(|&number| number == wanted).unwrap_or(0) as u16;
     let moved = [(numbered(0), 2)];
@@ -63,6 +67,8 @@ pub fn calls(engine: &dyn Engine, model: &Case) -> [(&'static str, Case); 9] {
     let kept = keep(&built, &moved);
     let write = edges::file(model);
     let read = Case { call: Call::Read, ..Side::of(engine, &write).left };
+    let up = moving(Call::ToVersion2, &read.bytes, 163_840);
+    let moved_up = Side::of(engine, &up).left.file.to_vec();
     [
         ("build", model.clone()),
         ("route 1", route(1)),
@@ -72,6 +78,10 @@ pub fn calls(engine: &dyn Engine, model: &Case) -> [(&'static str, Case); 9] {
         ("keep", kept),
         ("write", write),
         ("salvage", salvage_of(&read.bytes)),
+        ("to version 2", up),
+        ("to version 1", moving(Call::ToVersion1, &moved_up, 131_068)),
+        ("read bounded", reading_bounded(&moved_up)),
+        ("write bounded", writing(model, &vec![(0, 1); model.n])),
         ("read", read),
     ]
 }

@@ -1,10 +1,10 @@
 //! Who answers a case.
 
-use lent::{Asked, Bounds, Built, Keep, Move, Session, State, Tables, TablesMut, TakeBack, Trial, Tried};
+use lent::{Asked, Bounds, BoundsMut, Built, Keep, Move, Session, State, Tables, TablesMut, TakeBack, Trial, Tried};
 
 use crate::{Answer, Call, Case};
 
-/// An implementation of the seven calls.
+/// An implementation of the calls.
 pub trait Engine {
     /// Answers the case, and leaves in it what the call leaves.
     fn answer(&self, case: &mut Case) -> Answer;
@@ -13,7 +13,7 @@ pub trait Engine {
 /// A test of any engine, with its name.
 pub type Test = (&'static str, fn(&dyn Engine));
 
-/// The seven calls over what is lent to them.
+/// The calls over what is lent to them.
 pub trait Calls {
     /// Numbers, order, values and readers from tables and start values, and an empty log.
     fn build(session: &mut Session, tables: Tables<'_>, bounds: Bounds<'_>, starts: &[i32], built: Built<'_>)
@@ -36,6 +36,18 @@ pub trait Calls {
 
     /// A file from a damaged one, and a list of what was not saved.
     fn salvage(bytes: &[u8], file: &mut [u8], list: &mut [u16]) -> Answer;
+
+    /// Tables and bounds from a file of version 2.
+    fn read_bounded(bytes: &[u8], tables: TablesMut<'_>, bounds: BoundsMut<'_>) -> Answer;
+
+    /// A file of version 2 from tables and bounds.
+    fn write_bounded(tables: Tables<'_>, starts: &[i32], bounds: Bounds<'_>, bytes: &mut [u8]) -> Answer;
+
+    /// A file of version 2 from one of version 1.
+    fn to_version_2(bytes: &[u8], file: &mut [u8]) -> Answer;
+
+    /// A file of version 1 from one of version 2.
+    fn to_version_1(bytes: &[u8], file: &mut [u8]) -> Answer;
 }
 
 impl<C: Calls> Engine for C {
@@ -94,6 +106,13 @@ impl<C: Calls> Engine for C {
             Call::Read => C::read(&case.bytes, TablesMut { starts, kinds, makes, params, firsts, counts, vars, coefs }),
             Call::Write => C::write(tables, starts, &mut case.bytes),
             Call::Salvage => C::salvage(&case.bytes, &mut case.file, &mut case.list),
+            Call::ReadBounded => {
+                let tables = TablesMut { starts, kinds, makes, params, firsts, counts, vars, coefs };
+                C::read_bounded(&case.bytes, tables, BoundsMut { lows: &mut case.lows, highs: &mut case.highs })
+            }
+            Call::WriteBounded => C::write_bounded(tables, starts, bounds, &mut case.bytes),
+            Call::ToVersion2 => C::to_version_2(&case.bytes, &mut case.file),
+            Call::ToVersion1 => C::to_version_1(&case.bytes, &mut case.file),
         }
     }
 }
@@ -135,5 +154,21 @@ impl Calls for Second {
 
     fn salvage(bytes: &[u8], file: &mut [u8], list: &mut [u16]) -> Answer {
         Answer::of_salvage(second::salvage(bytes, file, list))
+    }
+
+    fn read_bounded(bytes: &[u8], tables: TablesMut<'_>, bounds: BoundsMut<'_>) -> Answer {
+        Answer::of_read(second::read_bounded(bytes, tables, bounds))
+    }
+
+    fn write_bounded(tables: Tables<'_>, starts: &[i32], bounds: Bounds<'_>, bytes: &mut [u8]) -> Answer {
+        Answer::of_call(second::write_bounded(tables, starts, bounds, bytes).map(|()| 0))
+    }
+
+    fn to_version_2(bytes: &[u8], file: &mut [u8]) -> Answer {
+        Answer::of_move(second::to_version_2(bytes, file))
+    }
+
+    fn to_version_1(bytes: &[u8], file: &mut [u8]) -> Answer {
+        Answer::of_move(second::to_version_1(bytes, file))
     }
 }

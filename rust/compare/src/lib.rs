@@ -4,7 +4,8 @@
 //! it in place. [`compare`] lets two engines answer the same case and compares the answers, the session record, every
 //! element of every buffer, and the guards. [`run`] does so for as many random cases as it is told, from a seed, and
 //! [`shrink`] makes a case on which two engines differ smaller. [`sessions`] keeps and takes back over long sessions,
-//! and [`salvages`] saves damaged files. [`tests_of!`] is everything that an engine must pass.
+//! and [`salvages`] saves damaged files. [`versions`] reads and
+//! writes files of version 2, and moves files from one version to the other. [`tests_of!`] is everything that an engine must pass.
 #![forbid(unsafe_code)]
 #![warn(missing_docs)]
 
@@ -28,6 +29,7 @@ pub mod sessions;
 mod shrink;
 pub mod takings;
 mod tests;
+pub mod versions;
 
 pub use bounds::{draw_bounds, move_outside, near_a_bound, within};
 pub use case::{Answer, Call, Case};

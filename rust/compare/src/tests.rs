@@ -25,7 +25,7 @@ pub fn random_calls(engine: &dyn Engine) {
 
 /// The tests of an engine: the runs that the specification names, both sides of the edge of every refusal, files there
 /// and back, the deepest models on a small stack, random calls beside the second implementation, long sessions of keeps
-/// and takings back, the fuzz runs, and damaged files that are saved.
+/// and takings back, the fuzz runs, files of both versions, and damaged files that are saved.
 /// The second expression is the engine whose calls have a stack of 2 MiB if their thread has.
 #[macro_export]
 macro_rules! tests_of {
@@ -83,6 +83,16 @@ macro_rules! tests_of {
         #[test]
         fn salvage_on_both_sides() {
             $crate::hold(&$engine, $crate::salvages::SALVAGES);
+        }
+
+        #[test]
+        fn both_versions_on_both_sides() {
+            $crate::hold(&$engine, $crate::versions::VERSIONS);
+        }
+
+        #[test]
+        fn random_files_of_both_versions() {
+            $crate::versions::random_files(&$engine);
         }
 
         #[test]

@@ -78,6 +78,15 @@ pub struct TablesMut<'a> {
     pub coefs: &'a mut [i16],
 }
 
+/// Bounds for `read_bounded` to fill.
+#[derive(Debug)]
+pub struct BoundsMut<'a> {
+    /// Each variable's lowest allowed number.
+    pub lows: &'a mut [i32],
+    /// Each variable's highest allowed number.
+    pub highs: &'a mut [i32],
+}
+
 /// Buffers for `build` to fill: n numbers, m places of the order, n values, n + 1 starts and room for e readers; and the
 /// sizes of a log for it to empty.
 #[derive(Debug)]

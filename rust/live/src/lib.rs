@@ -3,8 +3,8 @@
 #![warn(missing_docs)]
 
 use compare::{Answer, Calls};
-use lent::{Bounds, Built, Keep, Session, Tables, TablesMut, TakeBack, Trial};
-use lukhandro::sys::{Outcome, ReadOutcome, SalvageOutcome};
+use lent::{Bounds, BoundsMut, Built, Keep, Session, Tables, TablesMut, TakeBack, Trial};
+use lukhandro::sys::{MoveOutcome, Outcome, ReadOutcome, SalvageOutcome};
 
 /// The engine that the archive holds.
 #[derive(Clone, Copy, Debug)]
@@ -48,9 +48,32 @@ impl Calls for Proved {
             [length, rows, values].map(|count| u32::try_from(count).expect("a count of a file"));
         Answer { number, place, length, rows, values, ..Answer::default() }
     }
+
+    fn read_bounded(bytes: &[u8], tables: TablesMut<'_>, bounds: BoundsMut<'_>) -> Answer {
+        let ReadOutcome { number, place, n, m, e } = lukhandro::lent::read_bounded(bytes, tables, bounds);
+        Answer { number, place, n, m, e, ..Answer::default() }
+    }
+
+    fn write_bounded(tables: Tables<'_>, starts: &[i32], bounds: Bounds<'_>, bytes: &mut [u8]) -> Answer {
+        answer(lukhandro::lent::write_bounded(tables, starts, bounds, bytes))
+    }
+
+    fn to_version_2(bytes: &[u8], file: &mut [u8]) -> Answer {
+        moved(lukhandro::lent::to_version_2(bytes, file))
+    }
+
+    fn to_version_1(bytes: &[u8], file: &mut [u8]) -> Answer {
+        moved(lukhandro::lent::to_version_1(bytes, file))
+    }
 }
 
 /// What a call gave, as an answer that can be compared.
 fn answer(Outcome { number, place, evaluations }: Outcome) -> Answer {
     Answer { number, place, evaluations, ..Answer::default() }
+}
+
+/// What a move from one version to the other gave.
+fn moved(MoveOutcome { number, place, length }: MoveOutcome) -> Answer {
+    let length = u32::try_from(length).expect("the length of a file");
+    Answer { number, place, length, ..Answer::default() }
 }

@@ -4,9 +4,10 @@
 //! and refuses what does not fit. A slice may be longer than its count asks; what lies beyond is neither looked at nor
 //! changed. A refused call changes nothing.
 
-use crate::sys::{self, Outcome, ReadOutcome, SalvageOutcome};
+use crate::sys::{self, MoveOutcome, Outcome, ReadOutcome, SalvageOutcome};
 pub use ::lent::{
-    Asked, Bounds, Built, Keep, LOG_PLACES, LOG_SIZES, Move, Session, State, Tables, TablesMut, TakeBack, Trial, Tried,
+    Asked, Bounds, BoundsMut, Built, Keep, LOG_PLACES, LOG_SIZES, Move, Session, State, Tables, TablesMut, TakeBack,
+    Trial, Tried,
 };
 
 /// Fills numbers, order, stored values and the index of readers from tables and start values, and empties the log; gives
@@ -142,4 +143,52 @@ pub fn salvage(bytes: &[u8], file: &mut [u8], list: &mut [u16]) -> SalvageOutcom
     let (bytes, file, list) = (bytes.as_ptr(), file.as_mut_ptr(), list.as_mut_ptr());
     // SAFETY: each pointer goes with the length of its own slice, and no slice that is written overlaps another.
     unsafe { sys::lukhandro_salvage(bytes, bytes_length, file, file_length, list, list_length) }
+}
+
+/// Fills tables and bounds from a file of version 2. Refusal 14, then 1.
+#[rustfmt::skip]
+pub fn read_bounded(bytes: &[u8], tables: TablesMut<'_>, bounds: BoundsMut<'_>) -> ReadOutcome {
+    let TablesMut { starts, kinds, makes, params, firsts, counts, vars, coefs } = tables;
+    let BoundsMut { lows, highs } = bounds;
+    // SAFETY: each pointer goes with the length of its own slice, and no slice that is written overlaps another.
+    unsafe {
+        sys::lukhandro_read_bounded(
+            bytes.as_ptr(), bytes.len(), starts.as_mut_ptr(), starts.len(),
+            kinds.as_mut_ptr(), kinds.len(), makes.as_mut_ptr(), makes.len(), params.as_mut_ptr(), params.len(),
+            firsts.as_mut_ptr(), firsts.len(), counts.as_mut_ptr(), counts.len(), vars.as_mut_ptr(), vars.len(),
+            coefs.as_mut_ptr(), coefs.len(), lows.as_mut_ptr(), lows.len(), highs.as_mut_ptr(), highs.len(),
+        )
+    }
+}
+
+/// Fills the front of a byte buffer with the file of version 2 of these tables, start values and bounds:
+/// 28 + 12n + 12m + 4e bytes. Refusal 1.
+#[rustfmt::skip]
+pub fn write_bounded(tables: Tables<'_>, starts: &[i32], bounds: Bounds<'_>, bytes: &mut [u8]) -> Outcome {
+    let Tables { n, m, e, kinds, makes, params, firsts, counts, vars, coefs } = tables;
+    let Bounds { lows, highs } = bounds;
+    // SAFETY: each pointer goes with the length of its own slice, and no slice that is written overlaps another.
+    unsafe {
+        sys::lukhandro_write_bounded(
+            n, m, e, starts.as_ptr(), starts.len(),
+            kinds.as_ptr(), kinds.len(), makes.as_ptr(), makes.len(), params.as_ptr(), params.len(),
+            firsts.as_ptr(), firsts.len(), counts.as_ptr(), counts.len(), vars.as_ptr(), vars.len(),
+            coefs.as_ptr(), coefs.len(), lows.as_ptr(), lows.len(), highs.as_ptr(), highs.len(),
+            bytes.as_mut_ptr(), bytes.len(),
+        )
+    }
+}
+
+/// Fills the front of `file` with a file of version 1 as one of version 2, with full bounds; gives its length, 8n + 4 more
+/// than before. Refusal 14 for the header, then 1 for a short buffer.
+pub fn to_version_2(bytes: &[u8], file: &mut [u8]) -> MoveOutcome {
+    // SAFETY: each pointer goes with the length of its own slice, and the two do not overlap.
+    unsafe { sys::lukhandro_to_version_2(bytes.as_ptr(), bytes.len(), file.as_mut_ptr(), file.len()) }
+}
+
+/// Fills the front of `file` with a file of version 2 as one of version 1; gives its length. Refusal 14 for the header, then
+/// 18 for the first variable whose bounds are not full, then 1 for a short buffer.
+pub fn to_version_1(bytes: &[u8], file: &mut [u8]) -> MoveOutcome {
+    // SAFETY: each pointer goes with the length of its own slice, and the two do not overlap.
+    unsafe { sys::lukhandro_to_version_1(bytes.as_ptr(), bytes.len(), file.as_mut_ptr(), file.len()) }
 }

@@ -21,6 +21,8 @@
 //! [`salvage`] saves what is whole and good in a damaged model file, and the command of that name does so for a file on its
 //! standard input.
 //!
+//! [`to_version_2`] and [`to_version_1`] make a model file of one version one of the other.
+//!
 //! [`lent`] has the same calls for callers who keep the buffers themselves.
 //!
 //! A thread that calls should have a stack of 2 MiB, as Rust's threads do. On the deepest model a trial by route 2 or 3
@@ -37,11 +39,13 @@ mod refused;
 mod row;
 mod salvage;
 pub mod sys;
+mod versions;
 
 pub use model::{Model, Trial};
 pub use refused::Refused;
 pub use row::{Kind, Route, Row};
 pub use salvage::{Salvage, salvage};
+pub use versions::{to_version_1, to_version_2};
 
 /// No value: the one 32-bit number that is no value of a variable.
 pub const BLANK: i32 = i32::MIN;
@@ -61,7 +65,7 @@ pub const MOST_VARIABLES: usize = 4096;
 /// The most entries of a model.
 pub const MOST_ENTRIES: usize = 16384;
 
-/// The most bytes of a model file.
+/// The most bytes of a model file of version 1; one of version 2 has 8 more for each variable, and 4.
 pub const MOST_BYTES: usize = 24 + 16 * MOST_VARIABLES + 4 * MOST_ENTRIES;
 
 /// The most pairs of a move.

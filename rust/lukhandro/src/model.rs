@@ -1,8 +1,10 @@
 //! A model that owns its buffers.
 
 use crate::lent::{
-    self, Asked, Bounds, Built, Keep, LOG_PLACES, LOG_SIZES, Move, Session, State, Tables, TablesMut, TakeBack, Tried,
+    self, Asked, Bounds, BoundsMut, Built, Keep, LOG_PLACES, LOG_SIZES, Move, Session, State, Tables, TablesMut,
+    TakeBack, Tried,
 };
+use crate::sys::ReadOutcome;
 use crate::{BLANK, HIGHEST, LOWEST, MOST_ASKED, MOST_ENTRIES, MOST_PAIRS, MOST_VARIABLES, Refused, Route, Row};
 
 /// A model with its values and a log of its kept moves, built and ready to try moves, keep them and take them back.
@@ -158,7 +160,7 @@ impl Model {
         self
     }
 
-    /// Reads a model file and builds its model. A file has no bounds: those of the model allow every number.
+    /// Reads a model file of version 1 and builds its model. Such a file has no bounds: those of the model allow every number.
     ///
     /// ```
     /// use lukhandro::{Model, Row};
@@ -175,11 +177,11 @@ impl Model {
     /// # Errors
     /// Refusal 14 for the file, and refusals 2 to 7 for what is in it.
     pub fn read(bytes: &[u8]) -> Result<Model, Refused> {
-        let (model, starts) = Model::of_file(bytes)?;
+        let (model, starts) = Model::of_file(|tables| lent::read(bytes, tables))?;
         model.built(&starts)
     }
 
-    /// Reads a model file and builds its model within bounds, as [`Model::build_within`] does.
+    /// Reads a model file of version 1 and builds its model within bounds, as [`Model::build_within`] does.
     ///
     /// ```
     /// use lukhandro::{FULL, Model, Row};
@@ -193,12 +195,35 @@ impl Model {
     /// # Errors
     /// Refusal 14 for the file, refusals 2 to 7 for what is in it and for the bounds, and 1 for fewer bounds than variables.
     pub fn read_within(bytes: &[u8], bounds: &[(i32, i32)]) -> Result<Model, Refused> {
-        let (model, starts) = Model::of_file(bytes)?;
+        let (model, starts) = Model::of_file(|tables| lent::read(bytes, tables))?;
         model.with_bounds(bounds).built(&starts)
     }
 
-    /// The model in a file, not built yet, and its start values.
-    fn of_file(bytes: &[u8]) -> Result<(Model, Vec<i32>), Refused> {
+    /// Reads a model file of version 2 and builds its model within the bounds that the file holds.
+    ///
+    /// ```
+    /// use lukhandro::{FULL, Model, Row};
+    ///
+    /// let sheet = Model::build_within(&[4, 9, 0], &[(0, 5), (0, 9), FULL], &[Row::max(2, &[0, 1])])?;
+    /// let mut again = Model::read_bounded(&sheet.write_bounded()?)?;
+    /// assert_eq!(again.bounds(1), Some((0, 9)));
+    /// assert_eq!(again.keep(&[(1, 10)]).unwrap_err().number, 17);
+    /// # Ok::<(), lukhandro::Refused>(())
+    /// ```
+    ///
+    /// # Errors
+    /// Refusal 14 for the file, and refusals 2 to 7 for what is in it, its bounds too.
+    pub fn read_bounded(bytes: &[u8]) -> Result<Model, Refused> {
+        let (mut lows, mut highs) = (vec![0; MOST_VARIABLES], vec![0; MOST_VARIABLES]);
+        let bounds = BoundsMut { lows: &mut lows, highs: &mut highs };
+        let (model, starts) = Model::of_file(|tables| lent::read_bounded(bytes, tables, bounds))?;
+        lows.truncate(starts.len());
+        highs.truncate(starts.len());
+        Model { lows, highs, ..model }.built(&starts)
+    }
+
+    /// The model that a reader fills tables with, not built yet, and its start values.
+    fn of_file(read: impl FnOnce(TablesMut<'_>) -> ReadOutcome) -> Result<(Model, Vec<i32>), Refused> {
         let mut starts = vec![0; MOST_VARIABLES];
         let rows = || vec![0; MOST_VARIABLES];
         let (mut kinds, mut makes, mut firsts, mut counts) = (rows(), rows(), rows(), rows());
@@ -214,7 +239,7 @@ impl Model {
             vars: &mut vars,
             coefs: &mut coefs,
         };
-        let (n, m, e) = lent::read(bytes, tables).judged()?;
+        let (n, m, e) = read(tables).judged()?;
         for table in [&mut kinds, &mut makes, &mut firsts, &mut counts] {
             table.truncate(m);
         }
@@ -321,17 +346,32 @@ impl Model {
         lent::take_back(&mut self.session, tables_of!(self), bounds_of!(self), back).judged()
     }
 
-    /// The model's file, which starts from the values that search variables have now. It has no bounds.
+    /// The model's file of version 1, which starts from the values that search variables have now. It has no bounds.
     ///
     /// # Errors
     /// None for a model that was built.
     pub fn write(&self) -> Result<Vec<u8>, Refused> {
         let tables = tables_of!(self);
         let mut bytes = vec![0; 24 + 4 * tables.n + 12 * tables.m + 4 * tables.e];
-        let start = |(&value, &number): (&i32, &u16)| if number == 0 { value } else { 0 };
-        let starts: Vec<i32> = self.stored.iter().zip(&self.numbers).map(start).collect();
-        lent::write(tables, &starts, &mut bytes).judged()?;
+        lent::write(tables, &self.starts(), &mut bytes).judged()?;
         Ok(bytes)
+    }
+
+    /// The model's file of version 2: that of version 1, and the bounds.
+    ///
+    /// # Errors
+    /// None for a model that was built.
+    pub fn write_bounded(&self) -> Result<Vec<u8>, Refused> {
+        let tables = tables_of!(self);
+        let mut bytes = vec![0; 28 + 12 * tables.n + 12 * tables.m + 4 * tables.e];
+        lent::write_bounded(tables, &self.starts(), bounds_of!(self), &mut bytes).judged()?;
+        Ok(bytes)
+    }
+
+    /// The values that search variables have now, and 0 for those that a row makes.
+    fn starts(&self) -> Vec<i32> {
+        let start = |(&value, &number): (&i32, &u16)| if number == 0 { value } else { 0 };
+        self.stored.iter().zip(&self.numbers).map(start).collect()
     }
 
     /// The value of a variable; none if it is blank or there is no such variable.

@@ -10,7 +10,7 @@ use std::fmt;
 /// ```
 #[derive(Clone, Copy, Debug, PartialEq, Eq)]
 pub struct Refused {
-    /// Which check refused, 1 to 17 or 19.
+    /// Which check refused, 1 to 19.
     pub number: u32,
     /// The smallest row, variable, pair, asked place or byte that offends.
     pub place: u32,
@@ -43,10 +43,11 @@ impl fmt::Display for Refused {
             11 => write!(f, "pair {place} of the move names the variable of an earlier pair"),
             12 => write!(f, "pair {place} of the move has no value"),
             13 => write!(f, "place {place} of the asked list names a variable that is not there"),
-            14 => write!(f, "the file is no whole model file of version 1: it is wrong at byte {place}"),
+            14 => write!(f, "the file is no whole model file of the version asked for: it is wrong at byte {place}"),
             15 => write!(f, "no kept move is left to take back"),
             16 => write!(f, "the log of kept moves is not one that keep and taking back may leave within these bounds"),
             17 => write!(f, "pair {place} of the move has a value outside its variable's bounds"),
+            18 => write!(f, "variable {place} has bounds that a file of version 1 cannot hold"),
             19 => write!(f, "the record's number of blanks is not that of the stored values"),
             _ => write!(f, "no check has this number"),
         }

@@ -1,4 +1,4 @@
-//! The seven calls as the archive exports them. A slice is a pointer and a length.
+//! The calls as the archive exports them. A slice is a pointer and a length.
 
 use crate::Refused;
 use crate::lent::Session;
@@ -45,6 +45,31 @@ pub struct SalvageOutcome {
     pub rows: usize,
     /// Start values of the list, which stand behind the rows, 0 if refused.
     pub values: usize,
+}
+
+/// What a move of a file from one version to the other gives.
+#[repr(C)]
+#[derive(Clone, Copy, Debug, PartialEq, Eq)]
+pub struct MoveOutcome {
+    /// 0 if accepted.
+    pub number: u32,
+    /// The smallest offending index.
+    pub place: u32,
+    /// Bytes of the new file, 0 if refused.
+    pub length: usize,
+}
+
+impl MoveOutcome {
+    /// The length of the new file, or the refusal.
+    ///
+    /// # Errors
+    /// The refusal, if the call was refused.
+    pub fn judged(self) -> Result<usize, Refused> {
+        match self {
+            MoveOutcome { number: 0, length, .. } => Ok(length),
+            MoveOutcome { number, place, .. } => Err(Refused { number, place }),
+        }
+    }
 }
 
 impl Outcome {
@@ -172,4 +197,34 @@ unsafe extern "C" {
         bytes: *const u8, bytes_length: usize, file: *mut u8, file_length: usize,
         list: *mut u16, list_length: usize,
     ) -> SalvageOutcome;
+
+    /// Tables and bounds from a file of version 2.
+    pub fn lukhandro_read_bounded(
+        bytes: *const u8, bytes_length: usize, starts: *mut i32, starts_length: usize,
+        kinds: *mut u16, kinds_length: usize, makes: *mut u16, makes_length: usize,
+        params: *mut i32, params_length: usize, firsts: *mut u16, firsts_length: usize,
+        counts: *mut u16, counts_length: usize, vars: *mut u16, vars_length: usize,
+        coefs: *mut i16, coefs_length: usize, lows: *mut i32, lows_length: usize,
+        highs: *mut i32, highs_length: usize,
+    ) -> ReadOutcome;
+
+    /// A file of version 2 from tables and bounds.
+    pub fn lukhandro_write_bounded(
+        n: usize, m: usize, e: usize, starts: *const i32, starts_length: usize,
+        kinds: *const u16, kinds_length: usize, makes: *const u16, makes_length: usize,
+        params: *const i32, params_length: usize, firsts: *const u16, firsts_length: usize,
+        counts: *const u16, counts_length: usize, vars: *const u16, vars_length: usize,
+        coefs: *const i16, coefs_length: usize, lows: *const i32, lows_length: usize,
+        highs: *const i32, highs_length: usize, bytes: *mut u8, bytes_length: usize,
+    ) -> Outcome;
+
+    /// A file of version 2 from one of version 1.
+    pub fn lukhandro_to_version_2(
+        bytes: *const u8, bytes_length: usize, file: *mut u8, file_length: usize,
+    ) -> MoveOutcome;
+
+    /// A file of version 1 from one of version 2.
+    pub fn lukhandro_to_version_1(
+        bytes: *const u8, bytes_length: usize, file: *mut u8, file_length: usize,
+    ) -> MoveOutcome;
 }

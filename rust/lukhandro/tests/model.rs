@@ -1,6 +1,9 @@
 //! The model that owns its buffers.
 
-use lukhandro::{BLANK, FULL, HIGHEST, Kind, LOWEST, MOST_LOGGED, Model, Refused, Route, Row, Salvage, salvage};
+use lukhandro::{
+    BLANK, FULL, HIGHEST, Kind, LOWEST, MOST_LOGGED, Model, Refused, Route, Row, Salvage, salvage, to_version_1,
+    to_version_2,
+};
 
 fn refused(number: u32, place: u32) -> Refused {
     Refused { number, place }
@@ -156,7 +159,7 @@ fn bounds_are_judged_by_build() {
 }
 
 #[test]
-fn a_file_has_no_bounds() {
+fn a_file_of_version_1_has_no_bounds() {
     let sheet = model_a_within((25200, 25200), (300, 900)).expect("a model");
     let file = sheet.write().expect("a file");
     assert_eq!(file, model_a().write().expect("a file"));
@@ -169,6 +172,40 @@ fn a_file_has_no_bounds() {
     bounds[2] = (300, 599);
     assert_eq!(Model::read_within(&file, &bounds).unwrap_err(), refused(7, 2));
     assert_eq!(Model::read_within(&file, &bounds[..5]).unwrap_err(), refused(1, 0));
+}
+
+#[test]
+fn a_file_of_version_2_has_its_bounds() {
+    let sheet = model_a_within((25200, 25200), (300, 900)).expect("a model");
+    let (plain, file) = (sheet.write().expect("a file"), sheet.write_bounded().expect("a file"));
+    assert_eq!(file.len(), plain.len() + 8 * 6 + 4);
+    let mut again = Model::read_bounded(&file).expect("a model");
+    assert_eq!((again.stored(), again.bounds(0)), (sheet.stored(), Some((25200, 25200))));
+    assert_eq!((again.bounds(2), again.bounds(5), again.bounds(6)), (Some((300, 900)), Some(FULL), None));
+    assert_eq!(again.keep(&[(2, 901)]).unwrap_err(), refused(17, 0));
+    again.keep(&[(2, 900)]).expect("a keep");
+    let kept = Model::read_bounded(&again.write_bounded().expect("a file")).expect("a model");
+    assert_eq!((kept.stored(), kept.bounds(2)), (again.stored(), Some((300, 900))));
+
+    assert_eq!(to_version_1(&file), Err(refused(18, 0)));
+    let up = to_version_2(&plain).expect("a file");
+    assert_eq!(up, model_a().write_bounded().expect("a file"));
+    let mut full = Model::read_bounded(&up).expect("a model");
+    assert_eq!((full.bounds(2), full.keep(&[(2, 901)]).is_ok()), (Some(FULL), true));
+
+    assert_eq!(Model::read(&file).unwrap_err(), refused(14, 0));
+    assert_eq!(Model::read_bounded(&plain).unwrap_err(), refused(14, 0));
+    assert_eq!(Model::read_bounded(&file[..file.len() - 1]).unwrap_err(), refused(14, 20));
+    // The bounds of variables 2 and 5, which build judges.
+    let with = |variable: usize, low: i32, high: i32| {
+        let mut bytes = file.clone();
+        bytes[plain.len() + 4 + 8 * variable..][..8].copy_from_slice(&[low.to_le_bytes(), high.to_le_bytes()].concat());
+        Model::read_bounded(&bytes).map(|sheet| sheet.bounds(variable as u16))
+    };
+    assert_eq!(with(2, 600, 600), Ok(Some((600, 600))));
+    assert_eq!(with(2, 601, 900), Err(refused(7, 2)));
+    assert_eq!(with(2, 900, 300), Err(refused(4, 2)));
+    assert_eq!(with(5, 0, 30), Err(refused(4, 5)));
 }
 
 #[test]
@@ -218,12 +255,12 @@ fn models_that_are_too_large() {
 
 #[test]
 fn every_refusal_has_a_sentence() {
-    for number in (1..=17).chain([19]) {
+    for number in 1..=19 {
         let sentence = refused(number, 7).to_string();
         assert!(sentence.starts_with(&format!("refused {number} 7: ")), "{sentence}");
         assert!(!sentence.contains("no check"), "{sentence}");
     }
-    for number in [0, 18, 20] {
+    for number in [0, 20] {
         assert!(refused(number, 0).to_string().contains("no check"));
     }
 }

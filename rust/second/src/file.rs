@@ -1,4 +1,4 @@
-//! The model file: a header of 24 bytes, start values, rows and entries, little-endian.
+//! The model file of version 1: a header of 24 bytes, start values, rows and entries, little-endian.
 
 use crate::Refused;
 use crate::checks::{counts_fit, fits, tables_fit};
@@ -60,7 +60,7 @@ pub fn read(bytes: &[u8], tables: TablesMut<'_>) -> Result<(usize, usize, usize)
 }
 
 /// Check 14, and with it n, m and e: the place is the first wrong field's byte, or the length of a file without header.
-fn header(bytes: &[u8]) -> Result<(usize, usize, usize), Refused> {
+pub(crate) fn header(bytes: &[u8]) -> Result<(usize, usize, usize), Refused> {
     let (n, m, e) = counts_in(bytes)?;
     let long = |at: usize| u32::from_le_bytes([bytes[at], bytes[at + 1], bytes[at + 2], bytes[at + 3]]);
     let layout = Layout::of(n, m, e);

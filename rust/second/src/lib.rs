@@ -20,11 +20,13 @@ mod readers;
 mod refused;
 mod routes;
 mod salvage;
+mod versions;
 
 pub use calls::{build, inputs_of_row, keep, take_back, trial};
 pub use file::{read, write};
 pub use refused::Refused;
 pub use salvage::salvage;
+pub use versions::{read_bounded, to_version_1, to_version_2, write_bounded};
 
 /// No value: the one 32-bit number that is no value of a variable.
 pub const BLANK: i32 = i32::MIN;

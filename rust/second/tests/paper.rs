@@ -9,6 +9,7 @@ use compare::runs::{RUNS, model_a};
 use compare::salvages::{SALVAGES, damaged_files};
 use compare::sessions::long_sessions;
 use compare::takings::TAKINGS;
+use compare::versions::{VERSIONS, random_files};
 use compare::{Case, Engine, Second, Test};
 use naive::Naive;
 
@@ -77,6 +78,23 @@ fn salvage_by_the_definitions() {
 #[test]
 fn random_damaged_files_are_saved() {
     damaged_files(&Second);
+}
+
+#[test]
+fn both_versions_on_both_sides() {
+    hold(VERSIONS, &Second);
+}
+
+#[test]
+fn both_versions_by_the_definitions() {
+    let small = |name: &str| !["there and back with bounds", "the largest file with bounds"].contains(&name);
+    let tests: Vec<_> = VERSIONS.iter().copied().filter(|(name, _)| small(name)).collect();
+    hold(&tests, &Naive);
+}
+
+#[test]
+fn random_files_of_both_versions_by_the_definitions() {
+    random_files(&Naive);
 }
 
 #[test]

@@ -21,7 +21,7 @@ static int32_t results[2], trial[6];
 /* a headway of up to fifteen minutes, and 0 */
 static int32_t lows[6] = {L, L, 0, L, L, L}, highs[6] = {H, H, 900, H, H, H};
 static int16_t coefs[7] = {1, 1, 1, 1, 1, 1, 4};
-static uint8_t flags[6], bytes[112], file[112];
+static uint8_t flags[6], bytes[112], file[112], bounded[164];
 static lukhandro_session session = {9, 9, 9};
 
 static void print(const char *call, lukhandro_outcome outcome) {
@@ -33,6 +33,16 @@ static void print(const char *call, lukhandro_outcome outcome) {
 
 static void print_saved(lukhandro_salvage_outcome saved) {
     printf("salvage %u %u %zu %zu %zu\n", saved.number, saved.place, saved.length, saved.rows, saved.values);
+}
+
+static void print_moved(const char *call, lukhandro_move_outcome moved) {
+    printf("%s %u %u %zu", call, moved.number, moved.place, moved.length);
+}
+
+static int same(const uint8_t *one, const uint8_t *other, size_t length) {
+    size_t at = 0;
+    while (at < length && one[at] == other[at]) at++;
+    return at == length;
 }
 
 int main(void) {
@@ -84,5 +94,15 @@ int main(void) {
     print_saved(lukhandro_salvage(LENT(bytes), LENT(file), NULL, 0));
     print_saved(lukhandro_salvage(LENT(bytes), file, 111, LENT(list)));
     print_saved(lukhandro_salvage(bytes, 23, LENT(file), LENT(list)));
+    print_moved("to version 2", lukhandro_to_version_2(LENT(bytes), LENT(bounded)));
+    read = lukhandro_read_bounded(LENT(bounded), LENT(starts), TABLES, BOUNDS);
+    printf("\nread %u %u %u %u %u, bounds %d to %d\n", read.number, read.place, read.n, read.m, read.e, lows[5], highs[5]);
+    print_moved("to version 1", lukhandro_to_version_1(LENT(bounded), LENT(file)));
+    printf(", the same bytes %d\n", same(bytes, file, sizeof bytes));
+    lows[2] = 300;
+    print("write", lukhandro_write_bounded(6, 3, 7, LENT(starts), TABLES, BOUNDS, LENT(bounded)));
+    print_moved("to version 1", lukhandro_to_version_1(LENT(bounded), LENT(file)));
+    read = lukhandro_read(LENT(bounded), LENT(starts), TABLES);
+    printf("\nread %u %u %u %u %u\n", read.number, read.place, read.n, read.m, read.e);
     return 0;
 }

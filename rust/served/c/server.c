@@ -12,7 +12,7 @@
 #include <unistd.h>
 #include "lukhandro.h"
 
-enum call { BUILD, TRIAL, KEEP, TAKE_BACK, READ, WRITE, SALVAGE };
+enum call { BUILD, TRIAL, KEEP, TAKE_BACK, READ, WRITE, SALVAGE, READ_BOUNDED, WRITE_BOUNDED, TO_VERSION_2, TO_VERSION_1 };
 
 enum buffer {
     SESSION, KINDS, MAKES, PARAMS, FIRSTS, COUNTS, VARS, COEFS, LOWS, HIGHS, STARTS, NUMBERS, ORDER, STORED,
@@ -100,6 +100,10 @@ static struct answer of_salvage(lukhandro_salvage_outcome outcome) {
         (uint32_t)outcome.length, (uint32_t)outcome.rows, (uint32_t)outcome.values};
 }
 
+static struct answer of_move(lukhandro_move_outcome outcome) {
+    return (struct answer){outcome.number, outcome.place, 0, 0, 0, 0, (uint32_t)outcome.length, 0, 0};
+}
+
 static struct answer made(void) {
     lukhandro_session *session = (void *)(block + request.lent[SESSION].place);
     switch (request.call) {
@@ -119,6 +123,14 @@ static struct answer made(void) {
         return of_call(lukhandro_write(COUNTED, LENT(STARTS), ROWS_AND_ENTRIES, LENT(BYTES)));
     case SALVAGE:
         return of_salvage(lukhandro_salvage(LENT(BYTES), LENT(SAVED), LENT(LIST)));
+    case READ_BOUNDED:
+        return of_read(lukhandro_read_bounded(LENT(BYTES), LENT(STARTS), ROWS_AND_ENTRIES, BOUNDS));
+    case WRITE_BOUNDED:
+        return of_call(lukhandro_write_bounded(COUNTED, LENT(STARTS), ROWS_AND_ENTRIES, BOUNDS, LENT(BYTES)));
+    case TO_VERSION_2:
+        return of_move(lukhandro_to_version_2(LENT(BYTES), LENT(SAVED)));
+    case TO_VERSION_1:
+        return of_move(lukhandro_to_version_1(LENT(BYTES), LENT(SAVED)));
     default:
         exit(2);
     }

@@ -56,6 +56,12 @@ row 2 dropped, read 0 0 6 2 6
 salvage 0 0 112 0 0
 salvage 1 0 0 0 0
 salvage 14 23 0 0 0
+to version 2 0 0 164
+read 0 0 6 3 7, bounds -2147483647 to 2147483647
+to version 1 0 0 112, the same bytes 1
+write 0 0 0, session 0 3 0, stored 6 28200 26
+to version 1 18 2 0
+read 14 0 0 0 0
 ";
     assert_eq!(printed("calls"), expected);
 }

@@ -3,6 +3,7 @@
 //! A check is the list of all places that offend; a value is worked out anew each time it is looked at.
 
 mod salvage;
+mod versions;
 
 use std::collections::BTreeSet;
 
@@ -30,6 +31,9 @@ struct Model {
     rows: Vec<Row>,
 }
 
+/// The bounds that allow every number.
+const FULL: (i32, i32) = (-2_147_483_647, 2_147_483_647);
+
 /// A check: its number and every place that offends.
 type Check = (u32, Vec<usize>);
 
@@ -40,6 +44,9 @@ impl Engine for Naive {
         }
         if case.call == Call::Salvage {
             return salvage::salvage(case);
+        }
+        if matches!(case.call, Call::ReadBounded | Call::WriteBounded | Call::ToVersion2 | Call::ToVersion1) {
+            return versions::answer(case);
         }
         match verdict(case) {
             Some(refused) => Answer::refused(refused),
@@ -94,19 +101,31 @@ fn verdict(case: &Case) -> Option<Refused> {
     })
 }
 
-/// Check 1 of every call but read and salvage.
-fn check_1(case: &Case) -> bool {
-    let Case { n, m, e, pairs, asked, .. } = *case;
-    let counts = (1..=4096).contains(&n) && m <= n && e <= 16384;
-    let bounds = case.lows.len() >= n && case.highs.len() >= n;
-    let tables = counts
+/// Check 1 of counts and tables.
+fn check_1_tables(case: &Case) -> bool {
+    let Case { n, m, e, .. } = *case;
+    (1..=4096).contains(&n)
+        && m <= n
+        && e <= 16384
         && case.kinds.len() >= m
         && case.makes.len() >= m
         && case.params.len() >= m
         && case.firsts.len() >= m
         && case.counts.len() >= m
         && case.vars.len() >= e
-        && case.coefs.len() >= e;
+        && case.coefs.len() >= e
+}
+
+/// Check 1 of bounds.
+fn check_1_bounds(case: &Case) -> bool {
+    case.lows.len() >= case.n && case.highs.len() >= case.n
+}
+
+/// Check 1 of every call but read, salvage and those over version 2.
+fn check_1(case: &Case) -> bool {
+    let Case { n, m, e, pairs, asked, .. } = *case;
+    let tables = check_1_tables(case);
+    let bounds = check_1_bounds(case);
     let index = case.reader_starts.len() > n && case.reader_places.len() >= e;
     let state = case.numbers.len() >= n && case.order.len() >= m && case.stored.len() >= n && index && bounds;
     let moved = pairs <= 64 && case.move_vars.len() >= pairs && case.move_values.len() >= pairs;
@@ -120,6 +139,7 @@ fn check_1(case: &Case) -> bool {
         Call::Keep => changes && moved && log,
         Call::TakeBack => changes && log,
         Call::Read | Call::Salvage => true,
+        Call::ReadBounded | Call::WriteBounded | Call::ToVersion2 | Call::ToVersion1 => true,
         Call::Write => tables && case.starts.len() >= n && case.bytes.len() >= 24 + 4 * n + 12 * m + 4 * e,
     }
 }
@@ -226,7 +246,7 @@ impl Model {
         places(4, self.n, |variable| {
             let (low, high) = (i128::from(case.lows[variable]), i128::from(case.highs[variable]));
             match self.maker(variable) {
-                Some(_) => (low, high) != (-2_147_483_647, 2_147_483_647),
+                Some(_) => (case.lows[variable], case.highs[variable]) != FULL,
                 None => !in_range(low) || !in_range(high) || low > high,
             }
         })

@@ -1,15 +1,18 @@
 -- The buffer holds what the file holds, as far as the counts reach, and each column is laid from it (`laid-padded`). Assumes nothing.
+use Prim.Native.Nat.{_≤_}
 use native.Mathlib.Omega.{arith}
+use lib.ListN.{length}
 use borrow.Author.Needs.{needs}
 use Rattle.paper.specs.Tables.{lent}
 use Rattle.paper.proofs.Reading.{same-rows}
-use Rattle.files.proofs.Counted.{Counted, counted-facts}
+use Rattle.paper.specs.File.{version1}
+use Rattle.layouts.proofs.Counted.{Counted, counted-facts}
 use Rattle.kept.proofs.Padded.{laid-padded}
 use Rattle.kept.proofs.lay.lay_given.Statement.{statement}
 use Rattle.kept.proofs.lay.lay_given.Tie as tie
 
-says : (c : tie.Start) → Counted (c .args .bytes .now)
-says c = counted-facts (c .args .bytes .now) (c .pre .1)
+says : (c : tie.Start) → Counted version1 (c .args .bytes .now)
+says c = counted-facts version1 (c .args .bytes .now) (c .pre .1)
 
 slice-aggregate-fill : tie.Need-slice-aggregate-fill
 slice-aggregate-fill c = search needs
@@ -33,7 +36,11 @@ slice-aggregate-lay-entries : tie.Need-slice-aggregate-lay-entries
 slice-aggregate-lay-entries c = search needs
 
 lay-entries-requires : tie.Need-lay-entries-requires
-lay-entries-requires c κs = let h = says (c .before .before .before .before .before .before .before .before .before .before .before .before .before .before .before .before .before) in let l = slice-aggregate-lay-entries (c .before .before) in omega arith
+lay-entries-requires c κs =
+    let s = c .before .before .before .before .before .before .before .before .before .before .before .before .before .before .before .before .before in
+    let a = s .args in let h = says s in let l = slice-aggregate-lay-entries (c .before .before) in
+    let vars : a .e ≤ length (a .vars .now) = omega arith in let coefs : a .e ≤ length (a .coefs .now) = omega arith in
+    ((vars, coefs), omega arith)
 
 returns : tie.Need-returns
 returns c =
