@@ -9,8 +9,8 @@ use crate::Session;
 use blanks::blanks_among;
 use fills::fill_keep;
 use judges::judge_keep;
-use logs::note_move;
-use moves::kept_once_more;
+use naturals::kept_once_more;
+use noting::note_move;
 use tables::Answer;
 
 // Keep, with the session record taken and given back by value.

@@ -10,9 +10,9 @@ use blanks::blanks_among;
 use fills::fill_keep;
 use integers::wide;
 use judges::judge_take_back;
-use logs::drop_move;
-use logs::latest_move;
-use moves::kept_once_less;
+use naturals::kept_once_less;
+use noting::drop_move;
+use noting::latest_move;
 use tables::Answer;
 
 // Taking back the latest kept move, with the session record taken and given back by value.

@@ -7,36 +7,18 @@ use mathlib.Core.Path.{_≡_, refl, sym, ap, ap₂, _∙_}
 use lib.IntN.{ℤ, pos, _+ℤ_}
 use lib.Dec.{eqb}
 use lib.Signed.{leZ}
-use Rattle.integers.specs.Integers.{up, dn, eqZ, away}
+use Rattle.integers.specs.Integers.{eqZ, away}
 use Rattle.integers.proofs.Order.{le-yes, le-no, yes-le, eqZ-yes}
-use Rattle.integers.proofs.Parts.{from-parts, sum-bal, sum-away, one-part}
+use Rattle.integers.proofs.Parts.{sum-away}
 use Rattle.paper.specs.Lists.{tally}
 use Rattle.paper.specs.Formula.{blank, lesser, greater}
 use Rattle.paper.proofs.Lists.{clash}
+use Rattle.sums.proofs.Sums.{level, zero-sum, sum-comm, sum-assoc}
 use Rattle.outcomes.specs.Outcomes.{Small}
 use Rattle.outcomes.specs.declared.Outcome.{Outcome}
 use Rattle.figures.specs.Figures.{results, oneOf, sum, totals}
 use Rattle.figures.specs.Adding.{single, plus, Room}
 use Rattle.figures.specs.declared.Totals.{Totals}
-
--- ── sums ──
--- by what lies above 0 and below
-level : (a b : ℤ) → up a + dn b ≡ up b + dn a → a ≡ b
-level a b h = let x = one-part a in let y = one-part b in from-parts a b (omega arith) (omega arith)
-
-zero-sum : (a : ℤ) → pos 0 +ℤ a ≡ a
-zero-sum a = let s = sum-bal (pos 0) a in level (pos 0 +ℤ a) a (omega arith)
-
-sum-comm : (a b : ℤ) → a +ℤ b ≡ b +ℤ a
-sum-comm a b = let s = sum-bal a b in let t = sum-bal b a in level (a +ℤ b) (b +ℤ a) (omega arith)
-
-pub sum-zero : (a : ℤ) → a +ℤ pos 0 ≡ a
-sum-zero a = sum-comm a (pos 0) ∙ zero-sum a
-
-sum-assoc : (a b c : ℤ) → (a +ℤ b) +ℤ c ≡ a +ℤ (b +ℤ c)
-sum-assoc a b c =
-    let s = sum-bal a b in let t = sum-bal (a +ℤ b) c in let u = sum-bal b c in let v = sum-bal a (b +ℤ c) in
-    level ((a +ℤ b) +ℤ c) (a +ℤ (b +ℤ c)) (omega arith)
 
 zero-add : (x : ℕ) → 0 + x ≡ x
 zero-add x = omega arith

@@ -1,10 +1,7 @@
 // What a move adds to the figures.
 ghost use mathlib.Core.Bool.{cond};
 ghost use mathlib.Core.Path.{_≡_};
-ghost use Prim.Native.Nat.{_+_, _<_};
-ghost use lib.IntN.{pos, _+ℤ_};
-ghost use Rattle.integers.specs.Integers.{eqZ, away};
-ghost use Rattle.paper.specs.Formula.{blank, lesser, greater};
+ghost use Rattle.paper.specs.Formula.{lesser, greater};
 ghost use Rattle.figures.specs.Figures.{oneOf};
 ghost use Rattle.outcomes.specs.Outcomes.{Small};
 ghost use Rattle.figures.specs.Adding.{Room, given, plus, single};
@@ -12,6 +9,7 @@ use crate::Totals;
 use blanks::BLANK;
 use blanks::is_blank;
 use outcomes::Outcome;
+use sums::add_value;
 
 // The greater of two results if max, else the lesser; a blank one is left out.
 fn one_of(max: bool, a: i32, b: i32) -> i32
@@ -48,17 +46,6 @@ fn one_if(test: bool) -> u32
         return 1;
     }
     0
-}
-
-// The exact sum with one more result; a blank one adds nothing.
-fn add_value(sum: i64, value: i32) -> i64
-    requires { ⌜ away sum + 2147483648 < 9223372036854775808 ⌝ }
-    ensures { λ r. ⌜ r ≡ sum +ℤ cond (eqZ value blank) (pos 0) value ⌝ }
-{
-    if is_blank(value) {
-        return sum;
-    }
-    sum + (value as i64)
 }
 
 // The figures with one more move.

@@ -1,20 +1,20 @@
 // Which rows of a file are kept: each that is whole and good, makes a variable that none kept before it makes, and leaves the entries within 16,384.
-ghost use mathlib.Core.Bool.{true, cond, _&&_};
+ghost use mathlib.Core.Bool.{true, cond};
 ghost use mathlib.Core.List.{[]};
 ghost use mathlib.Core.Path.{_≡_};
 ghost use Prim.Native.Nat.{_+_, _≤_, _<_};
-ghost use lib.Dec.{leb};
 ghost use lib.ListN.{length, set};
 ghost use Rattle.paper.specs.Lists.{nat};
 ghost use Rattle.paper.specs.Tables.{lent};
-ghost use Rattle.paper.specs.File.{nIn, endsAt};
+ghost use Rattle.paper.specs.File.{nIn};
 ghost use Rattle.paper.specs.Demands.{cut};
 ghost use Rattle.paper.proofs.Sizes.{Sized};
 ghost use Rattle.kept.specs.Saved.{rowWhole, aloneGood, canKeep, keptRows};
 ghost use Rattle.kept.specs.Scratch.{Kept};
 ghost use Rattle.kept.specs.Keeping.{Gives, Taken};
+use admissions::can_join;
+use admissions::entries_whole;
 use integers::wide;
-use layouts::ends_at;
 use layouts::entries_at;
 use repeats::mark;
 use sound::row_checks;
@@ -26,18 +26,6 @@ fn row_whole(bytes: &[u8], n: usize, row: usize) -> bool
     ensures { λ r. ⌜ r ≡ rowWhole (now (bytes .entry)) row ⌝ }
 {
     entries_at(24, n, row + 1) <= bytes.len()
-}
-
-// The entries of a row with this part are whole: they end within e and within the file.
-fn entries_whole(bytes: &[u8], n: usize, m: usize, e: usize, first: u16, count: u16) -> bool
-    requires { ⌜ (n ≤ 4096) × (m ≤ n) × (e ≤ 16384) ⌝ }
-    ensures { λ r. ⌜ r ≡ leb (first + count) e && leb (endsAt n m (first + count)) (length (now (bytes .entry))) ⌝ }
-{
-    let end = wide(first) + wide(count);
-    if e < end {
-        return false;
-    }
-    ends_at(false, n, m, end) <= bytes.len()
 }
 
 // The row is good on its own: checks 2 to 4 accept a table of this row alone.
@@ -123,9 +111,7 @@ fn can_keep(
     ) {
         return false;
     }
-    let v = wide(makes[row]);
-    let room = used + wide(counts[row]) <= 16384;
-    !made[v] & room
+    can_join(makes[row], counts[row], made, used)
 }
 
 // Takes a row if it is kept: marks its variable, and answers how many entries there are with its own.

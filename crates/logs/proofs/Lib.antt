@@ -1,4 +1,1 @@
-pub mod Slid
-pub mod Laid
-pub mod Noted
 pub mod Good

@@ -1,10 +1,4 @@
-// The log of kept moves, over its lent rows: check 16, a move noted with the values before it, and the latest one dropped.
+// Check 16: whether a log is one that keep and taking back may work with.
 mod fit;
-mod latest;
-mod note;
-mod slide;
 
 pub use fit::log_good;
-pub use latest::drop_move;
-pub use latest::latest_move;
-pub use note::note_move;

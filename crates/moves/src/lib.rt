@@ -1,12 +1,8 @@
 // Moves. What is checked of them and of the values that they change: checks 19 and 7, check 1 of a move, and checks 10 to 12 and 17 one by one and as a chain.
 // Made variables are told from search variables by the row of makers. Check 13 is `tables::first_unknown` over the asked variables.
-// An accepted one is counted.
-mod kept;
 mod pair;
 mod value;
 
-pub use kept::kept_once_less;
-pub use kept::kept_once_more;
 pub use pair::first_blank;
 pub use pair::first_outside;
 pub use pair::first_unmovable;

@@ -25,8 +25,9 @@ use Rattle.paper.proofs.Circle.{numbers-end, ends-everywhere}
 use Rattle.paper.proofs.Order.{Prec, Sorted, Rising, rank, order-sorted, order-in, order-length, order-unique, order-checked}
 use Rattle.paper.proofs.Eight.{numbered-ends, numbered-numbers, numbered-order, numbered-of}
 use Rattle.order.specs.Formed.{Formed}
-use Rattle.order.specs.Numbering.{above, partAt}
-use Rattle.order.specs.Ascent.{rightAt, standing, floor, risesAt}
+use Rattle.ascents.specs.Ascent.{standing, floor, risesAt}
+use Rattle.ascents.proofs.Climbs.{fails-here}
+use Rattle.order.specs.Numbering.{above, rightAt, partAt}
 use Rattle.order.proofs.Parted.{Parts}
 use Rattle.order.proofs.Sweeps.{numbering-above}
 
@@ -54,14 +55,6 @@ module _ (n : ℕ) (f : ℕ → ℕ) (inputs : List ℕ) where
       all = let h = rw e at (A .all) in omega arith;
     }
 
--- ── a loop that tests each number below m ──
-module _ (p : ℕ → Bool) (m i : ℕ) (S : Scan p m i) where
-  pub fails-here : i < m → p i ≡ false → false ≡ allBelow p m
-  fails-here l e = let f = scan-found p m i S l e in sym (ne-eqb (firstFail p m) m (λ q. lt-irrefl i (omega arith)))
-
-  pub holds-all : m ≤ i → true ≡ allBelow p m
-  holds-all l = sym (below-all p m (λ j h. S .good j (omega arith)))
-
 -- ── the pass over the numbers ──
 module _ (dep : ℕ → List ℕ) (nums : List ℕ) (n v x y : ℕ) (S : Scan (rightAt dep nums) n v) (l : v < n) (ex : x ≡ nat nums v) (ey : y ≡ above (nat nums) (dep v)) where
   pub right-next : x ≡ y → Scan (rightAt dep nums) n (v + 1)
@@ -69,46 +62,6 @@ module _ (dep : ℕ → List ℕ) (nums : List ℕ) (n v x y : ℕ) (S : Scan (r
 
   pub wrong-here : x ≢ y → false ≡ allBelow (rightAt dep nums) n
   wrong-here ne = fails-here (rightAt dep nums) n v S l (ne-eqb (nat nums v) (above (nat nums) (dep v)) (λ e. ne (ex ∙ e ∙ sym ey)))
-
--- ── the pass over the order: all places passed rise, and the next must reach `low` ──
-pub record Climbing (makes nums ord : List ℕ) (m i low : ℕ) : Type 0 where
-  pub passed : Scan (risesAt (standing makes nums) m ord) m i
-  pub next : low ≡ floor (standing makes nums) ord i
-  pub small : low ≤ 65536 * 65536
-
-module _ (makes nums ord : List ℕ) (m : ℕ) where
-  pub climbing-start : Climbing makes nums ord m 0 0
-  climbing-start = record { passed = scan-start _ m; next = refl; small = omega arith }
-
-  module _ (i low : ℕ) (C : Climbing makes nums ord m i low) where
-    pub climbed : m ≤ i → true ≡ allBelow (risesAt (standing makes nums) m ord) m
-    climbed l = holds-all _ m i (C .passed) l
-
-    module _ (l : i < m) (r : ℕ) (e : r ≡ nat ord i) where
-      pub no-row : m ≤ r → false ≡ allBelow (risesAt (standing makes nums) m ord) m
-      no-row h = fails-here _ m i (C .passed) l (ap (_&& leb (floor (standing makes nums) ord i) (standing makes nums (nat ord i))) (le-ltb (nat ord i) m (omega arith)))
-
-      module _ (v x : ℕ) (ev : v ≡ nat makes r) (ex : x ≡ nat nums v) where
-        stands : x * 65536 + r ≡ standing makes nums (nat ord i)
-        stands = rw (ex, ev, e)
-
-        pub too-low : x * 65536 + r < low → false ≡ allBelow (risesAt (standing makes nums) m ord) m
-        too-low h =
-            let s = stands in let f = C .next in
-            fails-here _ m i (C .passed) l
-            (ap (ltb (nat ord i) m &&_) (lt-leb (floor (standing makes nums) ord i) (standing makes nums (nat ord i)) (omega arith)) ∙ go (ltb (nat ord i) m))
-          where
-            go : (b : Bool) → (b && false) ≡ false
-            go true = refl
-            go false = refl
-
-        pub climbing-next : r < m → low ≤ x * 65536 + r → x < 65536 → r < 65536 → Climbing makes nums ord m (i + 1) (x * 65536 + r + 1)
-        climbing-next lr h lx k = let s = stands in let f = C .next in record {
-          passed = scan-next _ m i (C .passed) l
-              (ap₂ _&&_ (lt-ltb (nat ord i) m (omega arith)) (le-leb (floor (standing makes nums) ord i) (standing makes nums (nat ord i)) (omega arith)));
-          next = rw (add-one i) (ap (_+ 1) stands);
-          small = omega arith;
-        }
 
 -- ── neighbours ──
 index-of : {w : ℕ} (l : List ℕ) → List·Memᴰ w l → (j : ℕ) × (j < length l) × (w ≡ nat l j)

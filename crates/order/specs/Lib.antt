@@ -1,4 +1,3 @@
 pub mod Formed
 pub mod Numbering
 pub mod Chains
-pub mod Ascent

@@ -21,6 +21,10 @@ abbrev pub above : (ℕ → ℕ) → List ℕ → ℕ
 above f [] = 0
 above f (x ∷ xs) = max (suc (f x)) (above f xs)
 
+-- check 8 of the numbers: v's number is the least above its inputs'
+abbrev pub rightAt : (ℕ → List ℕ) → List ℕ → ℕ → Bool
+rightAt dep nums v = eqb (nat nums v) (above (nat nums) (dep v))
+
 -- what the maker's row has in a column, 0 without a maker; and where its part stops
 abbrev pub ofMaker : ℕ → List ℕ → ℕ
 ofMaker maker column = cond (eqb maker 0) 0 (nat column (maker - 1))

@@ -1,7 +1,8 @@
 // Check 8: whether lent numbers and a lent order are what build gives, without numbering anew.
 use crate::parts::set_parts;
-use crate::visit::larger;
+use ascents::order_right;
 use integers::wide;
+use naturals::larger;
 ghost use mathlib.Core.Path.{_≡_};
 ghost use Prim.Native.Nat.{_≤_, _<_};
 ghost use lib.ListN.{length};
@@ -9,9 +10,7 @@ ghost use Rattle.paper.specs.Lists.{nat, allBelow};
 ghost use Rattle.paper.specs.Checks.{numbered};
 ghost use Rattle.tables.specs.Makers.{Makers};
 ghost use Rattle.order.specs.Formed.{bare, Formed};
-ghost use Rattle.order.specs.Numbering.{above, partAt, Parted};
-ghost use Rattle.order.specs.Chains.{Keys};
-ghost use Rattle.order.specs.Ascent.{rightAt, standing, risesAt};
+ghost use Rattle.order.specs.Numbering.{above, rightAt, partAt, Parted};
 
 // The number that v's inputs' numbers give it.
 fn due(
@@ -54,29 +53,6 @@ fn numbers_right(
             return false;
         }
         v += 1;
-    }
-    true
-}
-
-// Whether the order holds rows, and they go up by number and then by row.
-fn order_right(n: usize, m: usize, makes: &[u16], nums: &[u16], ord: &[u16]) -> bool
-    requires keyed { ⌜ Keys n m (now makes) ⌝ }
-    requires there { ⌜ (n ≤ length (now nums)) × (m ≤ length (now ord)) ⌝ }
-    ensures { λ b. ⌜ b ≡ allBelow (risesAt (standing (now (makes .entry)) (now (nums .entry))) m (now (ord .entry))) m ⌝ }
-{
-    let mut least = 0;
-    let mut i = 0;
-    while i < m {
-        let r = wide(ord[i]);
-        if r >= m {
-            return false;
-        }
-        let stands = wide(nums[wide(makes[r])]) * 65536 + r;
-        if stands < least {
-            return false;
-        }
-        least = stands + 1;
-        i += 1;
     }
     true
 }

@@ -1,22 +1,13 @@
 // Which variables can have a topological number, and which: each is visited once, after what it is made from.
 use crate::parts::set_parts;
 use integers::wide;
+use naturals::larger;
 ghost use mathlib.Core.Path.{_≡_};
-ghost use Prim.Native.Nat.{_≤_, _<_, max};
+ghost use Prim.Native.Nat.{_≤_, _<_};
 ghost use Rattle.paper.specs.Lists.{firstFail};
 ghost use Rattle.tables.specs.Makers.{Makers};
 ghost use Rattle.order.specs.Formed.{bare, Formed};
 ghost use Rattle.order.specs.Numbering.{Clean, partAt, Parted, Right, Visited, Swept, ended, Found};
-
-// The larger of the two.
-pub fn larger(a: usize, b: usize) -> usize
-    ensures { λ r. ⌜ r ≡ max a b ⌝ }
-{
-    if a < b {
-        return b;
-    }
-    a
-}
 
 // The state of v after its visit: two more than its number, or 1 if it waits for itself or for one that does.
 fn visit(

@@ -11,7 +11,7 @@ ghost use Rattle.paper.specs.Lists.{nat, over};
 ghost use Rattle.paper.specs.Net.{number};
 ghost use Rattle.paper.specs.Tables.{net, order};
 ghost use Rattle.order.specs.Formed.{bare, Formed};
-ghost use Rattle.order.specs.Chains.{Keys};
+ghost use Rattle.ascents.specs.Ascent.{Keys};
 ghost use Rattle.order.specs.Numbering.{numberIn, Ended, Numbered};
 
 // Writes the number of every variable.

@@ -2,13 +2,13 @@
 ghost use mathlib.Core.Path.{_≡_};
 ghost use Prim.Native.Nat.{_≤_, _<_};
 ghost use Rattle.integers.specs.Integers.{away};
-ghost use Rattle.paper.specs.Calls.{numberOf, evaluationsOf};
 ghost use Rattle.judges.specs.Lent.{toModel};
 ghost use Rattle.moves.specs.Moves.{moveOf};
-ghost use Rattle.engine.specs.Left.{answerIn, recordIn};
+ghost use Rattle.engine.specs.Left.{recordIn};
 ghost use Rattle.outcomes.specs.Outcomes.{tried, outcome, Small};
+use answers::evaluations_of;
+use answers::number_of;
 use engine::Session;
-use tables::Answer;
 
 // What comes of a move by one route: the number that the engine answers, its evaluations, and the value of the asked variable.
 pub struct Tried {
@@ -24,26 +24,6 @@ pub struct Outcome {
     pub first: u32,
     pub second: u32,
     pub third: u32,
-}
-
-// The number of an answer, 0 if the call was accepted.
-fn number_of(answer: Answer) -> u32
-    ensures { λ r. ⌜ r ≡ numberOf (answerIn answer) ⌝ }
-{
-    match answer {
-        Answer::Accepted { .. } => 0,
-        Answer::Refused { number, .. } => number,
-    }
-}
-
-// The evaluations of an answer, 0 if the call was refused.
-fn evaluations_of(answer: Answer) -> u32
-    ensures { λ r. ⌜ r ≡ evaluationsOf (answerIn answer) ⌝ }
-{
-    match answer {
-        Answer::Accepted { evaluations } => evaluations,
-        Answer::Refused { .. } => 0,
-    }
 }
 
 // Tries a move by a route, with one variable asked, over a copy of the record and rows of its own.

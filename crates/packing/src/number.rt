@@ -11,7 +11,7 @@ ghost use Rattle.order.specs.Numbering.{Clean, ended};
 ghost use Rattle.packing.specs.Packing.{flagged, shape, Packable, Known, Makes, Numberable};
 use crate::choose::list_flagged;
 use crate::copy::pack_shape;
-use integers::wide;
+use admissions::still;
 use order::find_numbers;
 use tables::makers;
 
@@ -74,17 +74,6 @@ fn number_rows(
         &packed_vars[0..e],
         state,
     );
-}
-
-// The row was flagged, and its variable has a number.
-fn still(flag: bool, made: u16, state: &[u16; 4096]) -> bool
-    requires { ⌜ (flag ≡ true → made < 4096) ⌝ }
-    ensures { λ r. ⌜ r ≡ flag && ended (now (state .entry)) made ⌝ }
-{
-    if !flag {
-        return false;
-    }
-    2 <= state[wide(made)]
 }
 
 // Clears the flags of rows whose variable has no number.

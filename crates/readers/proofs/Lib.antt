@@ -3,5 +3,4 @@ pub mod Few
 pub mod ByEntry
 pub mod Naming
 pub mod Known
-pub mod Tries
 pub mod Walk

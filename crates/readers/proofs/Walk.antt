@@ -21,8 +21,8 @@ use Rattle.paper.proofs.Buffers.{over-at, over-length}
 use Rattle.paper.proofs.Sections.{those-place}
 use Rattle.paper.proofs.Indexed.{readers-within, indexed-start, indexed-place, indexed-from}
 use Rattle.order.specs.Numbering.{Clean}
+use Rattle.tries.specs.Walk.{stands, Untried, Passed, RowTried, closed}
 use Rattle.readers.specs.Index.{Laid}
-use Rattle.readers.specs.Walk.{stands, Untried, Passed, RowTried, closed}
 use Rattle.readers.proofs.Parts.{part-long, entry-low}
 use Rattle.readers.proofs.Few.{readers-few}
 

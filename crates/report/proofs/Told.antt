@@ -18,7 +18,7 @@ use Rattle.tables.specs.declared.Answer.{Answer}
 use Rattle.tables.specs.declared.Answer.the-variants.{Accepted, Refused}
 use Rattle.engine.specs.declared.Done.{Done}
 use Rattle.engine.specs.Left.{answerIn, leftByBuild}
-use Rattle.text.specs.Buffer.{Shows}
+use Rattle.buffers.specs.Buffer.{Shows}
 use Rattle.text.specs.Lines.{list, refusal}
 use Rattle.report.specs.Printed.{said, ofTables, ofRead, empty, printed, refusalIn, refusalOf}
 use Rattle.report.proofs.Bounds.{printed-length}

@@ -6,7 +6,7 @@ ghost use Rattle.io.specs.Counts.{Counts};
 ghost use Rattle.paper.specs.Tables.{lent};
 ghost use Rattle.engine.specs.Left.{answerIn};
 ghost use Rattle.report.specs.Printed.{ofTables, printed, refusalIn, refusalOf};
-ghost use Rattle.text.specs.Buffer.{Shows};
+ghost use Rattle.buffers.specs.Buffer.{Shows};
 use files::Reading;
 use tables::Answer;
 

@@ -18,7 +18,8 @@ use Rattle.tables.specs.Makers.{Makers}
 use Rattle.tables.proofs.Made.{maker-zero}
 use Rattle.tables.proofs.Whole.{front}
 use Rattle.kept.specs.Saved.{startGiven, startKept, savedTables}
-use Rattle.salvage.specs.Saving.{startTest, startTaken, Packed, Ready}
+use Rattle.admissions.specs.Starts.{startTest}
+use Rattle.salvage.specs.Saving.{startTaken, Packed, Ready}
 use Rattle.salvage.proofs.Outcome.{saved-sized, saved-sound}
 
 not-not : (b : Bool) → not (not b) ≡ b

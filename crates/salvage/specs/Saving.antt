@@ -1,24 +1,20 @@
 -- What the functions that keep start values and save rely on, and what they leave. Assumes nothing.
 use Prim.Native.Nat.{ℕ, suc, _<_}
-use mathlib.Core.Bool.{Bool, false, cond, not, _&&_}
+use mathlib.Core.Bool.{Bool, false, not}
 use mathlib.Core.List.{List}
 use mathlib.Core.Path.{_≡_}
 use lib.Dec.{eqb, leb}
 use lib.IntN.{ℤ, pos}
 use lib.ListN.{getD, take}
-use Rattle.integers.specs.Integers.{eqZ}
 use Rattle.paper.specs.Checks.{accepted}
 use Rattle.paper.specs.File.{rowsAt, mIn, headed}
-use Rattle.paper.specs.Formula.{blank}
 use Rattle.paper.specs.Lists.{nat}
 use Rattle.paper.specs.Tables.{Tables}
+use Rattle.admissions.specs.Starts.{startTest}
 use Rattle.kept.specs.Saved.{given, startGiven, stands, startKept, savedTables, savedStarts}
 
 -- ── start values ──
 -- v's is whole in a file of this size, and is one that build takes, where `by` is the row of makers
-abbrev pub startTest : Bool → Bool → ℤ → Bool
-startTest whole made value = whole && cond made (eqZ value (pos 0)) (not (eqZ value blank))
-
 abbrev pub startTaken : ℕ → List ℕ → List ℤ → ℕ → Bool
 startTaken size by starts v = startTest (leb (rowsAt (suc v)) size) (not (eqb (nat by v) 0)) (getD starts v (pos 0))
 

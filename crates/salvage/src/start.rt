@@ -5,17 +5,8 @@ ghost use Prim.Native.Nat.{_≤_};
 ghost use lib.IntN.{pos};
 ghost use lib.ListN.{length, getD};
 ghost use Rattle.paper.specs.Lists.{over};
-ghost use Rattle.salvage.specs.Saving.{startTest, startTaken};
-
-// A start value is kept: it is whole, and 0 at a made variable, and not blank at any other.
-fn start_good(whole: bool, made: bool, value: i32) -> bool
-    ensures { λ r. ⌜ r ≡ startTest whole made value ⌝ }
-{
-    if made {
-        return whole & (value == 0);
-    }
-    whole & (value != -2147483648)
-}
+ghost use Rattle.salvage.specs.Saving.{startTaken};
+use admissions::start_good;
 
 // The value, or 0 if it is not kept.
 fn value_if(kept: bool, value: i32) -> i32

@@ -13,7 +13,8 @@ use Rattle.io.specs.Digits.{digits}
 use Rattle.integers.specs.Integers.{eqZ}
 use Rattle.paper.specs.Lists.{nat, joined}
 use Rattle.paper.specs.Formula.{blank}
-use Rattle.text.specs.Lines.{places, decimal, sign, value, line, list, refusal}
+use Rattle.buffers.specs.Buffer.{sign}
+use Rattle.text.specs.Lines.{places, decimal, value, line, list, refusal}
 
 -- ── numbers ──
 digits-length : (b k n : ℕ) → length (digits b k n) ≡ k

@@ -15,8 +15,8 @@ use mir.Val.{SFits, ofZ}
 use Rattle.io.specs.Digits.{Fewest, digits}
 use Rattle.integers.specs.Integers.{eqZ}
 use Rattle.paper.specs.Formula.{blank}
-use Rattle.text.specs.Buffer.{Put}
-use Rattle.text.specs.Lines.{places, decimal, sign, value}
+use Rattle.buffers.specs.Buffer.{Put, sign}
+use Rattle.text.specs.Lines.{places, decimal, value}
 
 -- 10 ^ k is 10 at the least, but for k = 0
 ten-up : (k : ℕ) → 10 ≤ 10 ^ suc k

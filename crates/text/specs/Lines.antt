@@ -5,8 +5,8 @@ use mathlib.Core.List.{List, [], _∷_, _++_}
 use lib.Dec.{ltb}
 use lib.IntN.{ℤ, pos, natAbs}
 use lib.ListN.{length, getD}
-use lib.Signed.{ltZ}
 use Rattle.io.specs.Digits.{digits}
+use Rattle.buffers.specs.Buffer.{sign}
 use Rattle.integers.specs.Integers.{eqZ}
 use Rattle.paper.specs.Lists.{nat, joined}
 use Rattle.paper.specs.Formula.{blank}
@@ -19,10 +19,6 @@ places (suc most) n = cond (ltb n 10) 1 (suc (places most (n / 10)))
 -- a number below 2 ^ 64 in decimal digits, the fewest that hold it
 unfoldable pub decimal : ℕ → List ℕ
 decimal n = digits 10 (places 20 n) n
-
--- `-` in front of a number below 0
-abbrev pub sign : ℤ → List ℕ
-sign z = cond (ltZ z (pos 0)) (45 ∷ []) []
 
 -- a value, or `-` if it is blank
 abbrev pub value : ℤ → List ℕ

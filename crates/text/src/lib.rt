@@ -1,16 +1,15 @@
 // What the program prints, put into a lent buffer: the refusal line and the list. A place is where the next byte goes; a full buffer takes no
 // more, so every call takes any buffer, and the contract says what is in it.
-mod buffer;
 mod numbers;
 
 ghost use Rattle.io.specs.Counts.{Counts};
-ghost use Rattle.text.specs.Buffer.{Put, Shows};
+ghost use Rattle.buffers.specs.Buffer.{Put, Shows};
 ghost use Rattle.text.specs.Lines as Lines;
-use crate::buffer::least;
-use crate::buffer::put;
-use crate::buffer::put_all;
 use crate::numbers::put_decimal;
 use crate::numbers::put_value;
+use buffers::least;
+use buffers::put;
+use buffers::put_all;
 
 // Puts a line of the list.
 fn put_line(out: &mut [u8], at: usize, v: usize, number: u16, value: i32) -> usize

@@ -1,11 +1,12 @@
 // Numbers and values as text.
 ghost use lib.IntN.{natAbs};
 ghost use mathlib.Core.Path.{_≡_};
-ghost use Rattle.text.specs.Buffer.{Put};
+ghost use Rattle.buffers.specs.Buffer.{Put};
 ghost use Rattle.text.specs.Lines as Lines;
-use crate::buffer::put;
-use crate::buffer::put_all;
 use blanks::is_blank;
+use buffers::put;
+use buffers::put_all;
+use buffers::put_sign;
 use integers::bits32;
 
 // Puts the decimal digits of a number.
@@ -23,13 +24,6 @@ fn size(v: i32) -> u64
 {
     let bits = bits32(v) as u64;
     if v < 0 { 4294967296 - bits } else { bits }
-}
-
-// Puts the sign of a number below 0.
-fn put_sign(out: &mut [u8], at: usize, v: i32) -> usize
-    ensures { λ r. ⌜ Put (Lines.sign v) (now (out .entry)) at (now (out .exit)) r ⌝ }
-{
-    if v < 0 { put(out, at, b'-') } else { at }
 }
 
 // Puts a value, or `-` if it is blank.

@@ -72,37 +72,29 @@ returns-2 c =
     not-alone (s .args .bytes .now) (tables s) (s .args .row) (earlier s) (s .pre .0)
     (all-whole (w .before) ∙ not-false _ (w .if1 .left)) (sym (c .before .alone-good .ensures) ∙ not-true _ (c .if2 .taken))
 
-mul-wide : tie.Need-mul-wide
-mul-wide c = let h = says (c .before .before .before .before .before .before .before .before .before .before .before .before .before .before) in search needs
+mul-can-join : tie.Need-mul-can-join
+mul-can-join c = let h = says (c .before .before .before .before .before .before .before .before .before .before .before .before .before .before) in search needs
 
-shared-slice-read-wide : tie.Need-shared-slice-read-wide
-shared-slice-read-wide c = let h = says (c .before .before .before .before .before .before .before .before .before .before .before .before .before .before .before) in omega arith
+shared-slice-read-can-join : tie.Need-shared-slice-read-can-join
+shared-slice-read-can-join c = let h = says (c .before .before .before .before .before .before .before .before .before .before .before .before .before .before .before) in omega arith
 
-wide-requires : tie.Need-wide-requires
-wide-requires c κs = search needs
+mul-can-join-2 : tie.Need-mul-can-join-2
+mul-can-join-2 c = let h = says (c .before .before .before .before .before .before .before .before .before .before .before .before .before .before .before) in search needs
 
-mul-wide-2 : tie.Need-mul-wide-2
-mul-wide-2 c = let h = says (c .before .before .before .before .before .before .before .before .before .before .before .before .before .before .before .before) in search needs
+shared-slice-read-can-join-2 : tie.Need-shared-slice-read-can-join-2
+shared-slice-read-can-join-2 c = let h = says (c .before .before .before .before .before .before .before .before .before .before .before .before .before .before .before .before) in omega arith
 
-shared-slice-read-wide-2 : tie.Need-shared-slice-read-wide-2
-shared-slice-read-wide-2 c = let h = says (c .before .before .before .before .before .before .before .before .before .before .before .before .before .before .before .before .before) in omega arith
-
-wide-requires-2 : tie.Need-wide-requires-2
-wide-requires-2 c κs = search needs
-
-add-room : tie.Need-add-room
-add-room c = let few = c .before .before .before .before .before .before .before .before .before .before .before .before .before .before .before .before .before .before .pre .1 .1 .few in search needs
-
-shared-slice-read-result : tie.Need-shared-slice-read-result
-shared-slice-read-result c =
-    let g = c .before .before .before .before .before in let s = g .before .before .before .before .before .before .before .before .before .before .before .before .before .before in let h = says s in let full = s .pre .1 .1 .full in let low = made-low g in let v = c .before .before .before .wide .ensures .0 in omega arith
+can-join-requires : tie.Need-can-join-requires
+can-join-requires c κs =
+    let g = c .before .before in let s = g .before .before .before .before .before .before .before .before .before .before .before .before .before .before in let h = says s in let full = s .pre .1 .1 .full in let low = made-low g in
+    (omega arith, s .pre .1 .1 .few)
 
 returns-3 : tie.Need-returns-3
 returns-3 c =
-    let g = c .before .before .before .before .before in let w = g .before .before in let s = w .before .before .before .before .before .before .before .before .before .before .before .before in let h = says s in let low = made-low g in
-    rw (c .before .before .before .wide .ensures .0, c .before .wide2 .ensures .0)
-    (keep-last (s .args .bytes .now) (tables s) (s .args .row) (earlier s) (s .pre .0) (s .pre .1 .1)
-    (all-whole (w .before) ∙ not-false _ (w .if1 .left)) (good g) (omega arith))
+    let g = c .before .before .before in let w = g .before .before in let s = w .before .before .before .before .before .before .before .before .before .before .before .before in let h = says s in let low = made-low g in
+    c .can-join .ensures
+    ∙ keep-last (s .args .bytes .now) (tables s) (s .args .row) (earlier s) (s .pre .0) (s .pre .1 .1)
+    (all-whole (w .before) ∙ not-false _ (w .if1 .left)) (good g) (omega arith)
 
 pub can-keep-spec : {M : Type 1} → statement M
 can-keep-spec =
@@ -117,12 +109,9 @@ can-keep-spec =
     returns
     alone-good-requires
     returns-2
-    mul-wide
-    shared-slice-read-wide
-    wide-requires
-    mul-wide-2
-    shared-slice-read-wide-2
-    wide-requires-2
-    add-room
-    shared-slice-read-result
+    mul-can-join
+    shared-slice-read-can-join
+    mul-can-join-2
+    shared-slice-read-can-join-2
+    can-join-requires
     returns-3)

@@ -3,9 +3,9 @@ use Prim.Native.Nat.{_-_}
 use native.Mathlib.Omega.{arith}
 use borrow.Author.Needs.{needs}
 use Rattle.paper.proofs.Scan.{Scan, scan-start}
-use Rattle.order.specs.Numbering.{partAt}
-use Rattle.order.specs.Ascent.{rightAt}
-use Rattle.order.proofs.Eight.{right-next, wrong-here, holds-all}
+use Rattle.ascents.proofs.Climbs.{holds-all}
+use Rattle.order.specs.Numbering.{rightAt, partAt}
+use Rattle.order.proofs.Eight.{right-next, wrong-here}
 use Rattle.order.proofs.right.numbers_right.Statement.{statement}
 use Rattle.order.proofs.right.numbers_right.Tie as tie
 

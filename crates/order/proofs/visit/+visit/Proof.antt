@@ -16,7 +16,7 @@ use Rattle.order.proofs.visit.visit.Reads as visit
 use Rattle.order.proofs.visit.visit.Kinds as visit-kinds
 use Rattle.order.proofs.visit.+visit.Lts-visit as visit-lts
 use Rattle.integers.proofs.wide.Reads as wide-reads
-use Rattle.order.proofs.visit.larger.Reads as larger-reads
+use Rattle.naturals.proofs.larger.Reads as larger-reads
 use Rattle.order.proofs.visit.+visit.{statement}
 use Rattle.order.proofs.visit.+visit.Tie.{close}
 
