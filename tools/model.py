@@ -1,4 +1,4 @@
-"""The model file, what `values` prints for it, what build, trial, keep and taking back leave, and a batch of moves in figures, from the specification
+"""The model file, what `values` and `reasons` print for it, what build, trial, keep and taking back leave, and a batch of moves in figures, from the specification
 alone: a second implementation, which shares nothing with the engine. It is slow and plain on purpose: numbers in rounds, formulas over whole numbers of any size, a place found by
 looking at every index."""
 import struct
@@ -189,6 +189,46 @@ def formula(kind, param, coefs, xs):
     if kind == DEPARTURES:
         return in_range(times)
     return start + (times - 1) * headway if times else BLANK
+
+
+# ── why a value is blank ──
+def applying(kind, param, coefs, xs):
+    """Every reason that applies to a formula over these inputs: 1 its result left the range, 2 index outside, 3 headway 0 or less, 4 a blank input
+    stopped it, 5 no departures."""
+    if kind == ELEMENT:
+        index, candidates = xs[0], xs[1:]
+        if not 0 <= index < len(candidates):
+            return {2, 4} if index == BLANK else {2}
+        return {4} if candidates[index] == BLANK else set()
+    if kind in (MIN, MAX):
+        return {4} if set(xs) == {BLANK} else set()
+    found, exact = {4} if BLANK in xs else set(), 0
+    if kind == LINEAR:
+        exact = param + sum(c * x for c, x in zip(coefs, xs))
+    elif kind == OVER:
+        exact = max(xs[0] - xs[1], 0)
+    elif kind in (DEPARTURES, LAST):
+        start, end, headway = xs
+        times = range(start, end, headway) if headway > 0 else None  # the times themselves
+        found |= {3} if times is None else {5} if kind == LAST and not times else set()
+        exact = len(times) if kind == DEPARTURES and times else 0
+    return found if LOW <= exact <= HIGH else found | {1}
+
+
+def reason(kind, param, coefs, xs):
+    """Why a formula has no value over these inputs, 0 if it has one: of several reasons the first of 4, 3, 2, 5, 1."""
+    found = applying(kind, param, coefs, xs)
+    assert bool(found) == (formula(kind, param, coefs, xs) == BLANK)
+    return next((number for number in (4, 3, 2, 5, 1) if number in found), 0)
+
+
+def reasons_of(lines, entries, values):
+    """The reason of every variable over a row of values, 0 for a search variable."""
+    row = [0] * len(values)
+    for kind, makes, param, first, count in lines:
+        part = entries[first:first + count]
+        row[makes] = reason(kind, param, [c for _, c in part], [values[v] for v, _ in part])
+    return row
 
 
 def built(starts, lines, entries):
@@ -477,8 +517,9 @@ def figured(lent, record, moves, move_pairs, move_vars, move_values, asked, by_n
     return figures, filled([numbers.count(k) for k in range(20)], by_number)
 
 
-# ── what `values` prints ──
-def printed(data):
+# ── what `values` and `reasons` print ──
+def printed(data, blank=lambda why: '-'):
+    """The text for a file; a blank with the reason `why` stands in the list as `blank` has it."""
     if len(data) > LONGEST:
         return 'refused 1 0\n'
     wrong = wrong_field(data)
@@ -489,7 +530,13 @@ def printed(data):
     if bad:
         return 'refused %d %d\n' % bad
     known, values = built(*model)
-    return ''.join('%d %d %s\n' % (v, known[v], '-' if x == BLANK else x) for v, x in enumerate(values))
+    whys = reasons_of(*model[1:], values)
+    return ''.join('%d %d %s\n' % (v, known[v], blank(whys[v]) if x == BLANK else x) for v, x in enumerate(values))
+
+
+def printed_with_reasons(data):
+    """What `reasons` prints: the list of `values`, a blank as `blank:` followed by its reason."""
+    return printed(data, lambda why: 'blank:%d' % why)
 
 
 # ── files that a tool writes ──

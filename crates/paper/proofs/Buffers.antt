@@ -8,7 +8,7 @@ use mathlib.Core.List.{List, [], _∷_, _++_}
 use mathlib.Core.Path.{_≡_, refl, ap, ap₂, sym, _∙_}
 use lib.Dec.{eqb, ltb}
 use lib.ListN.{length, getD, take, drop, set, length-append, length-drop, length-set, take-append-drop, List·getD-append}
-use lib.Seq.{take-at, drop-at, take-suc, take-suc-set, drop-set-lt, take-append-le, drop-append-le, getD-append-seam, set-append-left, getD-set-same, getD-set-other, ext-getD, getD-take, length-take-le}
+use lib.Seq.{take-at, drop-at, take-suc, take-suc-set, drop-set-lt, take-append-le, drop-append-le, getD-append-seam, set-append-left, getD-set-same, getD-set-other, ext-getD, getD-take, getD-drop, length-take-le}
 use borrow.Author.Tests.{ltb-true, ltb-false, eqb-true, eqb-false}
 use Rattle.paper.specs.Lists.{tally, size, below, over}
 use Rattle.paper.proofs.Lists.{tally-append}
@@ -125,6 +125,12 @@ module _ {A : Type 0} (f : ℕ → A) (before : List A) where
 
   pub filled-end : (l : List A) (i n : ℕ) → Filled f before l i → i ≡ n → l ≡ over n f before
   filled-end l i n s e = rw (← e) (sym (take-append-drop i l) ∙ ap₂ _++_ (s .front) (s .back))
+
+  -- what is still to come stands as it did
+  pub filled-still : (l : List A) (i : ℕ) (d : A) → Filled f before l i → getD l i d ≡ getD before i d
+  filled-still l i d s =
+      let z : i + 0 ≡ i = omega arith in
+      ap (λ k. getD l k d) (sym z) ∙ sym (getD-drop i l 0 d) ∙ ap (λ r. getD r 0 d) (s .back) ∙ getD-drop i before 0 d ∙ ap (λ k. getD before k d) z
 
 -- ── the number of ones in a row of flags ──
 pub ones-below : (p : ℕ → Bool) (n : ℕ) → tally (eqb 1) (below (λ v. cond (p v) 1 0) n) ≡ size p n

@@ -28,6 +28,8 @@ pub mod Windows
 pub mod Extreme
 pub mod Formulas
 pub mod Ranges
+pub mod Reason
+pub mod RouteReasons
 pub mod Bytes
 pub mod Written
 pub mod Fields

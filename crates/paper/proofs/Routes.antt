@@ -53,7 +53,7 @@ module _ (N : Net) (L : Lawful N) where
         go false b p q = same-old s old v q
 
     -- where a made variable is left out, no input of it changed
-    quiet : (r : Route) (old s : Values) (v : ℕ) → N .made v ≡ true → live N r old s k (new N r old s k) v ≡ false
+    pub quiet : (r : Route) (old s : Values) (v : ℕ) → N .made v ≡ true → live N r old s k (new N r old s k) v ≡ false
         → (i : ℕ) → List·Memᴰ i (N .ins v) → new N r old s k i ≡ old i
     quiet input-to-output old s v m e i h = same-old (new N input-to-output old s k) old i (any-out (differs (new N input-to-output old s k) old) (N .ins v) e h)
     quiet output-to-input old s v m e i h = absurd (true≢false e)

@@ -2,6 +2,7 @@ pub mod Lists
 pub mod Formula
 pub mod Net
 pub mod Tables
+pub mod Reason
 pub mod Checks
 pub mod Log
 pub mod Calls

@@ -14,7 +14,7 @@ use Rattle.integers.specs.Integers.{eqZ}
 use Rattle.paper.specs.Lists.{nat, joined}
 use Rattle.paper.specs.Formula.{blank}
 use Rattle.buffers.specs.Buffer.{sign}
-use Rattle.text.specs.Lines.{places, decimal, value, line, list, refusal}
+use Rattle.text.specs.Lines.{places, decimal, value, reasoned, line, lines, list, refusal}
 
 -- ── numbers ──
 digits-length : (b k n : ℕ) → length (digits b k n) ≡ k
@@ -56,12 +56,21 @@ value-length z h = go (eqZ z blank) (ltZ z (pos 0)) (decimal-few 9 (natAbs z) (o
     go false true l = omega arith
     go false false l = omega arith
 
+-- with a reason no more
+field-length : (b : Bool) (z : ℤ) (reason : ℕ) → natAbs z ≤ 2147483648 → reason < 1000 → length (cond b (reasoned z reason) (value z)) ≤ 11
+field-length true z reason h l = go (eqZ z blank) (decimal-few 2 reason (omega arith)) (value-length z h)
+  where
+    go : (b : Bool) → length (decimal reason) ≤ 3 → length (value z) ≤ 11 → length (cond b ((98 ∷ 108 ∷ 97 ∷ 110 ∷ 107 ∷ 58 ∷ []) ++ decimal reason) (value z)) ≤ 11
+    go true k n = omega arith
+    go false k n = n
+field-length false z reason h l = value-length z h
+
 -- ── lines ──
-line-length : (v number : ℕ) (z : ℤ) → v < 10000 → number < 10000 → natAbs z ≤ 2147483648 → length (line v number z) ≤ 22
-line-length v number z hv hn hz =
-    let a = decimal-few 3 v (omega arith) in
-    let b = decimal-few 3 number (omega arith) in
-    let c = value-length z hz in
+line-length : (b : Bool) (v number : ℕ) (z : ℤ) (reason : ℕ) → v < 10000 → number < 10000 → natAbs z ≤ 2147483648 → reason < 1000 → length (line b v number z reason) ≤ 22
+line-length b v number z reason hv hn hz hr =
+    let c = decimal-few 3 v (omega arith) in
+    let d = decimal-few 3 number (omega arith) in
+    let e = field-length b z reason hz hr in
     simp length-append (omega arith)
 
 pub refusal-length : (number place : ℕ) → length (refusal number place) ≤ 50
@@ -80,12 +89,16 @@ joined-length f w (suc n) h =
     omega arith
 
 -- the list: at most 4,096 lines
+pub lines-length : (b : Bool) (n : ℕ) (numbers : List ℕ) (values : List ℤ) (row : List ℕ) → n ≤ 4096 → ((v : ℕ) → v < n → nat numbers v < 10000)
+    → ((v : ℕ) → v < n → natAbs (getD values v (pos 0)) ≤ 2147483648) → ((v : ℕ) → v < n → nat row v < 1000) → length (lines b n numbers values row) ≤ 90112
+unfolding lines
+lines-length b n numbers values row few low near known =
+    let count = min n (min (length numbers) (length values)) in
+    let short : (v : ℕ) → v < count → length (line b v (nat numbers v) (getD values v (pos 0)) (nat row v)) ≤ 22 =
+    (λ v h. line-length b v (nat numbers v) (getD values v (pos 0)) (nat row v) (omega arith) (low v (omega arith)) (near v (omega arith)) (known v (omega arith))) in
+    let l = joined-length (λ v. line b v (nat numbers v) (getD values v (pos 0)) (nat row v)) 22 count short in
+    omega arith
+
 pub list-length : (n : ℕ) (numbers : List ℕ) (values : List ℤ) → n ≤ 4096 → ((v : ℕ) → v < n → nat numbers v < 10000)
     → ((v : ℕ) → v < n → natAbs (getD values v (pos 0)) ≤ 2147483648) → length (list n numbers values) ≤ 90112
-unfolding list
-list-length n numbers values few low near =
-    let count = min n (min (length numbers) (length values)) in
-    let short : (v : ℕ) → v < count → length (line v (nat numbers v) (getD values v (pos 0))) ≤ 22 =
-    (λ v h. line-length v (nat numbers v) (getD values v (pos 0)) (omega arith) (low v (omega arith)) (near v (omega arith))) in
-    let l = joined-length (λ v. line v (nat numbers v) (getD values v (pos 0))) 22 count short in
-    omega arith
+list-length n numbers values few low near = lines-length false n numbers values [] few low near (λ v h. omega arith)

@@ -16,7 +16,7 @@ use Rattle.io.specs.Digits.{Fewest, digits}
 use Rattle.integers.specs.Integers.{eqZ}
 use Rattle.paper.specs.Formula.{blank}
 use Rattle.buffers.specs.Buffer.{Put, sign}
-use Rattle.text.specs.Lines.{places, decimal, value}
+use Rattle.text.specs.Lines.{places, decimal, value, reasoned}
 
 -- 10 ^ k is 10 at the least, but for k = 0
 ten-up : (k : ℕ) → 10 ≤ 10 ^ suc k
@@ -56,10 +56,25 @@ pub below-zero : (v : ℤ) → SFits w32 v → ltZ v (pos 0) ≡ true → (ofZ w
 below-zero (pos n) f e = absurd (omega (arith, ltb-true n 0 e))
 below-zero (negsuc n) f e = let h : n < 2 ^ 31 = f .sfits in (omega arith, omega arith)
 
--- ── a value, by the test whether it is blank ──
+-- ── a text of two, by a test ──
+module _ {l after : List ℕ} {at next : ℕ} (xs ys : List ℕ) {t : Bool} where
+  pub put-first : t ≡ true → Put xs l at after next → Put (cond t xs ys) l at after next
+  put-first e p = subst (λ b. Put (cond b xs ys) l at after next) (sym e) p
+
+  pub put-other : t ≡ false → Put ys l at after next → Put (cond t xs ys) l at after next
+  put-other e p = subst (λ b. Put (cond b xs ys) l at after next) (sym e) p
+
+-- a value, by the test whether it is blank
 module _ (z : ℤ) {l after : List ℕ} {at next : ℕ} where
   pub put-blank : eqZ z blank ≡ true → Put (45 ∷ []) l at after next → Put (value z) l at after next
-  put-blank e p = subst (λ (xs : List ℕ). Put xs l at after next) (sym (ap (λ t. cond t (45 ∷ []) (sign z ++ decimal (natAbs z))) e)) p
+  put-blank = put-first (45 ∷ []) (sign z ++ decimal (natAbs z))
 
   pub put-number : eqZ z blank ≡ false → Put (sign z ++ decimal (natAbs z)) l at after next → Put (value z) l at after next
-  put-number e p = subst (λ (xs : List ℕ). Put xs l at after next) (sym (ap (λ t. cond t (45 ∷ []) (sign z ++ decimal (natAbs z))) e)) p
+  put-number = put-other (45 ∷ []) (sign z ++ decimal (natAbs z))
+
+  module _ (reason : ℕ) where
+    pub put-reason : eqZ z blank ≡ true → Put ((98 ∷ 108 ∷ 97 ∷ 110 ∷ 107 ∷ 58 ∷ []) ++ decimal reason) l at after next → Put (reasoned z reason) l at after next
+    put-reason = put-first ((98 ∷ 108 ∷ 97 ∷ 110 ∷ 107 ∷ 58 ∷ []) ++ decimal reason) (value z)
+
+    pub put-no-reason : eqZ z blank ≡ false → Put (value z) l at after next → Put (reasoned z reason) l at after next
+    put-no-reason = put-other ((98 ∷ 108 ∷ 97 ∷ 110 ∷ 107 ∷ 58 ∷ []) ++ decimal reason) (value z)

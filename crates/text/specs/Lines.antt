@@ -1,6 +1,6 @@
 -- What the program prints, as bytes: the refusal line and the list. Assumes nothing.
 use Prim.Native.Nat.{ℕ, zero, suc, _/_, min}
-use mathlib.Core.Bool.{cond}
+use mathlib.Core.Bool.{Bool, true, false, cond}
 use mathlib.Core.List.{List, [], _∷_, _++_}
 use lib.Dec.{ltb}
 use lib.IntN.{ℤ, pos, natAbs}
@@ -24,13 +24,24 @@ decimal n = digits 10 (places 20 n) n
 abbrev pub value : ℤ → List ℕ
 value z = cond (eqZ z blank) (45 ∷ []) (sign z ++ decimal (natAbs z))
 
--- a line of the list: variable, topological number and value, parted by single blanks
-abbrev pub line : ℕ → ℕ → ℤ → List ℕ
-line v number z = decimal v ++ (32 ∷ []) ++ decimal number ++ (32 ∷ []) ++ value z ++ (10 ∷ [])
+-- the same with a blank as `blank:` followed by its reason
+abbrev pub reasoned : ℤ → ℕ → List ℕ
+reasoned z reason = cond (eqZ z blank) ((98 ∷ 108 ∷ 97 ∷ 110 ∷ 107 ∷ 58 ∷ []) ++ decimal reason) (value z)
+
+-- a line of the list: variable, topological number and value, with reasons or without, parted by single blanks
+abbrev pub line : Bool → ℕ → ℕ → ℤ → ℕ → List ℕ
+line reasons v number z reason = decimal v ++ (32 ∷ []) ++ decimal number ++ (32 ∷ []) ++ cond reasons (reasoned z reason) (value z) ++ (10 ∷ [])
 
 -- a line for each of the first n variables that has a number and a value
-unfoldable pub list : ℕ → List ℕ → List ℤ → List ℕ
-list n numbers values = joined (λ v. line v (nat numbers v) (getD values v (pos 0))) (min n (min (length numbers) (length values)))
+unfoldable pub lines : Bool → ℕ → List ℕ → List ℤ → List ℕ → List ℕ
+lines reasons n numbers values row = joined (λ v. line reasons v (nat numbers v) (getD values v (pos 0)) (nat row v)) (min n (min (length numbers) (length values)))
+
+-- the list without reasons, and with those of a row
+abbrev pub list : ℕ → List ℕ → List ℤ → List ℕ
+list n numbers values = lines false n numbers values []
+
+abbrev pub listWithReasons : ℕ → List ℕ → List ℤ → List ℕ → List ℕ
+listWithReasons n numbers values row = lines true n numbers values row
 
 -- `refused`, the number and the place, parted by single blanks
 unfoldable pub refusal : ℕ → ℕ → List ℕ

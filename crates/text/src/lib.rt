@@ -1,36 +1,61 @@
-// What the program prints, put into a lent buffer: the refusal line and the list. A place is where the next byte goes; a full buffer takes no
+// What the programs print, put into a lent buffer: the refusal line and the list, with reasons or without. A place is where the next byte goes; a full buffer takes no
 // more, so every call takes any buffer, and the contract says what is in it.
 mod numbers;
+mod reasons;
 
 ghost use Rattle.io.specs.Counts.{Counts};
 ghost use Rattle.buffers.specs.Buffer.{Put, Shows};
 ghost use Rattle.text.specs.Lines as Lines;
 use crate::numbers::put_decimal;
-use crate::numbers::put_value;
+use crate::reasons::put_field;
+use crate::reasons::reason_at;
 use buffers::least;
 use buffers::put;
 use buffers::put_all;
 
-// Puts a line of the list.
-fn put_line(out: &mut [u8], at: usize, v: usize, number: u16, value: i32) -> usize
-    ensures { λ r. ⌜ Put (Lines.line v number value) (now (out .entry)) at (now (out .exit)) r ⌝ }
+// Puts a line of the list, with reasons or without.
+fn put_line(
+    reasons: bool,
+    out: &mut [u8],
+    at: usize,
+    v: usize,
+    number: u16,
+    value: i32,
+    reason: u8,
+) -> usize
+    ensures { λ r. ⌜ Put (Lines.line reasons v number value reason) (now (out .entry)) at (now (out .exit)) r ⌝ }
 {
     let a = put_decimal(out, at, v as u64);
     let b = put(out, a, b' ');
     let c = put_decimal(out, b, number as u64);
     let d = put(out, c, b' ');
-    let e = put_value(out, d, value);
+    let e = put_field(reasons, out, d, value, reason);
     put(out, e, b'\n')
 }
 
-// Puts the lines of the variables below n, from the front on.
-fn put_lines(n: usize, numbers: &[u16], values: &[i32], out: &mut [u8]) -> usize
-    ensures { λ r. ⌜ Put (Lines.list n (now (numbers .entry)) (now (values .entry))) (now (out .entry)) 0 (now (out .exit)) r ⌝ }
+// Puts the lines of the variables below n, from the front on, with the reasons of a row or without.
+fn put_lines(
+    reasons: bool,
+    n: usize,
+    numbers: &[u16],
+    values: &[i32],
+    row: &[u8],
+    out: &mut [u8],
+) -> usize
+    ensures { λ r. ⌜ Put (Lines.lines reasons n (now (numbers .entry)) (now (values .entry)) (now (row .entry))) (now (out .entry)) 0 (now (out .exit)) r ⌝ }
 {
     let count = least(n, least(numbers.len(), values.len()));
     let mut at = 0;
     for v in 0..count {
-        at = put_line(out, at, v, numbers[v], values[v]);
+        at = put_line(
+            reasons,
+            out,
+            at,
+            v,
+            numbers[v],
+            values[v],
+            reason_at(row, v),
+        );
     }
     at
 }
@@ -51,7 +76,21 @@ pub fn list(n: usize, numbers: &[u16], values: &[i32], out: &mut [u8]) -> usize
     ensures { λ r. ⌜ Counts r (now (out .exit)) ⌝ }
     ensures { λ r. ⌜ Shows (Lines.list n (now (numbers .entry)) (now (values .entry))) (now (out .entry)) (now (out .exit)) r ⌝ }
 {
-    put_lines(n, numbers, values, out)
+    put_lines(false, n, numbers, values, &[], out)
+}
+
+// The list with reasons: its text in front of the buffer, and how many bytes that is. A blank is `blank:` followed by its reason.
+pub fn list_with_reasons(
+    n: usize,
+    numbers: &[u16],
+    values: &[i32],
+    reasons: &[u8],
+    out: &mut [u8],
+) -> usize
+    ensures { λ r. ⌜ Counts r (now (out .exit)) ⌝ }
+    ensures { λ r. ⌜ Shows (Lines.listWithReasons n (now (numbers .entry)) (now (values .entry)) (now (reasons .entry))) (now (out .entry)) (now (out .exit)) r ⌝ }
+{
+    put_lines(true, n, numbers, values, reasons, out)
 }
 
 // The refusal line: its text in front of the buffer, and how many bytes that is.

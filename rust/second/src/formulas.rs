@@ -50,13 +50,13 @@ pub(crate) fn chosen(row: &Row<'_>, values: &[i32]) -> Option<usize> {
 
 /// The value at one place of a row's part.
 #[inline]
-fn input(row: &Row<'_>, values: &[i32], place: usize) -> i32 {
+pub(crate) fn input(row: &Row<'_>, values: &[i32], place: usize) -> i32 {
     values[usize::from(row.vars[place])]
 }
 
 /// The values of a row's inputs in turn.
 #[inline]
-fn inputs<'a>(row: &Row<'a>, values: &'a [i32]) -> impl Iterator<Item = i32> + 'a {
+pub(crate) fn inputs<'a>(row: &Row<'a>, values: &'a [i32]) -> impl Iterator<Item = i32> + 'a {
     row.vars.iter().map(move |&variable| values[usize::from(variable)])
 }
 

@@ -17,6 +17,7 @@ mod log;
 mod order;
 mod parts;
 mod readers;
+mod reasons;
 mod refused;
 mod routes;
 mod salvage;
@@ -24,6 +25,7 @@ mod versions;
 
 pub use calls::{build, inputs_of_row, keep, take_back, trial};
 pub use file::{read, write};
+pub use reasons::reasons;
 pub use refused::Refused;
 pub use salvage::salvage;
 pub use versions::{read_bounded, to_version_1, to_version_2, write_bounded};

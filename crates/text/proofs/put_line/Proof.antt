@@ -17,8 +17,8 @@ put-decimal-requires-2 c κs = search needs
 put-requires-2 : tie.Need-put-requires-2
 put-requires-2 c κs = search needs
 
-put-value-requires : tie.Need-put-value-requires
-put-value-requires c κs = search needs
+put-field-requires : tie.Need-put-field-requires
+put-field-requires c κs = search needs
 
 put-requires-3 : tie.Need-put-requires-3
 put-requires-3 c κs = search needs
@@ -35,7 +35,7 @@ returns c =
     let c1 = c2 .before .before .before .before in
     let f = c1 .before .before .before .before .before .fits .value in
     put-then (put-then (put-then (put-then (put-then (c1 .before .before .put-decimal .ensures) (c2 .before .before .put .ensures))
-    (c3 .before .before .put-decimal2 .ensures)) (c4 .before .before .put2 .ensures)) (simp (toZ-ofZ f) at (c5 .before .before .put-value .ensures)))
+    (c3 .before .before .put-decimal2 .ensures)) (c4 .before .before .put2 .ensures)) (simp (toZ-ofZ f) at (c5 .before .before .put-field .ensures)))
     (c .before .before .put3 .ensures)
 
 pub put-line-spec : {M : Type 1} → statement M
@@ -46,7 +46,7 @@ put-line-spec =
     put-requires
     put-decimal-requires-2
     put-requires-2
-    put-value-requires
+    put-field-requires
     put-requires-3
     same-length
     returns)

@@ -9,18 +9,18 @@ use lib.IntN.{pos}
 use lib.ListN.{length, getD}
 use Rattle.paper.specs.Lists.{nat, joined}
 use Rattle.buffers.specs.Buffer.{Put}
-use Rattle.text.specs.Lines.{line, list}
+use Rattle.text.specs.Lines.{line, lines}
 use Rattle.buffers.proofs.Laid.{put-nothing, put-then}
 use Rattle.text.proofs.put_lines.Statement.{statement}
 use Rattle.text.proofs.put_lines.Tie as tie
 
 abbrev Inv-loop : tie.InvT-loop
-Inv-loop n numbers values out₀ count at₀ v₀ out at v =
+Inv-loop reasons n numbers values row out₀ count at₀ v₀ out at v =
     (v ≤ count) × (count ≡ min n (min (length numbers) (length values))) × (length out ≡ length out₀)
-    × Put (joined (λ u. line u (nat numbers u) (getD values u (pos 0))) v) out₀ 0 out at
+    × Put (joined (λ u. line reasons u (nat numbers u) (getD values u (pos 0)) (nat row u)) v) out₀ 0 out at
 
 abbrev μ-loop : tie.MeasureT-loop
-μ-loop n numbers values out₀ count at₀ v₀ out at v = count - v
+μ-loop reasons n numbers values row out₀ count at₀ v₀ out at v = count - v
 
 least-requires : tie.Need-least-requires Inv-loop μ-loop
 least-requires c κs = search needs
@@ -43,6 +43,9 @@ mul-put-line-2 c = search needs
 shared-slice-copy-out-put-line : tie.Need-shared-slice-copy-out-put-line Inv-loop μ-loop
 shared-slice-copy-out-put-line c = search needs
 
+reason-at-requires : tie.Need-reason-at-requires Inv-loop μ-loop
+reason-at-requires c κs = search needs
+
 put-line-requires : tie.Need-put-line-requires Inv-loop μ-loop
 put-line-requires c κs = search needs
 
@@ -57,16 +60,16 @@ loop-again c = (
   search needs,
   search needs,
   search needs,
-  rw (add-one (c .before .before .before .before .before .before .before .loop .v)) (put-then (c .before .before .before .before .before .before .before .loop .inv .3) (simp (toZ-ofZ, sfits-of, c .before .before .before .put-line-arg2 .given) at (c .before .before .put-line .ensures))),
+  rw (add-one (c .before .before .before .before .before .before .before .before .loop .v)) (put-then (c .before .before .before .before .before .before .before .before .loop .inv .3) (simp (c .before .before .before .reason-at .ensures, toZ-ofZ, sfits-of, c .before .before .before .before .put-line-arg2 .given) at (c .before .before .put-line .ensures))),
 )
 
 same-length : tie.Need-same-length Inv-loop μ-loop
 same-length c = search needs
 
 returns : tie.Need-returns Inv-loop μ-loop
-unfolding list
+unfolding lines
 returns c =
-    let a = c .before .before .before .before .before .before .args in
+    let a = c .before .before .before .before .before .before .before .args in
     let z : c .before .loop .v ≡ min (a .n) (min (length (a .numbers .now)) (length (a .values .now))) = omega arith in
     rw (← z) (c .before .loop .inv .3)
 
@@ -83,6 +86,7 @@ put-lines-spec =
     shared-slice-read-put-line
     mul-put-line-2
     shared-slice-copy-out-put-line
+    reason-at-requires
     put-line-requires
     add-v
     loop-less

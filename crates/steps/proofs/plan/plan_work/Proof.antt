@@ -3,13 +3,12 @@ use Prim.Native.Nat.{ℕ, _+_, _-_, _≤_, _<_}
 use native.Mathlib.Omega.{arith}
 use mathlib.Core.Bool.{Bool, cond}
 use mathlib.Core.List.{List}
-use mathlib.Core.Path.{_≡_, ap, sym, _∙_}
+use mathlib.Core.Path.{_≡_, ap, _∙_}
 use lib.Dec.{eqb}
 use lib.ListN.{length, set}
-use lib.Seq.{getD-drop}
 use borrow.Author.Needs.{needs}
 use Rattle.paper.specs.Lists.{nat, over}
-use Rattle.paper.proofs.Buffers.{over-at, over-over, over-same, Filled, filled-start, filled-next, filled-end}
+use Rattle.paper.proofs.Buffers.{over-at, over-over, over-same, Filled, filled-start, filled-next, filled-still, filled-end}
 use Rattle.tables.specs.Makers.{makerOf}
 use Rattle.steps.proofs.plan.plan_work.Statement.{statement}
 use Rattle.steps.proofs.plan.plan_work.Tie as tie
@@ -17,12 +16,9 @@ use Rattle.steps.proofs.plan.plan_work.Tie as tie
 -- each in its turn: what is still to come stands as it did
 tested-next : (marks before now : List ℕ) (i x : ℕ) → Filled (λ v. cond (eqb (nat marks v) 1) (nat before v) 0) before now i → i < length before
     → x ≡ cond (eqb (nat marks i) 1) (nat now i) 0 → Filled (λ v. cond (eqb (nat marks v) 1) (nat before v) 0) before (set now i x) (i + 1)
-tested-next marks before now i x s l e = filled-next (λ v. cond (eqb (nat marks v) 1) (nat before v) 0) before now i s l (e ∙ ap (λ y. cond (eqb (nat marks i) 1) y 0) still)
-  where
-    still : nat now i ≡ nat before i
-    still =
-        let z : i + 0 ≡ i = omega arith in
-        ap (nat now) (sym z) ∙ sym (getD-drop i now 0 0) ∙ ap (λ l. nat l 0) (s .back) ∙ getD-drop i before 0 0 ∙ ap (nat before) z
+tested-next marks before now i x s l e =
+    let left : ℕ → ℕ = λ v. cond (eqb (nat marks v) 1) (nat before v) 0 in
+    filled-next left before now i s l (e ∙ ap (λ y. cond (eqb (nat marks i) 1) y 0) (filled-still left before now i 0 s))
 
 -- the test over a row of f is the test over f
 tested : (p : ℕ → Bool) (f : ℕ → ℕ) (n : ℕ) (before row : List ℕ) → row ≡ over n f before
