@@ -12,8 +12,8 @@ use Rattle.files.specs.declared.Reading.the-variants as reading
 use Rattle.salvage.specs.Salvage as salvage
 use Rattle.salvage.specs.declared.Salvaged.{Salvaged}
 use Rattle.salvage.specs.declared.Salvaged.the-variants as salvaged
-use Rattle.engine.specs.Left.{recordIn}
-use Rattle.engine.specs.declared.Session as code-session
+use Rattle.cores.specs.Left.{recordIn}
+use Rattle.cores.specs.declared.Session as code-session
 use Rattle.capi.specs.declared.Outcome.{Outcome}
 use Rattle.capi.specs.declared.ReadOutcome.{ReadOutcome}
 use Rattle.capi.specs.declared.SalvageOutcome.{SalvageOutcome}

@@ -2,11 +2,11 @@
 ghost use mathlib.Core.Path.{_≡_};
 ghost use Rattle.paper.specs.Calls.{build as built};
 ghost use Rattle.judges.specs.Lent.{toBuild};
-ghost use Rattle.engine.specs.Left.{recordIn};
+ghost use Rattle.cores.specs.Left.{recordIn};
 ghost use Rattle.capi.specs.Outcomes.{leftByBuild, builtOut};
 use crate::Outcome;
 use crate::answers::in_numbers;
-use engine::Session;
+use cores::Session;
 
 // `engine::build` for C.
 #[no_mangle]

@@ -2,11 +2,11 @@
 ghost use mathlib.Core.Path.{_≡_};
 ghost use Rattle.paper.specs.Calls.{trial as tried};
 ghost use Rattle.judges.specs.Lent.{toModel, toTry};
-ghost use Rattle.engine.specs.Left.{recordIn};
+ghost use Rattle.cores.specs.Left.{recordIn};
 ghost use Rattle.capi.specs.Outcomes.{leftByTrial, triedOut};
 use crate::Outcome;
 use crate::answers::in_numbers;
-use engine::Session;
+use cores::Session;
 
 // `engine::trial` for C.
 #[no_mangle]

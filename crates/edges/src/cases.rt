@@ -15,8 +15,8 @@
 use crate::batches::count_case;
 use crate::kept::change_case;
 use crate::print;
-use engine::Done;
-use engine::Session;
+use cores::Done;
+use cores::Session;
 use pools::calls::build_planned;
 use pools::calls::try_planned;
 use pools::fields::after;

@@ -1,5 +1,5 @@
 // The line of a case: which call, the case's name, the answer, the record, and the rows that are left.
-use engine::Done;
+use cores::Done;
 use figures::Counted;
 use figures::Totals;
 use libc::STDOUT_FILENO;

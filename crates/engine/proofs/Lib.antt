@@ -1,4 +1,3 @@
-pub mod Accepts
 pub mod Record
 pub mod Setting
 pub mod Spelled

@@ -2,7 +2,7 @@
 use crate::fields::least;
 use crate::fields::wide;
 use blanks::is_blank;
-use engine::Session;
+use cores::Session;
 use libc::STDOUT_FILENO;
 use tables::Answer;
 

@@ -7,7 +7,7 @@ use crate::model::lows;
 use crate::model::params;
 use crate::model::plan;
 use crate::print;
-use engine::Session;
+use cores::Session;
 use pools::calls::keep_planned;
 use pools::calls::take_planned;
 use pools::calls::try_planned;

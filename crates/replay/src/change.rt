@@ -4,7 +4,7 @@
 use crate::model::start;
 use crate::model::start_word;
 use crate::print;
-use engine::Session;
+use cores::Session;
 use integers::signed16;
 use integers::signed32;
 use pools::fields::after;

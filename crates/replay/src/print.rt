@@ -1,6 +1,6 @@
 // The lines of a session: what a read, a build, a trial, a keep, a change and a taking back print. Behind the answer and the record stand the rows that an accepted
 // call leaves, a bar before each.
-use engine::Done;
+use cores::Done;
 use files::Reading;
 use pools::fields::after;
 use pools::print::answer;

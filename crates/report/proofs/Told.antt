@@ -16,8 +16,8 @@ use Rattle.files.specs.declared.Reading.{Reading}
 use Rattle.files.specs.declared.Reading.the-variants as reading
 use Rattle.tables.specs.declared.Answer.{Answer}
 use Rattle.tables.specs.declared.Answer.the-variants.{Accepted, Refused}
-use Rattle.engine.specs.declared.Done.{Done}
-use Rattle.engine.specs.Left.{answerIn, leftByBuild}
+use Rattle.cores.specs.declared.Done.{Done}
+use Rattle.cores.specs.Left.{answerIn, leftByBuild}
 use Rattle.buffers.specs.Buffer.{Shows}
 use Rattle.text.specs.Lines.{list, refusal}
 use Rattle.report.specs.Printed.{said, ofTables, ofRead, empty, printed, refusalIn, refusalOf}

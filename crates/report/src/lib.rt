@@ -4,7 +4,7 @@ ghost use mathlib.Core.Path.{_≡_};
 ghost use lib.ListN.{length, drop};
 ghost use Rattle.io.specs.Counts.{Counts};
 ghost use Rattle.paper.specs.Tables.{lent};
-ghost use Rattle.engine.specs.Left.{answerIn};
+ghost use Rattle.cores.specs.Left.{answerIn};
 ghost use Rattle.report.specs.Printed.{ofTables, printed, refusalIn, refusalOf};
 ghost use Rattle.buffers.specs.Buffer.{Shows};
 use files::Reading;
@@ -103,7 +103,7 @@ fn list_built(
     let mut stored = [0i32; 4096];
     let mut reader_starts = [0u16; 4097];
     let mut reader_places = [0u16; 16384];
-    let done = engine::build_new(
+    let done = cores::build_new(
         n,
         m,
         e,

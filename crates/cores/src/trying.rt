@@ -2,7 +2,7 @@
 ghost use mathlib.Core.Path.{_≡_};
 ghost use Rattle.paper.specs.Calls.{trial as tried};
 ghost use Rattle.judges.specs.Lent.{toModel, toTry};
-ghost use Rattle.engine.specs.Left.{recordIn, leftByTrial};
+ghost use Rattle.cores.specs.Left.{recordIn, leftByTrial};
 use crate::Done;
 use crate::Session;
 use fills::fill_trial;

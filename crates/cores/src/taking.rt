@@ -1,20 +1,22 @@
-// Keep: judged first, and written only once it is accepted.
+// Taking back: judged first, and written only once it is accepted.
 ghost use mathlib.Core.Path.{_≡_};
 ghost use Rattle.paper.specs.Log.{logIn};
-ghost use Rattle.paper.specs.Calls.{keep as kept};
-ghost use Rattle.judges.specs.Lent.{toModel, toKeep};
-ghost use Rattle.engine.specs.Left.{recordIn, leftByKeep};
+ghost use Rattle.paper.specs.Calls.{takeBack};
+ghost use Rattle.judges.specs.Lent.{toModel};
+ghost use Rattle.cores.specs.Left.{recordIn, leftByKeep};
 use crate::Done;
 use crate::Session;
 use blanks::blanks_among;
 use fills::fill_keep;
-use judges::judge_keep;
-use naturals::kept_once_more;
-use noting::note_move;
+use integers::wide;
+use judges::judge_take_back;
+use naturals::kept_once_less;
+use noting::drop_move;
+use noting::latest_move;
 use tables::Answer;
 
-// Keep, with the session record taken and given back by value.
-pub fn keep_core(
+// Taking back the latest kept move, with the session record taken and given back by value.
+pub fn take_back_core(
     session: Session,
     n: usize,
     m: usize,
@@ -33,17 +35,14 @@ pub fn keep_core(
     stored: &mut [i32],
     reader_starts: &[u16],
     reader_places: &[u16],
-    pairs: usize,
-    move_vars: &[u16],
-    move_values: &[i32],
     flags: &mut [u8],
     log_sizes: &mut [u16],
-    log_vars: &mut [u16],
-    log_values: &mut [i32],
+    log_vars: &[u16],
+    log_values: &[i32],
 ) -> Done
-    ensures { λ r. ⌜ leftByKeep r (now (stored .exit)) (now (flags .exit)) (now («log_sizes» .exit)) (now («log_vars» .exit)) (now («log_values» .exit)) ≡ kept (recordIn session) (logIn (now («log_sizes» .entry)) (now («log_vars» .entry)) (now («log_values» .entry))) (toModel n m e (now (kinds .entry)) (now (makes .entry)) (now (params .entry)) (now (firsts .entry)) (now (counts .entry)) (now (vars .entry)) (now (coefs .entry)) (now (lows .entry)) (now (highs .entry)) (now (numbers .entry)) (now (order .entry)) (now (stored .entry)) (now («reader_starts» .entry)) (now («reader_places» .entry))) (toKeep pairs (now («move_vars» .entry)) (now («move_values» .entry)) (now (flags .entry))) ⌝ }
+    ensures { λ r. ⌜ leftByKeep r (now (stored .exit)) (now (flags .exit)) (now («log_sizes» .exit)) (now («log_vars» .entry)) (now («log_values» .entry)) ≡ takeBack (recordIn session) (logIn (now («log_sizes» .entry)) (now («log_vars» .entry)) (now («log_values» .entry))) (toModel n m e (now (kinds .entry)) (now (makes .entry)) (now (params .entry)) (now (firsts .entry)) (now (counts .entry)) (now (vars .entry)) (now (coefs .entry)) (now (lows .entry)) (now (highs .entry)) (now (numbers .entry)) (now (order .entry)) (now (stored .entry)) (now («reader_starts» .entry)) (now («reader_places» .entry))) (now (flags .entry)) ⌝ }
 {
-    let judged = judge_keep(
+    let judged = judge_take_back(
         session.kept,
         session.blanks,
         n,
@@ -63,9 +62,6 @@ pub fn keep_core(
         stored,
         reader_starts,
         reader_places,
-        pairs,
-        move_vars,
-        move_values,
         flags,
         log_sizes,
         log_vars,
@@ -77,7 +73,7 @@ pub fn keep_core(
             session: session,
         };
     };
-    note_move(stored, pairs, move_vars, log_sizes, log_vars, log_values);
+    let at = latest_move(log_sizes);
     let evaluations = fill_keep(
         n,
         m,
@@ -93,16 +89,17 @@ pub fn keep_core(
         stored,
         reader_starts,
         reader_places,
-        pairs,
-        move_vars,
-        move_values,
+        wide(log_sizes[at + 1]),
+        &log_vars[64 * at..],
+        &log_values[64 * at..],
         flags,
     );
+    drop_move(log_sizes);
     let blanks = blanks_among(n, stored);
     Done {
         answer: Answer::Accepted { evaluations },
         session: Session {
-            kept: kept_once_more(session.kept),
+            kept: kept_once_less(session.kept),
             evaluations,
             blanks,
         },

@@ -5,11 +5,11 @@ use Rattle.paper.specs.Calls.{Session, Model, Tried, trialVerdict}
 use Rattle.paper.proofs.Outcomes.{trial-meets}
 use Rattle.tables.proofs.Judged.{accepted-is, refused-is}
 use Rattle.judges.specs.Lent.{toModel, toTry}
-use Rattle.engine.specs.Left.{recordIn, answerIn}
-use Rattle.engine.proofs.Accepts.{trial-by-blanks, trying-of, trial-met}
+use Rattle.cores.specs.Left.{recordIn, answerIn}
+use Rattle.cores.proofs.Accepts.{trial-by-blanks, trying-of, trial-met}
 use borrow.Author.Needs.{needs}
-use Rattle.engine.proofs.trying.trial_core.Statement.{statement}
-use Rattle.engine.proofs.trying.trial_core.Tie as tie
+use Rattle.cores.proofs.trying.trial_core.Statement.{statement}
+use Rattle.cores.proofs.trying.trial_core.Tie as tie
 
 abbrev model : tie.Start → Model
 model s = let a = s .args in toModel (a .n) (a .m) (a .e) (a .kinds .now) (a .makes .now) (a .params .now) (a .firsts .now) (a .counts .now) (a .vars .now) (a .coefs .now) (a .lows .now) (a .highs .now) (a .numbers .now) (a .order .now) (a .stored .now) (a .reader-starts .now) (a .reader-places .now)

@@ -7,8 +7,8 @@ use Rattle.paper.specs.Log.{logIn}
 use Rattle.paper.specs.Calls.{Answer, Accepted, Refused, Session, BuildLeft, TrialLeft, KeepLeft}
 use Rattle.tables.specs.declared.Answer as code-answer
 use Rattle.tables.specs.declared.Answer.the-variants as code
-use Rattle.engine.specs.declared.Session as code-session
-use Rattle.engine.specs.declared.Done.{Done}
+use Rattle.cores.specs.declared.Session as code-session
+use Rattle.cores.specs.declared.Done.{Done}
 
 -- the answer of the code as the paper's
 abbrev pub answerIn : code-answer.Answer → Answer

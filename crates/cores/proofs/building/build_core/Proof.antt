@@ -12,12 +12,12 @@ use Rattle.paper.proofs.Known.{build-known}
 use Rattle.tables.proofs.Judged.{accepted-is, refused-is}
 use Rattle.order.proofs.Sweeps.{clean-new}
 use Rattle.judges.specs.Lent.{noRecord, toBuild}
-use Rattle.engine.specs.Left.{answerIn, recordIn}
+use Rattle.cores.specs.Left.{answerIn, recordIn}
 use Rattle.judges.proofs.Judging.{any-session, fitting}
-use Rattle.engine.proofs.Accepts.{filled-long, blanks-over}
+use Rattle.cores.proofs.Accepts.{filled-long, blanks-over}
 use borrow.Author.Needs.{needs}
-use Rattle.engine.proofs.building.build_core.Statement.{statement}
-use Rattle.engine.proofs.building.build_core.Tie as tie
+use Rattle.cores.proofs.building.build_core.Statement.{statement}
+use Rattle.cores.proofs.building.build_core.Tie as tie
 
 abbrev lent : tie.Start → BuildLent
 lent s =

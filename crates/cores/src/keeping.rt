@@ -1,22 +1,20 @@
-// Taking back: judged first, and written only once it is accepted.
+// Keep: judged first, and written only once it is accepted.
 ghost use mathlib.Core.Path.{_≡_};
 ghost use Rattle.paper.specs.Log.{logIn};
-ghost use Rattle.paper.specs.Calls.{takeBack};
-ghost use Rattle.judges.specs.Lent.{toModel};
-ghost use Rattle.engine.specs.Left.{recordIn, leftByKeep};
+ghost use Rattle.paper.specs.Calls.{keep as kept};
+ghost use Rattle.judges.specs.Lent.{toModel, toKeep};
+ghost use Rattle.cores.specs.Left.{recordIn, leftByKeep};
 use crate::Done;
 use crate::Session;
 use blanks::blanks_among;
 use fills::fill_keep;
-use integers::wide;
-use judges::judge_take_back;
-use naturals::kept_once_less;
-use noting::drop_move;
-use noting::latest_move;
+use judges::judge_keep;
+use naturals::kept_once_more;
+use noting::note_move;
 use tables::Answer;
 
-// Taking back the latest kept move, with the session record taken and given back by value.
-pub fn take_back_core(
+// Keep, with the session record taken and given back by value.
+pub fn keep_core(
     session: Session,
     n: usize,
     m: usize,
@@ -35,14 +33,17 @@ pub fn take_back_core(
     stored: &mut [i32],
     reader_starts: &[u16],
     reader_places: &[u16],
+    pairs: usize,
+    move_vars: &[u16],
+    move_values: &[i32],
     flags: &mut [u8],
     log_sizes: &mut [u16],
-    log_vars: &[u16],
-    log_values: &[i32],
+    log_vars: &mut [u16],
+    log_values: &mut [i32],
 ) -> Done
-    ensures { λ r. ⌜ leftByKeep r (now (stored .exit)) (now (flags .exit)) (now («log_sizes» .exit)) (now («log_vars» .entry)) (now («log_values» .entry)) ≡ takeBack (recordIn session) (logIn (now («log_sizes» .entry)) (now («log_vars» .entry)) (now («log_values» .entry))) (toModel n m e (now (kinds .entry)) (now (makes .entry)) (now (params .entry)) (now (firsts .entry)) (now (counts .entry)) (now (vars .entry)) (now (coefs .entry)) (now (lows .entry)) (now (highs .entry)) (now (numbers .entry)) (now (order .entry)) (now (stored .entry)) (now («reader_starts» .entry)) (now («reader_places» .entry))) (now (flags .entry)) ⌝ }
+    ensures { λ r. ⌜ leftByKeep r (now (stored .exit)) (now (flags .exit)) (now («log_sizes» .exit)) (now («log_vars» .exit)) (now («log_values» .exit)) ≡ kept (recordIn session) (logIn (now («log_sizes» .entry)) (now («log_vars» .entry)) (now («log_values» .entry))) (toModel n m e (now (kinds .entry)) (now (makes .entry)) (now (params .entry)) (now (firsts .entry)) (now (counts .entry)) (now (vars .entry)) (now (coefs .entry)) (now (lows .entry)) (now (highs .entry)) (now (numbers .entry)) (now (order .entry)) (now (stored .entry)) (now («reader_starts» .entry)) (now («reader_places» .entry))) (toKeep pairs (now («move_vars» .entry)) (now («move_values» .entry)) (now (flags .entry))) ⌝ }
 {
-    let judged = judge_take_back(
+    let judged = judge_keep(
         session.kept,
         session.blanks,
         n,
@@ -62,6 +63,9 @@ pub fn take_back_core(
         stored,
         reader_starts,
         reader_places,
+        pairs,
+        move_vars,
+        move_values,
         flags,
         log_sizes,
         log_vars,
@@ -73,7 +77,7 @@ pub fn take_back_core(
             session: session,
         };
     };
-    let at = latest_move(log_sizes);
+    note_move(stored, pairs, move_vars, log_sizes, log_vars, log_values);
     let evaluations = fill_keep(
         n,
         m,
@@ -89,17 +93,16 @@ pub fn take_back_core(
         stored,
         reader_starts,
         reader_places,
-        wide(log_sizes[at + 1]),
-        &log_vars[64 * at..],
-        &log_values[64 * at..],
+        pairs,
+        move_vars,
+        move_values,
         flags,
     );
-    drop_move(log_sizes);
     let blanks = blanks_among(n, stored);
     Done {
         answer: Answer::Accepted { evaluations },
         session: Session {
-            kept: kept_once_less(session.kept),
+            kept: kept_once_more(session.kept),
             evaluations,
             blanks,
         },

@@ -11,11 +11,11 @@ use Rattle.paper.proofs.Sizes.{sized-facts}
 use Rattle.paper.proofs.Known.{take-known}
 use Rattle.tables.proofs.Judged.{accepted-is, refused-is}
 use Rattle.judges.specs.Lent.{toModel}
-use Rattle.engine.specs.Left.{recordIn, answerIn}
-use Rattle.engine.proofs.Accepts.{take-by-kept, Latest, latest-at, latest-is, taking-of, filled-long, take-met}
+use Rattle.cores.specs.Left.{recordIn, answerIn}
+use Rattle.cores.proofs.Accepts.{take-by-kept, Latest, latest-at, latest-is, taking-of, filled-long, take-met}
 use borrow.Author.Needs.{needs}
-use Rattle.engine.proofs.taking.take_back_core.Statement.{statement}
-use Rattle.engine.proofs.taking.take_back_core.Tie as tie
+use Rattle.cores.proofs.taking.take_back_core.Statement.{statement}
+use Rattle.cores.proofs.taking.take_back_core.Tie as tie
 
 abbrev session : tie.Start → Session
 session s = recordIn (s .args .session)

@@ -6,8 +6,8 @@ use lib.ListN.{replicate, set}
 use Rattle.paper.specs.Checks.{Verdict, accepted, refused, leaves}
 use Rattle.paper.specs.Calls.{BuildLent, BuildLeft, buildVerdict, build}
 use borrow.Author.Needs.{needs}
-use Rattle.engine.proofs.calls.build_new.Statement.{statement}
-use Rattle.engine.proofs.calls.build_new.Tie as tie
+use Rattle.cores.proofs.building.build_new.Statement.{statement}
+use Rattle.cores.proofs.building.build_new.Tie as tie
 
 abbrev none : List ℕ
 none = replicate 65 0

@@ -8,11 +8,11 @@ use Rattle.paper.proofs.Sizes.{sized-facts}
 use Rattle.paper.proofs.Known.{keep-known}
 use Rattle.tables.proofs.Judged.{accepted-is, refused-is}
 use Rattle.judges.specs.Lent.{toModel, toKeep}
-use Rattle.engine.specs.Left.{recordIn, answerIn}
-use Rattle.engine.proofs.Accepts.{keep-by-kept, keeping-of, named-of, filled-long, keep-met}
+use Rattle.cores.specs.Left.{recordIn, answerIn}
+use Rattle.cores.proofs.Accepts.{keep-by-kept, keeping-of, named-of, filled-long, keep-met}
 use borrow.Author.Needs.{needs}
-use Rattle.engine.proofs.keeping.keep_core.Statement.{statement}
-use Rattle.engine.proofs.keeping.keep_core.Tie as tie
+use Rattle.cores.proofs.keeping.keep_core.Statement.{statement}
+use Rattle.cores.proofs.keeping.keep_core.Tie as tie
 
 abbrev session : tie.Start → Session
 session s = recordIn (s .args .session)
