@@ -1,7 +1,7 @@
 // Build across the C boundary.
 ghost use mathlib.Core.Path.{_≡_};
 ghost use Rattle.paper.specs.Calls.{build as built};
-ghost use Rattle.judges.specs.Lent.{toBuild};
+ghost use Rattle.fits.specs.Lent.{toBuild};
 ghost use Rattle.cores.specs.Left.{recordIn};
 ghost use Rattle.capi.specs.Outcomes.{leftByBuild, builtOut};
 use crate::Outcome;

@@ -1,7 +1,7 @@
 // Trial across the C boundary.
 ghost use mathlib.Core.Path.{_≡_};
 ghost use Rattle.paper.specs.Calls.{trial as tried};
-ghost use Rattle.judges.specs.Lent.{toModel, toTry};
+ghost use Rattle.fits.specs.Lent.{toModel, toTry};
 ghost use Rattle.cores.specs.Left.{recordIn};
 ghost use Rattle.capi.specs.Outcomes.{leftByTrial, triedOut};
 use crate::Outcome;

@@ -3,15 +3,15 @@ ghost use mathlib.Core.Path.{_≡_};
 ghost use lib.ListN.{replicate};
 ghost use Rattle.paper.specs.Checks.{lowest, highest};
 ghost use Rattle.paper.specs.Calls.{build};
-ghost use Rattle.judges.specs.Lent.{noRecord, toBuild};
+ghost use Rattle.fits.specs.Lent.{noRecord, toBuild};
 ghost use Rattle.cores.specs.Left.{recordIn, leftByBuild};
 use crate::Done;
 use crate::Session;
 use blanks::blanks_among;
 use bounds::HIGHEST;
 use bounds::LOWEST;
+use builds::judge_build;
 use fills::fill_model;
-use judges::judge_build;
 use tables::Answer;
 
 // Build, with the session record taken and given back by value.

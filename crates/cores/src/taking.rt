@@ -2,7 +2,7 @@
 ghost use mathlib.Core.Path.{_≡_};
 ghost use Rattle.paper.specs.Log.{logIn};
 ghost use Rattle.paper.specs.Calls.{takeBack};
-ghost use Rattle.judges.specs.Lent.{toModel};
+ghost use Rattle.fits.specs.Lent.{toModel};
 ghost use Rattle.cores.specs.Left.{recordIn, leftByKeep};
 use crate::Done;
 use crate::Session;

@@ -1,7 +1,7 @@
 // Trial: judged first, and written only once it is accepted.
 ghost use mathlib.Core.Path.{_≡_};
 ghost use Rattle.paper.specs.Calls.{trial as tried};
-ghost use Rattle.judges.specs.Lent.{toModel, toTry};
+ghost use Rattle.fits.specs.Lent.{toModel, toTry};
 ghost use Rattle.cores.specs.Left.{recordIn, leftByTrial};
 use crate::Done;
 use crate::Session;

@@ -2,7 +2,7 @@
 ghost use mathlib.Core.Path.{_≡_};
 ghost use Rattle.paper.specs.Log.{logIn};
 ghost use Rattle.paper.specs.Calls.{build as built, trial as tried, keep as kept, takeBack};
-ghost use Rattle.judges.specs.Lent.{toBuild, toModel, toTry, toKeep};
+ghost use Rattle.fits.specs.Lent.{toBuild, toModel, toTry, toKeep};
 ghost use Rattle.cores.specs.Left.{recordIn, leftByBuild, leftByTrial, leftByKeep};
 use crate::counters::set_counts;
 use cores::Session;

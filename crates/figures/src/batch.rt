@@ -4,7 +4,7 @@ ghost use mathlib.Core.Path.{_≡_};
 ghost use Prim.Native.Nat.{suc, _+_, min, _≤_, _<_};
 ghost use lib.ListN.{length, take, drop, set};
 ghost use Rattle.paper.specs.Lists.{nat, over};
-ghost use Rattle.judges.specs.Lent.{toModel};
+ghost use Rattle.fits.specs.Lent.{toModel};
 ghost use Rattle.cores.specs.Left.{recordIn};
 ghost use Rattle.figures.specs.Figures.{outcomes, totals, tallies, batchOf, figures as counted};
 use crate::Counted;

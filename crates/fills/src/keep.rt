@@ -1,6 +1,6 @@
 // What an accepted keep writes.
 ghost use Rattle.paper.specs.Tables.{lent, indexIn};
-ghost use Rattle.judges.specs.Lent.{toKeep};
+ghost use Rattle.fits.specs.Lent.{toKeep};
 ghost use Rattle.fills.specs.Accepted.{Keeping, KeepFilled};
 use copies::begin_route;
 use copies::copy_values;

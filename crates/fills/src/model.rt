@@ -4,7 +4,7 @@ ghost use mathlib.Core.Path.{_≡_};
 ghost use Rattle.paper.specs.Tables.{indexIn};
 ghost use Rattle.paper.specs.Checks.{accepted};
 ghost use Rattle.paper.specs.Calls.{buildLeaves};
-ghost use Rattle.judges.specs.Lent.{noRecord, toBuild};
+ghost use Rattle.fits.specs.Lent.{noRecord, toBuild};
 ghost use Rattle.fills.specs.Accepted.{Buildable};
 use copies::copy_values;
 use order::write_numbers;

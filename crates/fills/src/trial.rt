@@ -8,7 +8,7 @@ ghost use Rattle.paper.specs.Calls.{routeOf};
 ghost use Rattle.routes.specs.Rows.{Along};
 ghost use Rattle.readers.specs.Index.{Indexed};
 ghost use Rattle.routes.specs.Routed.{Begun, Named, Routed};
-ghost use Rattle.judges.specs.Lent.{toTry};
+ghost use Rattle.fits.specs.Lent.{toTry};
 ghost use Rattle.fills.specs.Accepted.{Trying, TrialFilled};
 use copies::begin_route;
 use copies::copy_asked;

@@ -2,7 +2,7 @@
 ghost use mathlib.Core.Path.{_≡_};
 ghost use Prim.Native.Nat.{_≤_, _<_};
 ghost use Rattle.integers.specs.Integers.{away};
-ghost use Rattle.judges.specs.Lent.{toModel};
+ghost use Rattle.fits.specs.Lent.{toModel};
 ghost use Rattle.moves.specs.Moves.{moveOf};
 ghost use Rattle.cores.specs.Left.{recordIn};
 ghost use Rattle.outcomes.specs.Outcomes.{tried, outcome, Small};

@@ -11,9 +11,9 @@ use Rattle.paper.proofs.Sizes.{Sized}
 use Rattle.paper.proofs.Known.{build-known}
 use Rattle.tables.proofs.Judged.{accepted-is, refused-is}
 use Rattle.order.proofs.Sweeps.{clean-new}
-use Rattle.judges.specs.Lent.{noRecord, toBuild}
+use Rattle.fits.specs.Lent.{noRecord, toBuild}
 use Rattle.cores.specs.Left.{answerIn, recordIn}
-use Rattle.judges.proofs.Judging.{any-session, fitting}
+use Rattle.builds.proofs.Judging.{any-session, fitting}
 use Rattle.cores.proofs.Accepts.{filled-long, blanks-over}
 use borrow.Author.Needs.{needs}
 use Rattle.cores.proofs.building.build_core.Statement.{statement}

@@ -7,7 +7,7 @@ use Rattle.paper.proofs.Outcomes.{keep-meets}
 use Rattle.paper.proofs.Sizes.{sized-facts}
 use Rattle.paper.proofs.Known.{keep-known}
 use Rattle.tables.proofs.Judged.{accepted-is, refused-is}
-use Rattle.judges.specs.Lent.{toModel, toKeep}
+use Rattle.fits.specs.Lent.{toModel, toKeep}
 use Rattle.cores.specs.Left.{recordIn, answerIn}
 use Rattle.cores.proofs.Accepts.{keep-by-kept, keeping-of, named-of, filled-long, keep-met}
 use borrow.Author.Needs.{needs}

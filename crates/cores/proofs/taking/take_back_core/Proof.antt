@@ -10,7 +10,7 @@ use Rattle.paper.proofs.Outcomes.{take-meets}
 use Rattle.paper.proofs.Sizes.{sized-facts}
 use Rattle.paper.proofs.Known.{take-known}
 use Rattle.tables.proofs.Judged.{accepted-is, refused-is}
-use Rattle.judges.specs.Lent.{toModel}
+use Rattle.fits.specs.Lent.{toModel}
 use Rattle.cores.specs.Left.{recordIn, answerIn}
 use Rattle.cores.proofs.Accepts.{take-by-kept, Latest, latest-at, latest-is, taking-of, filled-long, take-met}
 use borrow.Author.Needs.{needs}

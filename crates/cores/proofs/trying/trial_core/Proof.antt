@@ -4,7 +4,7 @@ use Rattle.paper.specs.Checks.{accepted, refused}
 use Rattle.paper.specs.Calls.{Session, Model, Tried, trialVerdict}
 use Rattle.paper.proofs.Outcomes.{trial-meets}
 use Rattle.tables.proofs.Judged.{accepted-is, refused-is}
-use Rattle.judges.specs.Lent.{toModel, toTry}
+use Rattle.fits.specs.Lent.{toModel, toTry}
 use Rattle.cores.specs.Left.{recordIn, answerIn}
 use Rattle.cores.proofs.Accepts.{trial-by-blanks, trying-of, trial-met}
 use borrow.Author.Needs.{needs}

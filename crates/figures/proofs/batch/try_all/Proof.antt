@@ -5,7 +5,7 @@ use mathlib.Core.Path.{ap₂, _∙_}
 use borrow.Author.Needs.{needs}
 use Rattle.paper.specs.Calls.{Session, Model}
 use Rattle.moves.specs.Moves.{moveOf}
-use Rattle.judges.specs.Lent.{toModel}
+use Rattle.fits.specs.Lent.{toModel}
 use Rattle.cores.specs.Left.{recordIn}
 use Rattle.outcomes.specs.Outcomes.{outcome}
 use Rattle.figures.specs.Figures.{Batch, batchOf}

@@ -5,7 +5,7 @@ use mathlib.Core.Path.{sym}
 use borrow.Author.Needs.{needs}
 use Rattle.paper.specs.Tables.{Tables, Index, indexIn, lent}
 use Rattle.paper.specs.Calls.{Kept}
-use Rattle.judges.specs.Lent.{toKeep}
+use Rattle.fits.specs.Lent.{toKeep}
 use Rattle.fills.proofs.Writes.{held, count-fits, keep-filled}
 use Rattle.fills.proofs.Ran.{moves-long, begun, named}
 use Rattle.fills.proofs.keep.fill_keep.Statement.{statement}

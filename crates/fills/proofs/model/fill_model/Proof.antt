@@ -4,7 +4,7 @@ use mathlib.Core.List.{[]}
 use mathlib.Core.Path.{refl}
 use Rattle.paper.specs.Calls.{BuildLent}
 use Rattle.order.proofs.Bare.{formed-of}
-use Rattle.judges.specs.Lent.{noRecord, toBuild}
+use Rattle.fits.specs.Lent.{noRecord, toBuild}
 use Rattle.readers.proofs.Known.{entries-laid}
 use Rattle.fills.proofs.Built.{numbers-left, order-left, along, stored-long, stored-left}
 use borrow.Author.Needs.{needs}

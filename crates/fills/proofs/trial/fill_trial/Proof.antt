@@ -5,7 +5,7 @@ use mathlib.Core.Path.{sym}
 use borrow.Author.Needs.{needs}
 use Rattle.paper.specs.Tables.{Tables, Index, indexIn, lent}
 use Rattle.paper.specs.Calls.{Tried, Kept}
-use Rattle.judges.specs.Lent.{toTry}
+use Rattle.fits.specs.Lent.{toTry}
 use Rattle.fills.proofs.Writes.{held, count-fits, asked-long, asked-within, trial-filled}
 use Rattle.fills.proofs.Ran.{moves-long, begun, named}
 use Rattle.fills.proofs.trial.fill_trial.Statement.{statement}

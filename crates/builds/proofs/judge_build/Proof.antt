@@ -1,0 +1,141 @@
+-- Each check stops the call or is passed, and then the rest decides; what the checks before it leave is what each later one relies on.
+-- Assumes nothing.
+use native.Mathlib.Omega.{arith}
+use mathlib.Core.Bool.{true}
+use mathlib.Core.Path.{_≡_, refl, sym, ap, _∙_}
+use borrow.Author.Needs.{needs}
+use borrow.Author.Tests.{not-true, not-false}
+use Rattle.paper.specs.Lists.{firstFail}
+use Rattle.paper.specs.Tables.{ends}
+use Rattle.paper.specs.Checks.{accepted, tableChecks, Sound}
+use Rattle.paper.specs.Calls.{BuildLent, buildFits}
+use Rattle.paper.proofs.Verdicts.{Past}
+use Rattle.tables.specs.Answers.{answerOf}
+use Rattle.tables.specs.Makers.{Makers}
+use Rattle.tables.proofs.Judged.{accepted-is, refused-is}
+use Rattle.paper.proofs.Sizes.{sized-of}
+use Rattle.paper.proofs.Accept.{tables-passed}
+use Rattle.order.proofs.Bare.{formed-of, makers-bare, ends-bare}
+use Rattle.fits.specs.Lent.{noRecord, toBuild}
+use Rattle.builds.proofs.Judging.{judged-refused, fitting, stops-1, stops-tables, stops-6, stops-7, passes}
+use Rattle.builds.proofs.judge_build.Statement.{statement}
+use Rattle.builds.proofs.judge_build.Tie as tie
+
+abbrev asked : tie.Start → BuildLent
+asked s =
+    let a = s .args in
+    toBuild noRecord (a .n) (a .m) (a .e) (a .kinds .now) (a .makes .now) (a .params .now) (a .firsts .now) (a .counts .now) (a .vars .now) (a .coefs .now) (a .lows .now) (a .highs .now) (a .starts .now) (a .numbers .now) (a .order .now) (a .stored .now) (a .reader-starts .now) (a .reader-places .now) (a .log-sizes .now)
+
+build-fits-requires : tie.Need-build-fits-requires
+build-fits-requires c κs = search needs
+
+refused-requires : tie.Need-refused-requires
+refused-requires c κs = search needs
+
+returns : tie.Need-returns
+returns c =
+    let l = asked (c .before .before .before .before .before .before .before .before .before .before .before .before .before) in
+    judged-refused l _ _ 1 0 (c .refused .ensures) (stops-1 l (sym (c .before .before .build-fits .ensures) ∙ not-true _ (c .before .if1 .taken)))
+
+-- ── past check 1 ──
+abbrev l₁ : tie.Else1 → BuildLent
+l₁ c = asked (c .before .before .before .before .before .before .before .before .before .before .before .before)
+
+fits : (c : tie.Else1) → buildFits (l₁ c) ≡ true
+fits c = sym (c .before .build-fits .ensures) ∙ not-false _ (c .if1 .left)
+
+slice-aggregate-table-checks : tie.Need-slice-aggregate-table-checks
+slice-aggregate-table-checks c = search needs
+
+table-checks-requires : tie.Need-table-checks-requires
+table-checks-requires c κs = let fit = fitting (l₁ (c .before)) (fits (c .before)) in let n = fit .held .n-most in (fit .held, (fit .lows, fit .highs, omega arith))
+
+enum-told : tie.Need-enum-told
+enum-told c = search needs
+
+enum-told-2 : tie.Need-enum-told-2
+enum-told-2 c = search needs
+
+returns-2 : tie.Need-returns-2
+returns-2 c =
+    let e = c .before .before .before .before .before in let l = l₁ e in let said = c .enum-told2 .given in let judged = c .before .before .before .table-checks .ensures .verdict in
+    judged-refused l _ _ (said .0 .0) (said .0 .1 .0) (said .1) (stops-tables l (fits e) _ _ (refused-is 0 _ _ (tableChecks (l .tables) (l .bounds) accepted) (sym judged ∙ said .1)))
+
+-- ── past check 5 ──
+abbrev l₅ : tie.After-enum-told → BuildLent
+l₅ c = l₁ (c .before .before .before .before .before)
+
+-- the verdict of checks 2 to 5, and what it leaves
+passed : (c : tie.After-enum-told) → let l = l₅ c in tableChecks (l .tables) (l .bounds) accepted ≡ accepted
+passed c = let said = c .enum-told .given in accepted-is 0 (said .0 .0) _ (sym (c .before .before .before .table-checks .ensures .verdict) ∙ said .1)
+
+sound : (c : tie.After-enum-told) → Sound (l₅ c .tables)
+sound c = let l = l₅ c in tables-passed (l .tables) (l .bounds) (sized-of (l .tables) (fitting l (fits (c .before .before .before .before .before)) .held)) accepted (passed c) .0
+
+slice-aggregate-find-numbers : tie.Need-slice-aggregate-find-numbers
+slice-aggregate-find-numbers c = search needs
+
+find-numbers-requires : tie.Need-find-numbers-requires
+find-numbers-requires c κs =
+    let e = c .before .before in let l = l₅ e in let t = l .tables in let n = fitting l (fits (e .before .before .before .before .before)) .held .n-most in
+    let clean = c .before .before .before .before .before .before .before .before .before .before .before .before .before .before .before .before .before .before .before .pre in
+    (formed-of t (sound e), (makers-bare t _ (e .before .before .before .table-checks .ensures .makers (passed e)), record { long = omega (arith, clean .long); at = clean .at }))
+
+refused-requires-2 : tie.Need-refused-requires-2
+refused-requires-2 c κs = let n = fitting (l₅ (c .before .before .before .before)) (fits (c .before .before .before .before .before .before .before .before .before)) .held .n-most in omega arith
+
+returns-3 : tie.Need-returns-3
+returns-3 c =
+    let e = c .before .before .before .before .before in let l = l₅ e in let t = l .tables in
+    judged-refused l _ _ 6 _ (c .refused2 .ensures) (stops-6 l (fits (e .before .before .before .before .before)) (passed e) _ (c .before .before .find-numbers .ensures .least ∙ ap (λ f. firstFail f (t .n)) (ends-bare t)) (c .before .if2 .taken))
+
+-- ── past check 6 ──
+past₆ : (c : tie.Else2) → let t = l₅ (c .before .before .before .before) .tables in Past (ends t) (t .n) (c .before .find-numbers .result)
+past₆ c = let t = l₅ (c .before .before .before .before) .tables in (c .before .find-numbers .ensures .least ∙ ap (λ f. firstFail f (t .n)) (ends-bare t), c .if2 .left)
+
+slice-aggregate-first-bad-value : tie.Need-slice-aggregate-first-bad-value
+slice-aggregate-first-bad-value c = search needs
+
+first-bad-value-requires : tie.Need-first-bad-value-requires
+first-bad-value-requires c κs = let l = l₅ (c .before .before .before .before .before) in let fit = fitting l (fits (c .before .before .before .before .before .before .before .before .before .before)) in let n = fit .held .n-most in (omega arith, fit .lows, fit .highs, fit .starts)
+
+refused-requires-3 : tie.Need-refused-requires-3
+refused-requires-3 c κs = let n = fitting (l₅ (c .before .before .before .before .before .before .before)) (fits (c .before .before .before .before .before .before .before .before .before .before .before .before)) .held .n-most in omega arith
+
+returns-4 : tie.Need-returns-4
+returns-4 c =
+    let e = c .before .before .before .before .before .before .before .before in let l = l₅ e in let t = l .tables in
+    judged-refused l _ _ 7 _ (c .refused3 .ensures)
+    (stops-7 l (fits (e .before .before .before .before .before)) (passed e) _ (past₆ (c .before .before .before .before)) _ (c .before .before .first-bad-value .ensures .of t refl (e .before .before .before .table-checks .ensures .makers (passed e))) (c .before .if3 .taken))
+
+returns-5 : tie.Need-returns-5
+returns-5 c =
+    let e = c .before .before .before .before .before .before .before in let l = l₅ e in let t = l .tables in
+    record {
+      verdict =
+          e .before .before .before .table-checks .ensures .verdict
+          ∙ ap (answerOf 0) (passed e ∙ sym (passes l (fits (e .before .before .before .before .before)) (passed e) _ (past₆ (c .before .before .before)) _ (c .before .first-bad-value .ensures .of t refl (e .before .before .before .table-checks .ensures .makers (passed e)), c .if3 .left)));
+      numbered = λ _. c .before .before .before .before .find-numbers .ensures .numbered (c .before .before .before .if2 .left);
+    }
+
+pub judge-build-spec : {M : Type 1} → statement M
+judge-build-spec =
+    tie.close
+    (tie.spec
+    build-fits-requires
+    refused-requires
+    returns
+    slice-aggregate-table-checks
+    table-checks-requires
+    enum-told
+    enum-told-2
+    returns-2
+    slice-aggregate-find-numbers
+    find-numbers-requires
+    refused-requires-2
+    returns-3
+    slice-aggregate-first-bad-value
+    first-bad-value-requires
+    refused-requires-3
+    returns-4
+    returns-5)
