@@ -9,7 +9,7 @@ ghost use Rattle.paper.specs.File.{endsAt};
 ghost use Rattle.order.specs.Numbering.{ended};
 ghost use Rattle.admissions.specs.Starts.{startTest};
 use integers::wide;
-use layouts::ends_at;
+use places::ends_at;
 
 // The entries of a row with this part are whole: they end within e and within the file.
 pub fn entries_whole(bytes: &[u8], n: usize, m: usize, e: usize, first: u16, count: u16) -> bool

@@ -14,7 +14,7 @@ use Rattle.paper.proofs.Converted.{convert-headless}
 use Rattle.files.specs.Answers.{answer, hasRead, hasReadBounded, Stated}
 use Rattle.files.specs.declared.Reading.{Reading}
 use Rattle.files.specs.declared.Reading.the-variants.{Accepted, Refused}
-use Rattle.layouts.proofs.Counted.{Counted, counted-facts, counted-stops}
+use Rattle.places.proofs.Counted.{Counted, counted-facts, counted-stops}
 
 -- the answer of a chain of tests is the answer to the chain
 pub answer-require : (bytes : List ℕ) (code place : ℕ) (good : Bool) (next : Verdict)

@@ -15,13 +15,13 @@ ghost use Rattle.files.specs.Moving.{fullAt};
 use crate::Converted;
 use crate::Reading;
 use crate::header::header_as;
-use layouts::bounded_count;
-use layouts::bounds_at;
-use layouts::cell;
-use layouts::ends_at;
-use layouts::head_length;
-use layouts::put_bound;
-use layouts::put_header;
+use columns::cell;
+use limits::put_bound;
+use lines::put_header;
+use places::bounded_count;
+use places::bounds_at;
+use places::ends_at;
+use places::head_length;
 
 // The bounds of a variable are full: their bits are those of -2,147,483,647 and 2,147,483,647.
 fn full(bytes: &[u8], at: usize, v: usize) -> bool

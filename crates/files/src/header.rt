@@ -7,13 +7,13 @@ ghost use Rattle.paper.specs.Checks.{accepted};
 ghost use Rattle.paper.specs.File as File;
 ghost use Rattle.files.specs.Answers.{answer};
 use crate::Reading;
-use layouts::bounds_at;
-use layouts::ends_at;
-use layouts::entries_at;
-use layouts::get;
-use layouts::head_length;
-use layouts::rows_at;
-use layouts::version_number;
+use fields::get;
+use places::bounds_at;
+use places::ends_at;
+use places::entries_at;
+use places::head_length;
+use places::rows_at;
+use places::version_number;
 
 // The answer of the fields behind this one, or a refusal if this one is not right.
 fn right(place: u32, good: bool, answer: Reading) -> Reading

@@ -5,13 +5,13 @@ ghost use Rattle.files.specs.Answers.{hasReadBounded};
 ghost use Rattle.paper.specs.File as File;
 use crate::Reading;
 use crate::header::header_as;
-use layouts::bounded_count;
-use layouts::bounds_at;
-use layouts::head_length;
-use layouts::lay_bounds;
-use layouts::lay_entries;
-use layouts::lay_rows;
-use layouts::lay_starts;
+use columns::lay_starts;
+use laid::lay_entries;
+use laid::lay_rows;
+use limits::lay_bounds;
+use places::bounded_count;
+use places::bounds_at;
+use places::head_length;
 use tables::sizes;
 
 // The counts are within their bounds, and no row is shorter than they ask, those of the bounds among them where there are any.

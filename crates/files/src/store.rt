@@ -6,15 +6,15 @@ ghost use Rattle.files.specs.Answers.{verdict};
 ghost use Rattle.paper.specs.File as File;
 use crate::Written;
 use crate::lay::rows_held;
-use layouts::bounded_count;
-use layouts::bounds_at;
-use layouts::ends_at;
-use layouts::head_length;
-use layouts::put_bounds;
-use layouts::put_entries;
-use layouts::put_header;
-use layouts::put_rows;
-use layouts::put_starts;
+use limits::put_bounds;
+use lines::put_entries;
+use lines::put_header;
+use lines::put_rows;
+use lines::put_starts;
+use places::bounded_count;
+use places::bounds_at;
+use places::ends_at;
+use places::head_length;
 
 // Stores the file of a model in front of the lent bytes.
 pub fn write_as(

@@ -15,7 +15,7 @@ ghost use Rattle.kept.specs.Keeping.{Gives, Taken};
 use admissions::can_join;
 use admissions::entries_whole;
 use integers::wide;
-use layouts::entries_at;
+use places::entries_at;
 use repeats::mark;
 use sound::row_checks;
 use tables::Answer;

@@ -6,9 +6,9 @@ ghost use Rattle.paper.specs.Tables.{lent};
 ghost use Rattle.paper.specs.Checks.{accepted};
 ghost use Rattle.paper.specs.File.{headed, nIn, mIn, eIn};
 ghost use Rattle.kept.specs.Scratch.{Laid};
-use layouts::lay_entries;
-use layouts::lay_rows;
-use layouts::lay_starts;
+use columns::lay_starts;
+use laid::lay_entries;
+use laid::lay_rows;
 
 // The byte at a place, 0 if the file lacks it.
 fn byte_at(bytes: &[u8], i: usize) -> u8

@@ -5,7 +5,7 @@ use mathlib.Core.Path.{refl, ap, _∙_}
 use lib.Seq.{sets}
 use borrow.Author.Needs.{needs}
 use Rattle.paper.specs.Lists.{nat}
-use Rattle.layouts.proofs.Runs.{Lines, lines-next, lines-end}
+use Rattle.fields.proofs.Runs.{Lines, lines-next, lines-end}
 use Rattle.files.proofs.Moving.{byteFrom, bytes-part, one-byte}
 use Rattle.files.proofs.convert.copy.Statement.{statement}
 use Rattle.files.proofs.convert.copy.Tie as tie

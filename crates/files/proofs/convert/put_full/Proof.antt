@@ -3,7 +3,7 @@ use Prim.Native.Nat.{_-_}
 use mathlib.Core.Path.{refl}
 use borrow.Author.Needs.{needs}
 use Rattle.paper.specs.File.{fullBytes}
-use Rattle.layouts.proofs.Runs.{Lines, lines-next, lines-end}
+use Rattle.fields.proofs.Runs.{Lines, lines-next, lines-end}
 use Rattle.files.proofs.convert.put_full.Statement.{statement}
 use Rattle.files.proofs.convert.put_full.Tie as tie
 

@@ -4,7 +4,7 @@ use borrow.Author.Needs.{needs}
 use Rattle.paper.specs.Checks.{accepted}
 use Rattle.paper.specs.File.{headedAs, headerAs}
 use Rattle.files.specs.Answers.{Stated}
-use Rattle.layouts.proofs.Counted.{Counted, counted-next}
+use Rattle.places.proofs.Counted.{Counted, counted-next}
 use Rattle.files.proofs.Answered.{answer-require, refused-counts, given-counts}
 use Rattle.files.proofs.header.header_as.Statement.{statement}
 use Rattle.files.proofs.header.header_as.Tie as tie

@@ -1,4 +1,0 @@
-pub mod Widths
-pub mod Runs
-pub mod Signed
-pub mod Counted
