@@ -9,8 +9,8 @@ use Rattle.paper.specs.Checks.{Verdict, accepted, leaves}
 use Rattle.paper.specs.File.{Version, version1, version2, Contents, plain, nIn, mIn, eIn, countedAs, laidAs, readVerdictAs, readAs, read, readBounded}
 use Rattle.paper.proofs.Reading.{headed, read-headed}
 use Rattle.files.specs.Answers.{hasRead, hasReadBounded}
-use Rattle.files.specs.declared.Reading.{Reading}
-use Rattle.files.specs.declared.Reading.the-variants.{Accepted, Refused}
+use Rattle.headers.specs.declared.Reading.{Reading}
+use Rattle.headers.specs.declared.Reading.the-variants.{Accepted, Refused}
 use Rattle.capi.specs.declared.ReadOutcome.{ReadOutcome}
 use Rattle.capi.specs.Outcomes.{readInNumbers, Small, leftByRead, readOut}
 use Rattle.capi.specs.Versions.{leftByReadBounded, readBoundedOut}

@@ -7,8 +7,8 @@ use Rattle.paper.specs.Checks.{Verdict}
 use Rattle.paper.specs.Log.{Log, logIn}
 use Rattle.paper.specs.Calls.{Session, Answer, numberOf, placeOf, evaluationsOf, answered, BuildLeft, TrialLeft, KeepLeft}
 use Rattle.paper.specs.File.{counted}
-use Rattle.files.specs.declared.Reading.{Reading}
-use Rattle.files.specs.declared.Reading.the-variants as reading
+use Rattle.headers.specs.declared.Reading.{Reading}
+use Rattle.headers.specs.declared.Reading.the-variants as reading
 use Rattle.salvage.specs.Salvage as salvage
 use Rattle.salvage.specs.declared.Salvaged.{Salvaged}
 use Rattle.salvage.specs.declared.Salvaged.the-variants as salvaged

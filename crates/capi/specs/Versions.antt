@@ -4,8 +4,8 @@ use mathlib.Core.List.{List}
 use Rattle.paper.specs.Checks.{Verdict}
 use Rattle.paper.specs.Calls.{numberOf, placeOf, answered}
 use Rattle.paper.specs.File.{Contents, countedAs}
-use Rattle.files.specs.declared.Converted.{Converted}
-use Rattle.files.specs.declared.Converted.the-variants as converted
+use Rattle.conversions.specs.declared.Converted.{Converted}
+use Rattle.conversions.specs.declared.Converted.the-variants as converted
 use Rattle.capi.specs.declared.Outcome.{Outcome}
 use Rattle.capi.specs.declared.ReadOutcome.{ReadOutcome}
 use Rattle.capi.specs.declared.MoveOutcome.{MoveOutcome}

@@ -7,10 +7,10 @@ ghost use Rattle.capi.specs.Outcomes.{inNumbers, readInNumbers, Small, l
 ghost use Rattle.paper.specs.Calls.{answered};
 use crate::Outcome;
 use crate::ReadOutcome;
-use files::Reading;
 use files::Written;
 use files::read;
 use files::write;
+use headers::Reading;
 
 // What `write` and `write_bounded` answer, as three numbers.
 pub fn written_numbers(told: Written) -> Outcome

@@ -17,8 +17,8 @@ use Rattle.cores.specs.Left.{answerIn}
 use Rattle.files.specs.Answers.{verdict, hasRead}
 use Rattle.files.specs.declared.Written.{Written}
 use Rattle.files.specs.declared.Written.the-variants as written
-use Rattle.files.specs.declared.Reading.{Reading}
-use Rattle.files.specs.declared.Reading.the-variants as reading
+use Rattle.headers.specs.declared.Reading.{Reading}
+use Rattle.headers.specs.declared.Reading.the-variants as reading
 use Rattle.demands.specs.Stated.{BuildOutcome, leftBuilt, TrialOutcome, leftTried, KeepOutcome, leftKept, TakeOutcome, leftTaken, WriteOutcome, leftWritten, ReadOutcome, leftRead}
 use Rattle.demands.specs.Refusals.{buildTable, trialTable, keepTable, takeTable, writeTable, headerLines, roomLines, readTable}
 use Rattle.demands.specs.Demands.{BuildWorks, TrialWorks, KeepWorks, TakeWorks, WriteWorks, ReadWorks, Demand1}

@@ -15,7 +15,7 @@ use Rattle.cores.specs.Left.{leftByBuild, leftByTrial, leftByKeep}
 use Rattle.cores.specs.declared.Done.{Done}
 use Rattle.files.specs.Answers.{verdict, hasRead}
 use Rattle.files.specs.declared.Written.{Written}
-use Rattle.files.specs.declared.Reading.{Reading}
+use Rattle.headers.specs.declared.Reading.{Reading}
 
 -- ── build ──
 pub record BuildOutcome (l : BuildLent) : Type 0 where

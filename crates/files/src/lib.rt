@@ -1,36 +1,22 @@
 // The model file in its two versions: `write` stores a model as bytes and `read` lays the model that bytes hold over lent rows, both of version 1;
-// `write_bounded` and `read_bounded` do so with bounds, in version 2; `to_version_2` and `to_version_1` make a file of the one a file of the other.
-// Whatever a call is lent, it answers and leaves what the paper says; a refused call changes nothing.
-mod convert;
-mod header;
+// `write_bounded` and `read_bounded` do so with bounds, in version 2. Whatever a call is lent, it answers and leaves what the paper says; a refused call changes nothing.
 mod lay;
 mod store;
 
 ghost use mathlib.Core.Path.{_≡_};
 ghost use Rattle.paper.specs.Tables.{lent};
 ghost use Rattle.paper.specs.Checks.{accepted};
-ghost use Rattle.files.specs.Answers.{answer, verdict, hasRead, hasReadBounded, hasConverted};
+ghost use Rattle.headers.specs.Answers.{answer};
+ghost use Rattle.files.specs.Answers.{verdict, hasRead, hasReadBounded};
 ghost use Rattle.paper.specs.File as File;
-use crate::convert::convert;
-use crate::header::counts_as;
 use crate::lay::read_as;
 use crate::store::write_as;
+use headers::Reading;
+use headers::counts_as;
 
 // What a call that writes answers: the file stands in front of the bytes, or why not.
 pub enum Written {
     Accepted,
-    Refused { number: u32, place: u32 },
-}
-
-// What a call that reads answers: how many variables, rows and entries the file has, or why it is refused.
-pub enum Reading {
-    Accepted { n: usize, m: usize, e: usize },
-    Refused { number: u32, place: u32 },
-}
-
-// What a move from one version to the other answers: the length of the new file, which stands in front of the buffer, or why not.
-pub enum Converted {
-    Accepted { length: usize },
     Refused { number: u32, place: u32 },
 }
 
@@ -202,18 +188,4 @@ pub fn read_bounded(
         lows,
         highs,
     )
-}
-
-// Stores a file of version 1 as one of version 2, with all bounds full.
-pub fn to_version_2(bytes: &[u8], file: &mut [u8]) -> Converted
-    ensures { λ r. ⌜ hasConverted r (now (file .exit)) ≡ File.toVersion2 (now (bytes .entry)) (now (file .entry)) ⌝ }
-{
-    convert(false, true, bytes, file)
-}
-
-// Stores a file of version 2 as one of version 1, if it has only full bounds.
-pub fn to_version_1(bytes: &[u8], file: &mut [u8]) -> Converted
-    ensures { λ r. ⌜ hasConverted r (now (file .exit)) ≡ File.toVersion1 (now (bytes .entry)) (now (file .entry)) ⌝ }
-{
-    convert(true, false, bytes, file)
 }

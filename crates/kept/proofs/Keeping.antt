@@ -19,7 +19,7 @@ use Rattle.paper.proofs.Lists.{and-left, and-right}
 use Rattle.paper.proofs.Buffers.{Filled, filled-end, over-at}
 use Rattle.paper.proofs.Scan.{any-append}
 use Rattle.paper.proofs.Sizes.{Sized}
-use Rattle.places.proofs.Counted.{counted-facts}
+use Rattle.headers.proofs.Counted.{counted-facts}
 use Rattle.tables.proofs.Tests.{in-two}
 use Rattle.kept.specs.Saved.{given, rowWhole, entriesWhole, aloneGood, canKeep, keptRows}
 use Rattle.kept.specs.Scratch.{Laid, Kept}

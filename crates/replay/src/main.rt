@@ -16,7 +16,7 @@ use crate::model::put_params;
 use crate::model::put_tables;
 use cores::Done;
 use cores::Session;
-use files::Reading;
+use headers::Reading;
 use pools::calls::build_planned;
 use pools::fields::after;
 use pools::fields::least;

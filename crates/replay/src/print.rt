@@ -1,7 +1,7 @@
 // The lines of a session: what a read, a build, a trial, a keep, a change and a taking back print. Behind the answer and the record stand the rows that an accepted
 // call leaves, a bar before each.
 use cores::Done;
-use files::Reading;
+use headers::Reading;
 use pools::fields::after;
 use pools::print::answer;
 use pools::print::flags;

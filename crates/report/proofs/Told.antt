@@ -12,8 +12,8 @@ use Rattle.paper.specs.Tables.{Tables}
 use Rattle.paper.specs.Calls.{BuildLeft}
 use Rattle.paper.specs.File.{counted, read}
 use Rattle.files.specs.Answers.{hasRead}
-use Rattle.files.specs.declared.Reading.{Reading}
-use Rattle.files.specs.declared.Reading.the-variants as reading
+use Rattle.headers.specs.declared.Reading.{Reading}
+use Rattle.headers.specs.declared.Reading.the-variants as reading
 use Rattle.tables.specs.declared.Answer.{Answer}
 use Rattle.tables.specs.declared.Answer.the-variants.{Accepted, Refused}
 use Rattle.cores.specs.declared.Done.{Done}

@@ -9,8 +9,8 @@ use Rattle.paper.specs.Tables.{Tables, lent, indexIn}
 use Rattle.paper.specs.Checks.{Verdict, accepted, refused, boundsIn, lowest, highest}
 use Rattle.paper.specs.Calls.{Answer, Accepted, Refused, BuildLent, build}
 use Rattle.paper.specs.File.{read}
-use Rattle.files.specs.declared.Reading.{Reading}
-use Rattle.files.specs.declared.Reading.the-variants as reading
+use Rattle.headers.specs.declared.Reading.{Reading}
+use Rattle.headers.specs.declared.Reading.the-variants as reading
 use Rattle.text.specs.Lines.{list, refusal}
 
 -- of build's answer: the refusal line, or the list of what build left

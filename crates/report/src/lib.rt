@@ -7,7 +7,7 @@ ghost use Rattle.paper.specs.Tables.{lent};
 ghost use Rattle.cores.specs.Left.{answerIn};
 ghost use Rattle.report.specs.Printed.{ofTables, printed, refusalIn, refusalOf};
 ghost use Rattle.buffers.specs.Buffer.{Shows};
-use files::Reading;
+use headers::Reading;
 use tables::Answer;
 
 // The refusal line of a file that is not read; one that is read has none.

@@ -19,8 +19,8 @@ use Rattle.paper.proofs.Sizes.{Sized, held-of}
 use Rattle.paper.proofs.Those.{those-same}
 use Rattle.paper.proofs.Verdicts.{require-held, require-rest, require-next}
 use Rattle.paper.proofs.Written.{file-length, write-whole}
-use Rattle.files.specs.Answers.{answer}
-use Rattle.files.specs.declared.Reading.{Reading}
+use Rattle.headers.specs.Answers.{answer}
+use Rattle.headers.specs.declared.Reading.{Reading}
 use Rattle.kept.specs.Saved.{given, startGiven, stands, startKept, savedTables, savedFile, savedList, droppedRows, resetValues}
 use Rattle.salvage.specs.Salvage.{salvageVerdict, salvage, lends, left}
 use Rattle.packing.specs.Packing.{flagged}
@@ -28,7 +28,7 @@ use Rattle.salvage.specs.Saving.{Ready}
 use Rattle.salvage.specs.declared.Salvaged.the-variants.{Accepted, Refused}
 use Rattle.kept.proofs.Kept.{keeps, kept-those, any-those, rows-kept}
 use Rattle.kept.proofs.Packed.{Rows, packed-sized, packed-sound}
-use Rattle.files.specs.declared.Reading.the-variants as reading
+use Rattle.headers.specs.declared.Reading.the-variants as reading
 
 -- ── the header's version and counts ──
 -- one test refuses whatever follows

@@ -7,8 +7,8 @@ ghost use mathlib.Core.Path.{_≡_};
 ghost use Rattle.salvage.specs.Salvage.{lends, left};
 ghost use Rattle.salvage.specs.Salvage as Salvage;
 use crate::stand::salvage_given;
-use files::Reading;
 use files::counts;
+use headers::Reading;
 
 // What the call answers: how long the file is, and how many rows dropped and start values missing or reset the list has; or why it is refused.
 pub enum Salvaged {

@@ -11,7 +11,8 @@ use Rattle.paper.specs.File.{Contents, contents, headOf, bounded, boundsFrom, h
 use Rattle.paper.proofs.Sizes.{Held, held-as-facts}
 use Rattle.paper.proofs.Written.{ends-is}
 use Rattle.paper.proofs.Reading.{same-rows, same-contents}
-use Rattle.files.proofs.Answered.{ends, refused-header, short-rows, all-laid}
+use Rattle.headers.proofs.Answered.{ends}
+use Rattle.files.proofs.Answered.{refused-header, short-rows, all-laid}
 use Rattle.files.proofs.lay.read_as.Statement.{statement}
 use Rattle.files.proofs.lay.read_as.Tie as tie
 

@@ -6,7 +6,7 @@ use borrow.Author.Needs.{needs}
 use Rattle.paper.specs.Tables.{lent}
 use Rattle.paper.proofs.Reading.{same-rows}
 use Rattle.paper.specs.File.{version1}
-use Rattle.places.proofs.Counted.{Counted, counted-facts}
+use Rattle.headers.proofs.Counted.{Counted, counted-facts}
 use Rattle.kept.proofs.Padded.{laid-padded}
 use Rattle.kept.proofs.lay.lay_given.Statement.{statement}
 use Rattle.kept.proofs.lay.lay_given.Tie as tie
