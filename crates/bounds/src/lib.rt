@@ -6,7 +6,7 @@ ghost use lib.Dec.{eqb};
 ghost use lib.IntN.{pos};
 ghost use lib.ListN.{length, getD};
 ghost use lib.Signed.{leZ};
-ghost use Rattle.paper.specs.Lists.{nat, firstFail};
+ghost use Rattle.paper.specs.Lists.{nat, firstFail, allBelow};
 ghost use Rattle.paper.specs.Checks.{boundGood, boundsIn, within as allowed};
 
 // The full range.
@@ -31,11 +31,27 @@ fn bound_good(made: bool, low: i32, high: i32) -> bool
     (LOWEST <= low) & (LOWEST <= high) & (low <= high)
 }
 
+// Whether all bounds are as they must be; no turn leaves the loop, so the compiler takes several variables at a time.
+fn all_bounds_good(n: usize, by: &[u16], lows: &[i32], highs: &[i32]) -> bool
+    requires { ⌜ (n ≤ length (now by)) × (n ≤ length (now lows)) × (n ≤ length (now highs)) ⌝ }
+    ensures { λ r. ⌜ r ≡ allBelow (λ v. boundGood (not (eqb (nat (now (by .entry)) v) 0)) (getD (now (lows .entry)) v (pos 0)) (getD (now (highs .entry)) v (pos 0))) n ⌝ }
+{
+    let mut all = true;
+    for v in 0..n {
+        let good = bound_good(by[v] != 0, lows[v], highs[v]);
+        all = all & good;
+    }
+    all
+}
+
 // The first variable whose bounds are not as they must be; `by` has 0 for each that no row makes.
 pub fn first_bad_bound(n: usize, by: &[u16], lows: &[i32], highs: &[i32]) -> usize
     requires { ⌜ (n ≤ length (now by)) × (n ≤ length (now lows)) × (n ≤ length (now highs)) ⌝ }
     ensures { λ r. ⌜ r ≡ firstFail (λ v. boundGood (not (eqb (nat (now (by .entry)) v) 0)) (getD (now (lows .entry)) v (pos 0)) (getD (now (highs .entry)) v (pos 0))) n ⌝ }
 {
+    if all_bounds_good(n, by, lows, highs) {
+        return n;
+    }
     for v in 0..n {
         if !bound_good(by[v] != 0, lows[v], highs[v]) {
             return v;

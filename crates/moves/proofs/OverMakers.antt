@@ -1,5 +1,6 @@
 -- The tests over the row of makers are the paper's over the tables. Assumes nothing.
 use Prim.Native.Nat.{ℕ, _≤_, _<_}
+use native.Mathlib.Omega.{arith}
 use mathlib.Core.Bool.{Bool, true, false, cond, not, _&&_, and-true}
 use mathlib.Core.List.{List}
 use mathlib.Core.Path.{_≡_, refl, ap, ap₂, sym, _∙_}
@@ -8,12 +9,14 @@ use lib.Dec.{eqb, ltb}
 use lib.ListN.{getD}
 use lib.Seq.{getD-take}
 use borrow.Author.Tests.{lt-ltb, le-ltb}
-use Rattle.paper.specs.Lists.{nat}
+use Rattle.paper.specs.Lists.{nat, firstFail, allBelow}
 use Rattle.paper.specs.Tables.{Tables, isMade, valuesIn}
 use Rattle.paper.specs.Checks.{Bounds, low, high, startAllowed, storedAllowed, Move, movable}
 use Rattle.paper.specs.Formula.{blank}
 use Rattle.paper.specs.Calls.{blanksAmong}
 use Rattle.paper.proofs.Count.{size-same}
+use Rattle.paper.proofs.Least.{allBelow-none}
+use Rattle.paper.proofs.Scan.{firstFail-same}
 use Rattle.integers.specs.Integers.{eqZ}
 use Rattle.tables.specs.Makers.{Makers}
 use Rattle.tables.proofs.Made.{maker-zero}
@@ -36,6 +39,12 @@ module _ (t : Tables) (by : List ℕ) (k : Makers t by) where
       go true false e = rw e refl
       go false true e = rw e refl
       go false false e = rw e refl
+
+  -- 7 of all: where each passes over the row of makers there is none to find
+  pub values-none : (n : ℕ) → t .n ≡ n → (building : Bool) (bs : Bounds) (values : List ℤ) (b : Bool)
+      → b ≡ allBelow (λ v. valueGood building (not (eqb (nat by v) 0)) (low bs v) (getD values v (pos 0)) (high bs v)) n → b ≡ true
+      → n ≡ firstFail (cond building (startAllowed t) (storedAllowed t) bs (valuesIn t values)) n
+  values-none n e building bs values b h p = allBelow-none _ n b h p ∙ firstFail-same _ _ n (λ v l. value-same building bs values v (omega arith))
 
   -- 10, of a pair that names v
   module _ (mv : Move) (i v : ℕ) (e : v ≡ nat (mv .vars) i) where

@@ -4,8 +4,8 @@ use native.Mathlib.Nat.{le-refl, not-suc-le-zero, lt-irrefl}
 use native.Mathlib.Omega.{arith}
 use mathlib.Core.Bool.{Bool, true, false, cond, _&&_}
 use mathlib.Core.Path.{_≡_, refl, ap, ap₂, sym, _∙_}
-use lib.Dec.{leb, ltb}
-use borrow.Author.Tests.{ltb-true, ltb-false, le-leb, lt-leb, eqb-true, eq-eqb}
+use lib.Dec.{eqb, leb, ltb}
+use borrow.Author.Tests.{ltb-true, ltb-false, le-leb, lt-leb, eqb-true, eq-eqb, ne-eqb}
 use Rattle.paper.specs.Lists.{between, firstFail, allBelow}
 use Rattle.paper.proofs.Lists.{clash}
 
@@ -66,6 +66,23 @@ allBelow-at p n e v l = let h = eqb-true (firstFail p n) n e in firstFail-before
 
 pub below-all : (p : ℕ → Bool) (n : ℕ) → ((v : ℕ) → v < n → p v ≡ true) → allBelow p n ≡ true
 below-all p n h = eq-eqb (firstFail p n) n (sym (firstFail-none p n h))
+
+pub allBelow-none : (p : ℕ → Bool) (n : ℕ) (b : Bool) → b ≡ allBelow p n → b ≡ true → n ≡ firstFail p n
+allBelow-none p n b e t = sym (eqb-true (firstFail p n) n (sym e ∙ t))
+
+pub allBelow-next : (p : ℕ → Bool) (n : ℕ) → allBelow p (suc n) ≡ (allBelow p n && p n)
+allBelow-next p n = go (ltb (firstFail p n) n) refl (p n) (firstFail-le p n)
+  where
+    go : (a : Bool) → ltb (firstFail p n) n ≡ a → (b : Bool) → firstFail p n ≤ n → eqb (cond a (firstFail p n) (cond b (suc n) n)) (suc n) ≡ (eqb (firstFail p n) n && b)
+    go true e b h =
+        let l = ltb-true (firstFail p n) n e in
+        ne-eqb (firstFail p n) (suc n) (λ q. lt-irrefl n (omega arith)) ∙ ap (_&& b) (sym (ne-eqb (firstFail p n) n (λ q. lt-irrefl n (omega arith))))
+    go false e true h =
+        let l = ltb-false (firstFail p n) n e in
+        eq-eqb (suc n) (suc n) refl ∙ ap (_&& true) (sym (eq-eqb (firstFail p n) n (omega arith)))
+    go false e false h =
+        let l = ltb-false (firstFail p n) n e in
+        ne-eqb n (suc n) (λ q. lt-irrefl n (omega arith)) ∙ ap (_&& false) (sym (eq-eqb (firstFail p n) n (omega arith)))
 
 -- ── `between` as a program tests it ──
 

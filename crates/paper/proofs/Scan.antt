@@ -10,8 +10,8 @@ use mathlib.Core.Path.{_≡_, refl, ap, ap₂, sym, _∙_}
 use lib.Dec.{ltb}
 use lib.ListN.{length, getD, take, drop, drop-of-length-le, length-take, length-drop}
 use lib.Seq.{drop-cons, take-suc}
-use Rattle.paper.specs.Lists.{any, all, total, nat, firstFail}
-use Rattle.paper.proofs.Least.{firstFail-is, firstFail-none, all-more}
+use Rattle.paper.specs.Lists.{any, all, total, nat, firstFail, allBelow}
+use Rattle.paper.proofs.Least.{firstFail-is, firstFail-none, allBelow-next, all-more}
 
 -- ── the least place that fails ──
 -- a loop that has come to i, at most m, and has passed all before
@@ -34,6 +34,21 @@ module _ (p : ℕ → Bool) (m : ℕ) where
 
   pub scan-end : (i : ℕ) → Scan p m i → m ≤ i → i ≡ firstFail p m
   scan-end i s l = let low = s .low in let same : i ≡ m = omega arith in same ∙ scan-all i s l
+
+-- a loop that joins its tests and leaves at none: it has come to i, at most m, and b says whether all before passed
+pub record Joint (p : ℕ → Bool) (m i : ℕ) (b : Bool) : Type 0 where
+  pub low : i ≤ m
+  pub so : b ≡ allBelow p i
+
+module _ (p : ℕ → Bool) (m : ℕ) where
+  pub joint-start : Joint p m 0 true
+  joint-start = record { low = omega arith; so = refl }
+
+  pub joint-next : (i : ℕ) (b g : Bool) → Joint p m i b → i < m → g ≡ p i → Joint p m (i + 1) (b && g)
+  joint-next i b g s l e = record { low = omega arith; so = ap₂ _&&_ (s .so) e ∙ sym (allBelow-next p i) ∙ ap (λ (k : ℕ). allBelow p k) (sym (add-one i)) }
+
+  pub joint-end : (i : ℕ) (b : Bool) → Joint p m i b → m ≤ i → b ≡ allBelow p m
+  joint-end i b s l = let low = s .low in let same : i ≡ m = omega arith in s .so ∙ ap (λ (k : ℕ). allBelow p k) same
 
 pub firstFail-same : (p q : ℕ → Bool) (n : ℕ) → ((v : ℕ) → v < n → p v ≡ q v) → firstFail p n ≡ firstFail q n
 firstFail-same p q zero h = refl

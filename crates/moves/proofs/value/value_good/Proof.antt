@@ -1,6 +1,6 @@
--- Whether the variable is made picks the test. Assumes nothing.
-use mathlib.Core.Bool.{not, _||_}
-use mathlib.Core.Path.{refl, ap}
+-- Whether the variable is made picks one of the two tests (`one-of`). Assumes nothing.
+use mathlib.Core.Bool.{Bool, true, false, cond, not, _&&_, _||_}
+use mathlib.Core.Path.{_≡_, ap, ap₂}
 use lib.IntN.{pos}
 use borrow.Author.Needs.{needs}
 use mir.Syntax.{w32}
@@ -9,20 +9,26 @@ use Rattle.integers.proofs.Bits.{eqb-bits}
 use Rattle.moves.proofs.value.value_good.Statement.{statement}
 use Rattle.moves.proofs.value.value_good.Tie as tie
 
-returns : tie.Need-returns
-returns c = rw (c .if1 .taken) (ap (not (c .before .args .building) ||_) (eqb-bits w32 (c .before .args .value) (pos 0) (c .before .fits .value) (sfits-lit tt)))
-
 is-blank-requires : tie.Need-is-blank-requires
 is-blank-requires c κs = search needs
 
 between-requires : tie.Need-between-requires
 between-requires c κs = search needs
 
-returns-2 : tie.Need-returns-2
-returns-2 c =
-    let f = c .before .before .before .fits in
-    rw (c .before .before .if1 .left)
-    (simp (c .before .is-blank .ensures, c .between .ensures, toZ-ofZ (f .low), toZ-ofZ (f .value), toZ-ofZ (f .high)) refl)
+-- one of two tests, with no branch
+one-of : (made a x b y : Bool) → a ≡ x → b ≡ y → ((made && a) || (not made && b)) ≡ cond made x y
+one-of true true x b y p q = p
+one-of true false x b y p q = p
+one-of false a x b y p q = q
+
+returns : tie.Need-returns
+returns c =
+    let s = c .before .before in let f = s .fits in
+    one-of (s .args .made) _ _ _ _
+    (ap (not (s .args .building) ||_) (eqb-bits w32 (s .args .value) (pos 0) (f .value) (sfits-lit tt)))
+    (ap₂ (λ p q. not p && q)
+    (simp (toZ-ofZ (f .value)) at (c .before .is-blank .ensures))
+    (simp (toZ-ofZ (f .low), toZ-ofZ (f .value), toZ-ofZ (f .high)) at (c .between .ensures)))
 
 pub value-good-spec : {M : Type 1} → statement M
-value-good-spec = tie.close (tie.spec returns is-blank-requires between-requires returns-2)
+value-good-spec = tie.close (tie.spec is-blank-requires between-requires returns)
