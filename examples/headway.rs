@@ -19,6 +19,10 @@ fn main() -> Result<(), Refused> {
     println!("kept: {:?} departures", sheet.value(3));
     sheet.take_back()?;
     println!("taken back: {:?} departures", sheet.value(3));
+    let closed = sheet.trial(&[(1, 25200)], &[4], Route::MarkGuided)?;
+    if let Some(reason) = closed.reason(0) {
+        println!("closed at seven it has no last departure: {reason}");
+    }
     match sheet.keep(&[(2, 72_000)]) {
         Err(refused) => println!("a slipped digit: {refused}"),
         Ok(_) => println!("a headway of twenty hours"),

@@ -20,9 +20,11 @@
  *   reader_places                          e         ascending and each once, stand in reader_places from place
  *                                                    reader_starts[v] to before reader_starts[v + 1]; places from
  *                                                    reader_starts[n] on are neither looked at nor changed
+ *   reasons                                n         why each variable is blank, filled by build
  *   move_vars, move_values                 pairs     a move: variable and new value (0 to 64 pairs)
  *   asked_vars, results                    asked     variables asked and their values (0 to 32)
  *   trial, flags                           n each    values as they would be; 1 where a formula was evaluated, else 0
+ *   why                                    asked     why each value asked is blank
  *   log_sizes                              65        the log of kept moves: how many moves there are (0 to 64), and then
  *                                                    how many pairs each has (0 to 64), the oldest first
  *   log_vars, log_values                   4,096     the pairs of the log: variable, and its value before the move; those
@@ -37,7 +39,8 @@
  *
  * Parameters stand in groups: record and counts, tables, what build fills, a move, what is asked, what a trial fills,
  * the log. A parameter that joins a group comes at its end, as the index of readers does behind stored and the bounds do
- * behind coefs; the log came last, and its rows stand at the end of the list.
+ * behind coefs; reasons stand behind the readers, and why behind flags. The log came last, and its rows stand at the end
+ * of the list.
  *
  * THE LOG lets the latest 64 kept moves be taken back, one after another, the latest first. Its three rows need no
  * content before build, which empties it (it writes log_sizes[0]) and is lent no more of it than log_sizes. Lend the same
@@ -50,6 +53,16 @@
  * copy of the record with their number of blanks.
  *
  * VALUES lie in -2,147,483,647 to 2,147,483,647, LUKHANDRO_LOWEST to LUKHANDRO_HIGHEST; LUKHANDRO_BLANK is no value.
+ *
+ * REASONS. A value that cannot be worked out is blank, and its reason says why, in a byte:
+ *    0 it has a value, or no row makes it             3 the headway of DEPARTURES or LAST is 0 or less
+ *    1 the result left the range                      4 a blank input stopped it
+ *    2 the index of ELEMENT is outside                5 LAST has no departures
+ * Where several apply the first of 4, 3, 2, 5, 1 counts. 4 means for ELEMENT a blank index or a blank candidate that it
+ * chooses, for MIN and MAX that all inputs are blank. Build fills reasons for every variable. Keep and taking back write
+ * the reason of each variable that they evaluate, and 0 for every variable that no row makes; the others stay. A trial
+ * leaves reasons, and fills why: the reason of each variable asked, the stored one if it was not evaluated. Lend the same
+ * reasons with the same stored values to every call. They are not checked: any bytes may stand there, and are handed on.
  *
  * BOUNDS say what a search variable may be: a number from its lowest to its highest, both of them allowed. Both are
  * values, and the lowest is not above the highest. A variable that a row makes has full bounds, LUKHANDRO_LOWEST and
@@ -144,7 +157,8 @@ typedef struct {
     size_t length;   /* bytes of the new file, 0 if refused */
 } lukhandro_move_outcome;
 
-/* Fills numbers, order, stored and the readers from tables and start values, and empties the log. Refusals 1 to 7. */
+/* Fills numbers, order, stored, the readers and reasons from tables and start values, and empties the log. Refusals 1 to
+ * 7. */
 lukhandro_outcome lukhandro_build(
     lukhandro_session *session, size_t n, size_t m, size_t e,
     const uint16_t *kinds, size_t kinds_length, const uint16_t *makes, size_t makes_length,
@@ -154,11 +168,12 @@ lukhandro_outcome lukhandro_build(
     const int32_t *highs, size_t highs_length, const int32_t *starts, size_t starts_length,
     uint16_t *numbers, size_t numbers_length, uint16_t *order, size_t order_length,
     int32_t *stored, size_t stored_length, uint16_t *reader_starts, size_t reader_starts_length,
-    uint16_t *reader_places, size_t reader_places_length, uint16_t *log_sizes, size_t log_sizes_length);
+    uint16_t *reader_places, size_t reader_places_length, uint8_t *reasons, size_t reasons_length,
+    uint16_t *log_sizes, size_t log_sizes_length);
 
 /* Tries a move by a route (1 input to output, 2 output to input, 3 mark-guided) on what the calls left, and fills
- * results, trial and flags; stored values stay. Refusals 1 to 13 without 6, and 17 and 19; 8 and then 19 before 7, and 17
- * right after 12. */
+ * results, trial, flags and why; stored values and their reasons stay. Refusals 1 to 13 without 6, and 17 and 19; 8 and
+ * then 19 before 7, and 17 right after 12. */
 lukhandro_outcome lukhandro_trial(
     lukhandro_session *session, size_t n, size_t m, size_t e,
     const uint16_t *kinds, size_t kinds_length, const uint16_t *makes, size_t makes_length,
@@ -168,15 +183,15 @@ lukhandro_outcome lukhandro_trial(
     const int32_t *highs, size_t highs_length, const uint16_t *numbers, size_t numbers_length,
     const uint16_t *order, size_t order_length, const int32_t *stored, size_t stored_length,
     const uint16_t *reader_starts, size_t reader_starts_length,
-    const uint16_t *reader_places, size_t reader_places_length,
+    const uint16_t *reader_places, size_t reader_places_length, const uint8_t *reasons, size_t reasons_length,
     size_t pairs, const uint16_t *move_vars, size_t move_vars_length,
     const int32_t *move_values, size_t move_values_length,
     size_t asked, const uint16_t *asked_vars, size_t asked_vars_length, uint32_t route,
     int32_t *results, size_t results_length, int32_t *trial, size_t trial_length,
-    uint8_t *flags, size_t flags_length);
+    uint8_t *flags, size_t flags_length, uint8_t *why, size_t why_length);
 
-/* Keeps a move by route 1: changes stored, fills flags, and notes the move in the log. Refusals 1 to 12 without 6 and 9,
- * 8 and then 19 before 7, then 17 and 16. */
+/* Keeps a move by route 1: changes stored and reasons, fills flags, and notes the move in the log. Refusals 1 to 12 without
+ * 6 and 9, 8 and then 19 before 7, then 17 and 16. */
 lukhandro_outcome lukhandro_keep(
     lukhandro_session *session, size_t n, size_t m, size_t e,
     const uint16_t *kinds, size_t kinds_length, const uint16_t *makes, size_t makes_length,
@@ -186,16 +201,16 @@ lukhandro_outcome lukhandro_keep(
     const int32_t *highs, size_t highs_length, const uint16_t *numbers, size_t numbers_length,
     const uint16_t *order, size_t order_length, int32_t *stored, size_t stored_length,
     const uint16_t *reader_starts, size_t reader_starts_length,
-    const uint16_t *reader_places, size_t reader_places_length,
+    const uint16_t *reader_places, size_t reader_places_length, uint8_t *reasons, size_t reasons_length,
     size_t pairs, const uint16_t *move_vars, size_t move_vars_length,
     const int32_t *move_values, size_t move_values_length,
     uint8_t *flags, size_t flags_length, uint16_t *log_sizes, size_t log_sizes_length,
     uint16_t *log_vars, size_t log_vars_length, int32_t *log_values, size_t log_values_length);
 
-/* Takes the latest kept move back by route 1: its variables get the values that they had before it. Changes stored, fills
- * flags, and takes the move off the log (it writes log_sizes[0]); what keep then notes takes its room. Over values and a
- * log that the calls left, stored is exactly what it was before that move. Refusals 1 to 5, 8, 19, 7, 16 and
- * 15. */
+/* Takes the latest kept move back by route 1: its variables get the values that they had before it. Changes stored and
+ * reasons, fills flags, and takes the move off the log (it writes log_sizes[0]); what keep then notes takes its room. Over
+ * values, reasons and a log that the calls left, stored and reasons are exactly what they were before that move. Refusals 1
+ * to 5, 8, 19, 7, 16 and 15. */
 lukhandro_outcome lukhandro_take_back(
     lukhandro_session *session, size_t n, size_t m, size_t e,
     const uint16_t *kinds, size_t kinds_length, const uint16_t *makes, size_t makes_length,
@@ -205,7 +220,7 @@ lukhandro_outcome lukhandro_take_back(
     const int32_t *highs, size_t highs_length, const uint16_t *numbers, size_t numbers_length,
     const uint16_t *order, size_t order_length, int32_t *stored, size_t stored_length,
     const uint16_t *reader_starts, size_t reader_starts_length,
-    const uint16_t *reader_places, size_t reader_places_length,
+    const uint16_t *reader_places, size_t reader_places_length, uint8_t *reasons, size_t reasons_length,
     uint8_t *flags, size_t flags_length, uint16_t *log_sizes, size_t log_sizes_length,
     const uint16_t *log_vars, size_t log_vars_length, const int32_t *log_values, size_t log_values_length);
 

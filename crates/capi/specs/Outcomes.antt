@@ -13,6 +13,7 @@ use Rattle.salvage.specs.Salvage as salvage
 use Rattle.salvage.specs.declared.Salvaged.{Salvaged}
 use Rattle.salvage.specs.declared.Salvaged.the-variants as salvaged
 use Rattle.cores.specs.Left.{recordIn}
+use Rattle.paper.specs.Reasoned.{Reasoned}
 use Rattle.cores.specs.declared.Session as code-session
 use Rattle.capi.specs.declared.Outcome.{Outcome}
 use Rattle.capi.specs.declared.ReadOutcome.{ReadOutcome}
@@ -22,27 +23,27 @@ use Rattle.capi.specs.declared.SalvageOutcome.{SalvageOutcome}
 abbrev pub inNumbers : Answer → Outcome
 inNumbers a = record { number = numberOf a; place = placeOf a; evaluations = evaluationsOf a }
 
--- ── what the caller has, and what the paper's call leaves: the answer in numbers, then the record and the rows ──
+-- ── what the caller has, and what the paper's call leaves: the answer in numbers, then the record and the rows, that of reasons last ──
 -- build
-abbrev pub leftByBuild : Outcome → code-session.Session → List ℕ → List ℕ → List ℤ → List ℕ → List ℕ → List ℕ → Outcome × (Session × List ℕ × List ℕ × List ℤ × Index × List ℕ)
-leftByBuild r session numbers order stored readerStarts readerPlaces logSizes = (r, (recordIn session, numbers, order, stored, indexIn readerStarts readerPlaces, logSizes))
+abbrev pub leftByBuild : Outcome → code-session.Session → List ℕ → List ℕ → List ℤ → List ℕ → List ℕ → List ℕ → List ℕ → Outcome × (Session × List ℕ × List ℕ × List ℤ × Index × List ℕ × List ℕ)
+leftByBuild r session numbers order stored readerStarts readerPlaces logSizes reasons = (r, (recordIn session, numbers, order, stored, indexIn readerStarts readerPlaces, logSizes, reasons))
 
-abbrev pub builtOut : BuildLeft → Outcome × (Session × List ℕ × List ℕ × List ℤ × Index × List ℕ)
-builtOut left = (inNumbers (left .answer), (left .session, left .numbers, left .order, left .stored, left .index, left .logSizes))
+abbrev pub builtOut : Reasoned BuildLeft → Outcome × (Session × List ℕ × List ℕ × List ℤ × Index × List ℕ × List ℕ)
+builtOut x = let left = x .left in (inNumbers (left .answer), (left .session, left .numbers, left .order, left .stored, left .index, left .logSizes, x .reasons))
 
 -- trial
-abbrev pub leftByTrial : Outcome → code-session.Session → List ℤ → List ℤ → List ℕ → Outcome × (Session × List ℤ × List ℤ × List ℕ)
-leftByTrial r session results trial flags = (r, (recordIn session, results, trial, flags))
+abbrev pub leftByTrial : Outcome → code-session.Session → List ℤ → List ℤ → List ℕ → List ℕ → Outcome × (Session × List ℤ × List ℤ × List ℕ × List ℕ)
+leftByTrial r session results trial flags why = (r, (recordIn session, results, trial, flags, why))
 
-abbrev pub triedOut : TrialLeft → Outcome × (Session × List ℤ × List ℤ × List ℕ)
-triedOut left = (inNumbers (left .answer), (left .session, left .results, left .trial, left .flags))
+abbrev pub triedOut : Reasoned TrialLeft → Outcome × (Session × List ℤ × List ℤ × List ℕ × List ℕ)
+triedOut x = let left = x .left in (inNumbers (left .answer), (left .session, left .results, left .trial, left .flags, x .reasons))
 
 -- keep and taking back
-abbrev pub leftByKeep : Outcome → code-session.Session → List ℤ → List ℕ → List ℕ → List ℕ → List ℤ → Outcome × (Session × List ℤ × List ℕ × Log)
-leftByKeep r session stored flags logSizes logVars logValues = (r, (recordIn session, stored, flags, logIn logSizes logVars logValues))
+abbrev pub leftByKeep : Outcome → code-session.Session → List ℤ → List ℕ → List ℕ → List ℕ → List ℤ → List ℕ → Outcome × (Session × List ℤ × List ℕ × Log × List ℕ)
+leftByKeep r session stored flags logSizes logVars logValues reasons = (r, (recordIn session, stored, flags, logIn logSizes logVars logValues, reasons))
 
-abbrev pub keptOut : KeepLeft → Outcome × (Session × List ℤ × List ℕ × Log)
-keptOut left = (inNumbers (left .answer), (left .session, left .stored, left .flags, left .log))
+abbrev pub keptOut : Reasoned KeepLeft → Outcome × (Session × List ℤ × List ℕ × Log × List ℕ)
+keptOut x = let left = x .left in (inNumbers (left .answer), (left .session, left .stored, left .flags, left .log, x .reasons))
 
 -- write: the answer by its verdict, which has no evaluations, and the bytes
 abbrev pub writtenOut : Verdict × List ℕ → Outcome × List ℕ

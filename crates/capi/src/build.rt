@@ -1,14 +1,14 @@
 // Build across the C boundary.
 ghost use mathlib.Core.Path.{_≡_};
-ghost use Rattle.paper.specs.Calls.{build as built};
 ghost use Rattle.fits.specs.Lent.{toBuild};
 ghost use Rattle.cores.specs.Left.{recordIn};
+ghost use Rattle.paper.specs.Reasoned.{buildReasoned};
 ghost use Rattle.capi.specs.Outcomes.{leftByBuild, builtOut};
 use crate::Outcome;
 use crate::answers::in_numbers;
 use cores::Session;
 
-// `engine::build` for C.
+// `engine::build` for C. The reason of every variable is given.
 #[no_mangle]
 pub extern "C" fn lukhandro_build(
     session: &mut Session,
@@ -30,9 +30,10 @@ pub extern "C" fn lukhandro_build(
     stored: &mut [i32],
     reader_starts: &mut [u16],
     reader_places: &mut [u16],
+    reasons: &mut [u8],
     log_sizes: &mut [u16],
 ) -> Outcome
-    ensures { λ r. ⌜ leftByBuild r (now (session .exit)) (now (numbers .exit)) (now (order .exit)) (now (stored .exit)) (now («reader_starts» .exit)) (now («reader_places» .exit)) (now («log_sizes» .exit)) ≡ builtOut (built (toBuild (recordIn (now (session .entry))) n m e (now (kinds .entry)) (now (makes .entry)) (now (params .entry)) (now (firsts .entry)) (now (counts .entry)) (now (vars .entry)) (now (coefs .entry)) (now (lows .entry)) (now (highs .entry)) (now (starts .entry)) (now (numbers .entry)) (now (order .entry)) (now (stored .entry)) (now («reader_starts» .entry)) (now («reader_places» .entry)) (now («log_sizes» .entry)))) ⌝ }
+    ensures { λ r. ⌜ leftByBuild r (now (session .exit)) (now (numbers .exit)) (now (order .exit)) (now (stored .exit)) (now («reader_starts» .exit)) (now («reader_places» .exit)) (now («log_sizes» .exit)) (now (reasons .exit)) ≡ builtOut (buildReasoned (toBuild (recordIn (now (session .entry))) n m e (now (kinds .entry)) (now (makes .entry)) (now (params .entry)) (now (firsts .entry)) (now (counts .entry)) (now (vars .entry)) (now (coefs .entry)) (now (lows .entry)) (now (highs .entry)) (now (starts .entry)) (now (numbers .entry)) (now (order .entry)) (now (stored .entry)) (now («reader_starts» .entry)) (now («reader_places» .entry)) (now («log_sizes» .entry))) (now (reasons .entry))) ⌝ }
 {
     let answer = engine::build(
         session,
@@ -54,6 +55,7 @@ pub extern "C" fn lukhandro_build(
         stored,
         reader_starts,
         reader_places,
+        reasons,
         log_sizes,
     );
     in_numbers(answer)

@@ -1,15 +1,15 @@
 // Keep across the C boundary.
 ghost use mathlib.Core.Path.{_≡_};
 ghost use Rattle.paper.specs.Log.{logIn};
-ghost use Rattle.paper.specs.Calls.{keep as kept};
 ghost use Rattle.fits.specs.Lent.{toModel, toKeep};
 ghost use Rattle.cores.specs.Left.{recordIn};
+ghost use Rattle.paper.specs.Reasoned.{keepReasoned};
 ghost use Rattle.capi.specs.Outcomes.{leftByKeep, keptOut};
 use crate::Outcome;
 use crate::answers::in_numbers;
 use cores::Session;
 
-// `engine::keep` for C.
+// `engine::keep` for C. The reason of every variable evaluated is given.
 #[no_mangle]
 pub extern "C" fn lukhandro_keep(
     session: &mut Session,
@@ -30,6 +30,7 @@ pub extern "C" fn lukhandro_keep(
     stored: &mut [i32],
     reader_starts: &[u16],
     reader_places: &[u16],
+    reasons: &mut [u8],
     pairs: usize,
     move_vars: &[u16],
     move_values: &[i32],
@@ -38,7 +39,7 @@ pub extern "C" fn lukhandro_keep(
     log_vars: &mut [u16],
     log_values: &mut [i32],
 ) -> Outcome
-    ensures { λ r. ⌜ leftByKeep r (now (session .exit)) (now (stored .exit)) (now (flags .exit)) (now («log_sizes» .exit)) (now («log_vars» .exit)) (now («log_values» .exit)) ≡ keptOut (kept (recordIn (now (session .entry))) (logIn (now («log_sizes» .entry)) (now («log_vars» .entry)) (now («log_values» .entry))) (toModel n m e (now (kinds .entry)) (now (makes .entry)) (now (params .entry)) (now (firsts .entry)) (now (counts .entry)) (now (vars .entry)) (now (coefs .entry)) (now (lows .entry)) (now (highs .entry)) (now (numbers .entry)) (now (order .entry)) (now (stored .entry)) (now («reader_starts» .entry)) (now («reader_places» .entry))) (toKeep pairs (now («move_vars» .entry)) (now («move_values» .entry)) (now (flags .entry)))) ⌝ }
+    ensures { λ r. ⌜ leftByKeep r (now (session .exit)) (now (stored .exit)) (now (flags .exit)) (now («log_sizes» .exit)) (now («log_vars» .exit)) (now («log_values» .exit)) (now (reasons .exit)) ≡ keptOut (keepReasoned (recordIn (now (session .entry))) (logIn (now («log_sizes» .entry)) (now («log_vars» .entry)) (now («log_values» .entry))) (toModel n m e (now (kinds .entry)) (now (makes .entry)) (now (params .entry)) (now (firsts .entry)) (now (counts .entry)) (now (vars .entry)) (now (coefs .entry)) (now (lows .entry)) (now (highs .entry)) (now (numbers .entry)) (now (order .entry)) (now (stored .entry)) (now («reader_starts» .entry)) (now («reader_places» .entry))) (now (reasons .entry)) (toKeep pairs (now («move_vars» .entry)) (now («move_values» .entry)) (now (flags .entry)))) ⌝ }
 {
     let answer = engine::keep(
         session,
@@ -59,6 +60,7 @@ pub extern "C" fn lukhandro_keep(
         stored,
         reader_starts,
         reader_places,
+        reasons,
         pairs,
         move_vars,
         move_values,

@@ -1,15 +1,15 @@
 // Taking back across the C boundary.
 ghost use mathlib.Core.Path.{_≡_};
 ghost use Rattle.paper.specs.Log.{logIn};
-ghost use Rattle.paper.specs.Calls.{takeBack};
 ghost use Rattle.fits.specs.Lent.{toModel};
 ghost use Rattle.cores.specs.Left.{recordIn};
+ghost use Rattle.paper.specs.Reasoned.{takeReasoned};
 ghost use Rattle.capi.specs.Outcomes.{leftByKeep, keptOut};
 use crate::Outcome;
 use crate::answers::in_numbers;
 use cores::Session;
 
-// `engine::take_back` for C.
+// `engine::take_back` for C. The reason of every variable evaluated is given.
 #[no_mangle]
 pub extern "C" fn lukhandro_take_back(
     session: &mut Session,
@@ -30,12 +30,13 @@ pub extern "C" fn lukhandro_take_back(
     stored: &mut [i32],
     reader_starts: &[u16],
     reader_places: &[u16],
+    reasons: &mut [u8],
     flags: &mut [u8],
     log_sizes: &mut [u16],
     log_vars: &[u16],
     log_values: &[i32],
 ) -> Outcome
-    ensures { λ r. ⌜ leftByKeep r (now (session .exit)) (now (stored .exit)) (now (flags .exit)) (now («log_sizes» .exit)) (now («log_vars» .entry)) (now («log_values» .entry)) ≡ keptOut (takeBack (recordIn (now (session .entry))) (logIn (now («log_sizes» .entry)) (now («log_vars» .entry)) (now («log_values» .entry))) (toModel n m e (now (kinds .entry)) (now (makes .entry)) (now (params .entry)) (now (firsts .entry)) (now (counts .entry)) (now (vars .entry)) (now (coefs .entry)) (now (lows .entry)) (now (highs .entry)) (now (numbers .entry)) (now (order .entry)) (now (stored .entry)) (now («reader_starts» .entry)) (now («reader_places» .entry))) (now (flags .entry))) ⌝ }
+    ensures { λ r. ⌜ leftByKeep r (now (session .exit)) (now (stored .exit)) (now (flags .exit)) (now («log_sizes» .exit)) (now («log_vars» .entry)) (now («log_values» .entry)) (now (reasons .exit)) ≡ keptOut (takeReasoned (recordIn (now (session .entry))) (logIn (now («log_sizes» .entry)) (now («log_vars» .entry)) (now («log_values» .entry))) (toModel n m e (now (kinds .entry)) (now (makes .entry)) (now (params .entry)) (now (firsts .entry)) (now (counts .entry)) (now (vars .entry)) (now (coefs .entry)) (now (lows .entry)) (now (highs .entry)) (now (numbers .entry)) (now (order .entry)) (now (stored .entry)) (now («reader_starts» .entry)) (now («reader_places» .entry))) (now (reasons .entry)) (now (flags .entry))) ⌝ }
 {
     let answer = engine::take_back(
         session,
@@ -56,6 +57,7 @@ pub extern "C" fn lukhandro_take_back(
         stored,
         reader_starts,
         reader_places,
+        reasons,
         flags,
         log_sizes,
         log_vars,

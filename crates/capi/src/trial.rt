@@ -1,14 +1,14 @@
 // Trial across the C boundary.
 ghost use mathlib.Core.Path.{_≡_};
-ghost use Rattle.paper.specs.Calls.{trial as tried};
 ghost use Rattle.fits.specs.Lent.{toModel, toTry};
 ghost use Rattle.cores.specs.Left.{recordIn};
+ghost use Rattle.paper.specs.Reasoned.{trialReasoned};
 ghost use Rattle.capi.specs.Outcomes.{leftByTrial, triedOut};
 use crate::Outcome;
 use crate::answers::in_numbers;
 use cores::Session;
 
-// `engine::trial` for C.
+// `engine::trial` for C. The reason of every variable asked is given.
 #[no_mangle]
 pub extern "C" fn lukhandro_trial(
     session: &mut Session,
@@ -29,6 +29,7 @@ pub extern "C" fn lukhandro_trial(
     stored: &[i32],
     reader_starts: &[u16],
     reader_places: &[u16],
+    reasons: &[u8],
     pairs: usize,
     move_vars: &[u16],
     move_values: &[i32],
@@ -38,8 +39,9 @@ pub extern "C" fn lukhandro_trial(
     results: &mut [i32],
     trial: &mut [i32],
     flags: &mut [u8],
+    why: &mut [u8],
 ) -> Outcome
-    ensures { λ r. ⌜ leftByTrial r (now (session .exit)) (now (results .exit)) (now (trial .exit)) (now (flags .exit)) ≡ triedOut (tried (recordIn (now (session .entry))) (toModel n m e (now (kinds .entry)) (now (makes .entry)) (now (params .entry)) (now (firsts .entry)) (now (counts .entry)) (now (vars .entry)) (now (coefs .entry)) (now (lows .entry)) (now (highs .entry)) (now (numbers .entry)) (now (order .entry)) (now (stored .entry)) (now («reader_starts» .entry)) (now («reader_places» .entry))) (toTry pairs (now («move_vars» .entry)) (now («move_values» .entry)) asked (now («asked_vars» .entry)) route (now (results .entry)) (now (trial .entry)) (now (flags .entry)))) ⌝ }
+    ensures { λ r. ⌜ leftByTrial r (now (session .exit)) (now (results .exit)) (now (trial .exit)) (now (flags .exit)) (now (why .exit)) ≡ triedOut (trialReasoned (recordIn (now (session .entry))) (toModel n m e (now (kinds .entry)) (now (makes .entry)) (now (params .entry)) (now (firsts .entry)) (now (counts .entry)) (now (vars .entry)) (now (coefs .entry)) (now (lows .entry)) (now (highs .entry)) (now (numbers .entry)) (now (order .entry)) (now (stored .entry)) (now («reader_starts» .entry)) (now («reader_places» .entry))) (now (reasons .entry)) (toTry pairs (now («move_vars» .entry)) (now («move_values» .entry)) asked (now («asked_vars» .entry)) route (now (results .entry)) (now (trial .entry)) (now (flags .entry))) (now (why .entry))) ⌝ }
 {
     let answer = engine::trial(
         session,
@@ -60,6 +62,7 @@ pub extern "C" fn lukhandro_trial(
         stored,
         reader_starts,
         reader_places,
+        reasons,
         pairs,
         move_vars,
         move_values,
@@ -69,6 +72,7 @@ pub extern "C" fn lukhandro_trial(
         results,
         trial,
         flags,
+        why,
     );
     in_numbers(answer)
 }

@@ -6,3 +6,4 @@ pub mod Three
 pub mod Logs
 pub mod Planners
 pub mod NotAllowed
+pub mod Reasons

@@ -4,3 +4,4 @@ pub mod Versions
 pub mod Runs
 pub mod Planners
 pub mod Demands
+pub mod Reasons

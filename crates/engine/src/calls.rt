@@ -1,18 +1,18 @@
-// The calls over a lent session record.
+// The calls with reasons, over a lent session record.
 ghost use mathlib.Core.Path.{_≡_};
 ghost use Rattle.paper.specs.Log.{logIn};
-ghost use Rattle.paper.specs.Calls.{build as built, trial as tried, keep as kept, takeBack};
 ghost use Rattle.fits.specs.Lent.{toBuild, toModel, toTry, toKeep};
 ghost use Rattle.cores.specs.Left.{recordIn, leftByBuild, leftByTrial, leftByKeep};
+ghost use Rattle.paper.specs.Reasoned.{withReasons, buildReasoned, trialReasoned, keepReasoned, takeReasoned};
 use crate::counters::set_counts;
 use cores::Session;
-use cores::build_core;
-use cores::keep_core;
-use cores::take_back_core;
-use cores::trial_core;
+use reasoned::build_reasoned;
+use reasoned::keep_reasoned;
+use reasoned::take_back_reasoned;
+use reasoned::trial_reasoned;
 use tables::Answer;
 
-// Build: numbers, order, values and index of readers of a model whose tables and start values are lent.
+// Build: numbers, order, values and index of readers of a model whose tables and start values are lent. The reason of every variable is given.
 pub fn build(
     session: &mut Session,
     n: usize,
@@ -33,11 +33,12 @@ pub fn build(
     stored: &mut [i32],
     reader_starts: &mut [u16],
     reader_places: &mut [u16],
+    reasons: &mut [u8],
     log_sizes: &mut [u16],
 ) -> Answer
-    ensures { λ r. ⌜ leftByBuild (record { answer = r; session = now (session .exit) }) (now (numbers .exit)) (now (order .exit)) (now (stored .exit)) (now («reader_starts» .exit)) (now («reader_places» .exit)) (now («log_sizes» .exit)) ≡ built (toBuild (recordIn (now (session .entry))) n m e (now (kinds .entry)) (now (makes .entry)) (now (params .entry)) (now (firsts .entry)) (now (counts .entry)) (now (vars .entry)) (now (coefs .entry)) (now (lows .entry)) (now (highs .entry)) (now (starts .entry)) (now (numbers .entry)) (now (order .entry)) (now (stored .entry)) (now («reader_starts» .entry)) (now («reader_places» .entry)) (now («log_sizes» .entry))) ⌝ }
+    ensures { λ r. ⌜ withReasons (leftByBuild (record { answer = r; session = now (session .exit) }) (now (numbers .exit)) (now (order .exit)) (now (stored .exit)) (now («reader_starts» .exit)) (now («reader_places» .exit)) (now («log_sizes» .exit))) (now (reasons .exit)) ≡ buildReasoned (toBuild (recordIn (now (session .entry))) n m e (now (kinds .entry)) (now (makes .entry)) (now (params .entry)) (now (firsts .entry)) (now (counts .entry)) (now (vars .entry)) (now (coefs .entry)) (now (lows .entry)) (now (highs .entry)) (now (starts .entry)) (now (numbers .entry)) (now (order .entry)) (now (stored .entry)) (now («reader_starts» .entry)) (now («reader_places» .entry)) (now («log_sizes» .entry))) (now (reasons .entry)) ⌝ }
 {
-    let done = build_core(
+    let done = build_reasoned(
         *session,
         n,
         m,
@@ -57,6 +58,7 @@ pub fn build(
         stored,
         reader_starts,
         reader_places,
+        reasons,
         log_sizes,
     );
     set_counts(
@@ -68,7 +70,7 @@ pub fn build(
     done.answer
 }
 
-// Trial: the asked values that a move would give, by one of three routes; the stored values stay.
+// Trial: the asked values that a move would give, by one of three routes; the stored values stay. The reason of every variable asked is given.
 pub fn trial(
     session: &mut Session,
     n: usize,
@@ -88,6 +90,7 @@ pub fn trial(
     stored: &[i32],
     reader_starts: &[u16],
     reader_places: &[u16],
+    reasons: &[u8],
     pairs: usize,
     move_vars: &[u16],
     move_values: &[i32],
@@ -97,10 +100,11 @@ pub fn trial(
     results: &mut [i32],
     trial: &mut [i32],
     flags: &mut [u8],
+    why: &mut [u8],
 ) -> Answer
-    ensures { λ r. ⌜ leftByTrial (record { answer = r; session = now (session .exit) }) (now (results .exit)) (now (trial .exit)) (now (flags .exit)) ≡ tried (recordIn (now (session .entry))) (toModel n m e (now (kinds .entry)) (now (makes .entry)) (now (params .entry)) (now (firsts .entry)) (now (counts .entry)) (now (vars .entry)) (now (coefs .entry)) (now (lows .entry)) (now (highs .entry)) (now (numbers .entry)) (now (order .entry)) (now (stored .entry)) (now («reader_starts» .entry)) (now («reader_places» .entry))) (toTry pairs (now («move_vars» .entry)) (now («move_values» .entry)) asked (now («asked_vars» .entry)) route (now (results .entry)) (now (trial .entry)) (now (flags .entry))) ⌝ }
+    ensures { λ r. ⌜ withReasons (leftByTrial (record { answer = r; session = now (session .exit) }) (now (results .exit)) (now (trial .exit)) (now (flags .exit))) (now (why .exit)) ≡ trialReasoned (recordIn (now (session .entry))) (toModel n m e (now (kinds .entry)) (now (makes .entry)) (now (params .entry)) (now (firsts .entry)) (now (counts .entry)) (now (vars .entry)) (now (coefs .entry)) (now (lows .entry)) (now (highs .entry)) (now (numbers .entry)) (now (order .entry)) (now (stored .entry)) (now («reader_starts» .entry)) (now («reader_places» .entry))) (now (reasons .entry)) (toTry pairs (now («move_vars» .entry)) (now («move_values» .entry)) asked (now («asked_vars» .entry)) route (now (results .entry)) (now (trial .entry)) (now (flags .entry))) (now (why .entry)) ⌝ }
 {
-    let done = trial_core(
+    let done = trial_reasoned(
         *session,
         n,
         m,
@@ -119,6 +123,7 @@ pub fn trial(
         stored,
         reader_starts,
         reader_places,
+        reasons,
         pairs,
         move_vars,
         move_values,
@@ -128,6 +133,7 @@ pub fn trial(
         results,
         trial,
         flags,
+        why,
     );
     set_counts(
         session,
@@ -138,7 +144,7 @@ pub fn trial(
     done.answer
 }
 
-// Keep: the stored values become those that a move gives.
+// Keep: the stored values become those that a move gives. The reason of every variable evaluated is given.
 pub fn keep(
     session: &mut Session,
     n: usize,
@@ -158,6 +164,7 @@ pub fn keep(
     stored: &mut [i32],
     reader_starts: &[u16],
     reader_places: &[u16],
+    reasons: &mut [u8],
     pairs: usize,
     move_vars: &[u16],
     move_values: &[i32],
@@ -166,9 +173,9 @@ pub fn keep(
     log_vars: &mut [u16],
     log_values: &mut [i32],
 ) -> Answer
-    ensures { λ r. ⌜ leftByKeep (record { answer = r; session = now (session .exit) }) (now (stored .exit)) (now (flags .exit)) (now («log_sizes» .exit)) (now («log_vars» .exit)) (now («log_values» .exit)) ≡ kept (recordIn (now (session .entry))) (logIn (now («log_sizes» .entry)) (now («log_vars» .entry)) (now («log_values» .entry))) (toModel n m e (now (kinds .entry)) (now (makes .entry)) (now (params .entry)) (now (firsts .entry)) (now (counts .entry)) (now (vars .entry)) (now (coefs .entry)) (now (lows .entry)) (now (highs .entry)) (now (numbers .entry)) (now (order .entry)) (now (stored .entry)) (now («reader_starts» .entry)) (now («reader_places» .entry))) (toKeep pairs (now («move_vars» .entry)) (now («move_values» .entry)) (now (flags .entry))) ⌝ }
+    ensures { λ r. ⌜ withReasons (leftByKeep (record { answer = r; session = now (session .exit) }) (now (stored .exit)) (now (flags .exit)) (now («log_sizes» .exit)) (now («log_vars» .exit)) (now («log_values» .exit))) (now (reasons .exit)) ≡ keepReasoned (recordIn (now (session .entry))) (logIn (now («log_sizes» .entry)) (now («log_vars» .entry)) (now («log_values» .entry))) (toModel n m e (now (kinds .entry)) (now (makes .entry)) (now (params .entry)) (now (firsts .entry)) (now (counts .entry)) (now (vars .entry)) (now (coefs .entry)) (now (lows .entry)) (now (highs .entry)) (now (numbers .entry)) (now (order .entry)) (now (stored .entry)) (now («reader_starts» .entry)) (now («reader_places» .entry))) (now (reasons .entry)) (toKeep pairs (now («move_vars» .entry)) (now («move_values» .entry)) (now (flags .entry))) ⌝ }
 {
-    let done = keep_core(
+    let done = keep_reasoned(
         *session,
         n,
         m,
@@ -187,6 +194,7 @@ pub fn keep(
         stored,
         reader_starts,
         reader_places,
+        reasons,
         pairs,
         move_vars,
         move_values,
@@ -204,7 +212,7 @@ pub fn keep(
     done.answer
 }
 
-// Taking back: the stored values become those before the latest kept move.
+// Taking back: the stored values become those before the latest kept move. The reason of every variable evaluated is given.
 pub fn take_back(
     session: &mut Session,
     n: usize,
@@ -224,14 +232,15 @@ pub fn take_back(
     stored: &mut [i32],
     reader_starts: &[u16],
     reader_places: &[u16],
+    reasons: &mut [u8],
     flags: &mut [u8],
     log_sizes: &mut [u16],
     log_vars: &[u16],
     log_values: &[i32],
 ) -> Answer
-    ensures { λ r. ⌜ leftByKeep (record { answer = r; session = now (session .exit) }) (now (stored .exit)) (now (flags .exit)) (now («log_sizes» .exit)) (now («log_vars» .entry)) (now («log_values» .entry)) ≡ takeBack (recordIn (now (session .entry))) (logIn (now («log_sizes» .entry)) (now («log_vars» .entry)) (now («log_values» .entry))) (toModel n m e (now (kinds .entry)) (now (makes .entry)) (now (params .entry)) (now (firsts .entry)) (now (counts .entry)) (now (vars .entry)) (now (coefs .entry)) (now (lows .entry)) (now (highs .entry)) (now (numbers .entry)) (now (order .entry)) (now (stored .entry)) (now («reader_starts» .entry)) (now («reader_places» .entry))) (now (flags .entry)) ⌝ }
+    ensures { λ r. ⌜ withReasons (leftByKeep (record { answer = r; session = now (session .exit) }) (now (stored .exit)) (now (flags .exit)) (now («log_sizes» .exit)) (now («log_vars» .entry)) (now («log_values» .entry))) (now (reasons .exit)) ≡ takeReasoned (recordIn (now (session .entry))) (logIn (now («log_sizes» .entry)) (now («log_vars» .entry)) (now («log_values» .entry))) (toModel n m e (now (kinds .entry)) (now (makes .entry)) (now (params .entry)) (now (firsts .entry)) (now (counts .entry)) (now (vars .entry)) (now (coefs .entry)) (now (lows .entry)) (now (highs .entry)) (now (numbers .entry)) (now (order .entry)) (now (stored .entry)) (now («reader_starts» .entry)) (now («reader_places» .entry))) (now (reasons .entry)) (now (flags .entry)) ⌝ }
 {
-    let done = take_back_core(
+    let done = take_back_reasoned(
         *session,
         n,
         m,
@@ -250,6 +259,7 @@ pub fn take_back(
         stored,
         reader_starts,
         reader_places,
+        reasons,
         flags,
         log_sizes,
         log_vars,

@@ -1,16 +1,22 @@
-// The golden runs: what `values` prints for each file that the arguments name, under the file's name.
+// The golden runs: what `values` prints for each file that the arguments name, and then what `reasons` does, under the file's name.
 use libc::STDOUT_FILENO;
 
-// Prints what `values` prints for the file behind a descriptor.
-fn show(fd: i32) {
-    let mut file = [0u8; 65537];
-    let got = io::read_full(fd, &mut file);
+// Prints the text for a file, with reasons or without.
+fn show_text(reasons: bool, file: &[u8]) {
     let mut out = [0u8; 98304];
-    let k = report::show(&file[..got], &mut out);
+    let k = report::show(reasons, file, &mut out);
     io::write_all(STDOUT_FILENO, &out[..k]);
 }
 
-// Prints a file's name, and what `values` prints for it.
+// Prints both texts for the file behind a descriptor.
+fn show(fd: i32) {
+    let mut file = [0u8; 65537];
+    let got = io::read_full(fd, &mut file);
+    show_text(false, &file[..got]);
+    show_text(true, &file[..got]);
+}
+
+// Prints a file's name, and both texts for it.
 fn show_named(name: &[u8]) {
     io::write_all(STDOUT_FILENO, b"# ");
     io::write_all(STDOUT_FILENO, name);

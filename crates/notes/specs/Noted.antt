@@ -1,6 +1,6 @@
 -- The reasons of the variables that a call has evaluated. Assumes nothing.
 use Prim.Native.Nat.{ℕ, zero, suc, _+_, _≤_, _<_}
-use mathlib.Core.Bool.{true, cond}
+use mathlib.Core.Bool.{Bool, true, cond, not, _&&_, _||_}
 use mathlib.Core.List.{List, map}
 use mathlib.Core.Path.{_≡_}
 use lib.Dec.{eqb, ltb}
@@ -27,6 +27,17 @@ current t flags f stored v = cond (eqb (nat flags v) 1) (shown t f v) (stored v)
 -- as it is stored: 0 for a search variable
 abbrev pub noted : Tables → List ℕ → Values → (ℕ → ℕ) → ℕ → ℕ
 noted t flags f stored v = cond (isMade t v) (current t flags f stored v) 0
+
+-- a variable whose flag is 1 is not blank; its reason then, and the stored one of any other
+abbrev pub notBlank : List ℕ → List ℤ → ℕ → Bool
+notBlank flags values v = not (eqb (nat flags v) 1 && eqZ (getD values v (pos 0)) blank)
+
+abbrev pub plainNow : List ℕ → (ℕ → ℕ) → ℕ → ℕ
+plainNow flags stored v = cond (eqb (nat flags v) 1) 0 (stored v)
+
+-- as it is stored then: 0 where there is no maker too
+abbrev pub plainNoted : List ℕ → List ℕ → (ℕ → ℕ) → ℕ → ℕ
+plainNoted by flags stored v = cond (eqb (nat by v) 0 || eqb (nat flags v) 1) 0 (stored v)
 
 -- ── over the rows that are read ──
 -- row r stands in its tables, has as many inputs as its kind takes, and these have values

@@ -1,5 +1,6 @@
 // What the calls store and return of reasons, over the lent tables: of each variable that a call has evaluated, and of each that a trial asks.
 mod by;
+mod plain;
 
 ghost use Prim.Native.Nat.{_≤_};
 ghost use mathlib.Core.Bool.{true};
@@ -13,9 +14,13 @@ ghost use Rattle.steps.specs.Changes.{valuesOf};
 ghost use Rattle.notes.specs.Noted.{shown, current, noted};
 use crate::by::ask_by;
 use crate::by::note_by;
+use crate::plain::ask_plain;
+use crate::plain::none_blank;
+use crate::plain::note_plain;
+use blanks::blanks_among;
 use tables::makers;
 
-// Stores the reason of every variable whose flag is 1 over the values, and 0 at search variables; every other keeps its reason.
+// Stores the reason of every variable whose flag is 1 over the values, and 0 at search variables; every other keeps its reason. Rows are looked at only where a value is blank.
 pub fn note_reasons(
     n: usize,
     m: usize,
@@ -37,6 +42,10 @@ pub fn note_reasons(
 {
     let mut by = [0u16; 4096];
     makers(n, m, makes, &mut by);
+    if blanks_among(n, values) == 0 {
+        note_plain(n, &by, flags, reasons);
+        return;
+    }
     note_by(n, &by, kinds, firsts, counts, vars, values, flags, reasons);
 }
 
@@ -77,7 +86,7 @@ pub fn first_reasons(
     );
 }
 
-// Copies out the reason of every asked variable, in asking order: over the values if its flag is 1, else the stored one.
+// Copies out the reason of every asked variable, in asking order: over the values if its flag is 1, else the stored one. Rows are looked at only where one came out blank.
 pub fn asked_reasons(
     n: usize,
     m: usize,
@@ -100,6 +109,10 @@ pub fn asked_reasons(
     requires known { ⌜ all (λ v. ltb v n) (now asked) ≡ true ⌝ }
     ensures { λ _. ⌜ now (results .exit) ≡ over (length (now (asked .entry))) (λ i. current (lent n m e (now (kinds .entry)) (now (makes .entry)) (now (params .entry)) (now (firsts .entry)) (now (counts .entry)) (now (vars .entry)) (now (coefs .entry))) (now (flags .entry)) (valuesOf (now (values .entry))) (nat (now (stored .entry))) (nat (now (asked .entry)) i)) (now (results .entry)) ⌝ }
 {
+    if none_blank(n, values, flags, asked) {
+        ask_plain(n, flags, stored, asked, results);
+        return;
+    }
     let mut by = [0u16; 4096];
     makers(n, m, makes, &mut by);
     ask_by(

@@ -20,10 +20,12 @@ pub mod Routes
 pub mod Needed
 pub mod Known
 pub mod Outcomes
+pub mod Reasoned
 pub mod Build
 pub mod Moves
 pub mod Log
 pub mod Session
+pub mod ReasonRuns
 pub mod Windows
 pub mod Extreme
 pub mod Formulas

@@ -32,12 +32,12 @@ use Rattle.paper.proofs.Outcomes.{build-judged, trial-judged, keep-judg
 use Rattle.paper.proofs.Log.{Undoes, undoes-low, undoes-latest, good-log, dropped-logged, dropped-good, dropped-undoes, noted-logged, noted-good, noted-undoes}
 
 -- what a call leaves as it was lent leaves the session's own as it was
-own-left : {A : Type 0} (r : Lent A) (left mine : A) → left ≡ lentOf r mine → ownAfter r left mine ≡ mine
+pub own-left : {A : Type 0} (r : Lent A) (left mine : A) → left ≡ lentOf r mine → ownAfter r left mine ≡ mine
 own-left own left mine e = e
 own-left (another other) left mine e = refl
 
 -- so a refused keep or taking back, whatever it was lent, leaves the state
-passed-as-was : (now : State) (l : Lends) (g : Lent Log) (flags : List ℕ) (answer : Answer) (left : KeepLeft)
+pub passed-as-was : (now : State) (l : Lends) (g : Lent Log) (flags : List ℕ) (answer : Answer) (left : KeepLeft)
     → left ≡ keepAsWas (now .session) (lentOf g (now .log)) (modelOf now l) flags answer → passedOn now l g left ≡ now
 passed-as-was now l g flags answer left e = λ i. record {
   session = e i .session;
@@ -46,7 +46,7 @@ passed-as-was now l g flags answer left e = λ i. record {
 }
 
 -- and a call that is not accepted leaves the history
-refused-stays : {A : Type 0} (v : Verdict) (other moves : A) → (v ≡ accepted → ⊥) → leaves v other moves ≡ moves
+pub refused-stays : {A : Type 0} (v : Verdict) (other moves : A) → (v ≡ accepted → ⊥) → leaves v other moves ≡ moves
 refused-stays accepted other moves wrong = absurd (wrong refl)
 refused-stays (refused number place) other moves wrong = refl
 
@@ -61,7 +61,7 @@ module _ (b : BuildLent) (ok : numberOf (build b .answer) ≡ 0) where
   abbrev N : Net
   N = net (b .tables)
 
-  known : BuildKnown b
+  pub known : BuildKnown b
   known = build-known b (build-judged b .good ok)
 
   -- ── a row of stored values that are fresh ──
@@ -268,10 +268,10 @@ module _ (b : BuildLent) (ok : numberOf (build b .answer) ≡ 0) where
       holds : Holds (after b room cs .stored) (applied (startValues b) (history b room cs))
       holds = stands cs p .holds
 
-      old-is : valuesIn t (after b room cs .stored) ≡ old b room cs
+      pub old-is : valuesIn t (after b room cs .stored) ≡ old b room cs
       old-is = values-in (after b room cs .stored) (applied (startValues b) (history b room cs)) holds
 
-      new-is : (r : Route) (mv : List (ℕ × ℤ)) (asked : List ℕ) → newValues t (valuesIn t (after b room cs .stored)) r mv asked ≡ fresh b room (mv ∷ history b room cs)
+      pub new-is : (r : Route) (mv : List (ℕ × ℤ)) (asked : List ℕ) → newValues t (valuesIn t (after b room cs .stored)) r mv asked ≡ fresh b room (mv ∷ history b room cs)
       new-is r mv asked = new-fresh (after b room cs .stored) (applied (startValues b) (history b room cs)) holds r mv
 
       set-is : (r : Route) (mv : List (ℕ × ℤ)) (asked : List ℕ)
@@ -289,6 +289,12 @@ module _ (b : BuildLent) (ok : numberOf (build b .answer) ≡ 0) where
             set-size = is;
             ones = is ∙ sym (ap (λ l. tally (eqb 1) (take (t .n) l)) are ∙ ap (tally (eqb 1)) (over-front (λ v. cond (set v) 1 0) (t .n) before) ∙ ones-below set (t .n));
           }
+
+      -- what the latest move undoes
+      pub undone-is : (flags : List ℕ) → takeVerdict (after b room cs .session) (after b room cs .log) (mine (after b room cs)) flags ≡ accepted
+          → fresh b room (movePairs (latest (after b room cs .log) flags .move) ∷ history b room cs) ≡ fresh b room (rest (history b room cs))
+      undone-is flags e = ap (λ s. afresh N s (t .n))
+          (undoes-latest (startValues b) (back (now .log)) (logged (now .log)) (history b room cs) (take-known (now .session) (now .log) (mine now) flags e .some) (stands cs p .undoes) .0)
 
       pub trial-right : (c : Tried) → numberOf (tried b room cs (ownModel b room) c .answer) ≡ 0 → TrialRight b room cs (ownModel b room) c
       trial-right c h = record {

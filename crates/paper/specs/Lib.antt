@@ -6,7 +6,9 @@ pub mod Reason
 pub mod Checks
 pub mod Log
 pub mod Calls
+pub mod Reasoned
 pub mod File
 pub mod Moves
 pub mod Demands
+pub mod ReasonRuns
 pub mod Runs

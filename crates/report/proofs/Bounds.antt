@@ -1,5 +1,5 @@
--- Every text fits in 98,304 bytes: a list has at most 4,096 lines, a topological number is at most n, and a value is a number of the range or
--- blank. Assumes nothing.
+-- Every text fits in 98,304 bytes: a list has at most 4,096 lines, a topological number is at most n, a value is a number of the range or
+-- blank, and a reason is at most 5. Assumes nothing.
 use Prim.Native.Nat.{ℕ, zero, suc, _-_, _≤_, _<_}
 use native.Mathlib.Omega.{arith}
 use mathlib.Core.Bool.{Bool, true, false, cond, _||_}
@@ -18,18 +18,21 @@ use Rattle.paper.specs.Lists.{all}
 use Rattle.paper.specs.Formula.{blank}
 use Rattle.paper.specs.Net.{Values, runs, number, afresh}
 use Rattle.paper.specs.Tables.{Tables, net, isMade, inputsOf, rowOf, formOf, valuesIn}
-use Rattle.paper.specs.Checks.{Verdict, accepted, refused, leaves, Sound}
-use Rattle.paper.specs.Calls.{BuildLent, BuildLeft, buildVerdict, buildLeaves, build, startValues}
+use Rattle.paper.specs.Checks.{Verdict, accepted, refused, require, leaves, Sound}
+use Rattle.paper.specs.Reason.{reasonOf}
+use Rattle.paper.specs.Calls.{BuildLent, BuildLeft, buildVerdict, buildLeaves, startValues}
+use Rattle.paper.specs.Reasoned.{Reasoned, withReasons, reasonsFit, builtReasons, buildReasoned}
 use Rattle.paper.specs.File.{version1, Contents, plain, countedAs, column, nIn, mIn, eIn, startsIn, laidAs, readVerdictAs, read}
 use Rattle.paper.proofs.Buffers.{over-at}
 use Rattle.paper.proofs.Accept.{sound-row, made-row}
 use Rattle.paper.proofs.Sizes.{sized-facts}
 use Rattle.paper.proofs.Numbers.{number-le}
 use Rattle.paper.proofs.Known.{BuildKnown, build-known}
-use Rattle.paper.proofs.Outcomes.{build-judged}
+use Rattle.paper.proofs.Verdicts.{require-rest}
+use Rattle.paper.proofs.Reason.{at-most-5}
 use Rattle.paper.proofs.Ranges.{good, formula-good}
 use Rattle.text.specs.Lines.{refusal}
-use Rattle.text.proofs.Lengths.{list-length, refusal-length}
+use Rattle.text.proofs.Lengths.{lines-length, refusal-length}
 use Rattle.report.specs.Printed.{said, fresh, ofTables, ofRead, empty, printed}
 
 -- ── values ──
@@ -82,31 +85,42 @@ values-good t starts h v = go (ltb v (t .n)) refl
     go true e = let l = ltb-true v (t .n) e in ap good (getD-take (t .n) starts v (pos 0) l) ∙ h v l
     go false e = let l = ltb-false v (t .n) e in ap good (List·getD-eq-default (take (t .n) starts) (pos 0) {n = v} (simp length-take (omega arith)))
 
--- ── the text of what build leaves ──
-module _ (b : BuildLent) (from : (v : ℕ) → v < b .tables .n → good (getD (b .starts) v (pos 0)) ≡ true) where
-  abbrev text : BuildLeft → List ℕ
-  text left = said (left .answer) (b .tables .n) (left .numbers) (left .stored)
+-- ── reasons ──
+reason-low : (t : Tables) (v : ℕ) (f : Values) → reasonOf t v f ≤ 5
+reason-low t v f = go (isMade t v) _ (at-most-5 _ _ _ (map f (inputsOf t v)))
+  where
+    go : (b : Bool) (r : ℕ) → r ≤ 5 → cond b r 0 ≤ 5
+    go true r h = h
+    go false r h = omega arith
 
-  listed : BuildKnown b → length (text (buildLeaves b accepted)) ≤ 90112
+-- ── the text of what build leaves ──
+module _ (reasons : Bool) (b : BuildLent) (row : List ℕ) (from : (v : ℕ) → v < b .tables .n → good (getD (b .starts) v (pos 0)) ≡ true) where
+  abbrev text : Reasoned BuildLeft → List ℕ
+  text x = let left = x .left in said reasons (left .answer) (b .tables .n) (left .numbers) (left .stored) (x .reasons)
+
+  listed : BuildKnown b → length (text (withReasons (buildLeaves b accepted) (builtReasons b row))) ≤ 90112
   listed k =
       let t = b .tables in
       let numbers = number (net t) (t .n) in
       let values = afresh (net t) (startValues b) (t .n) in
+      let whys : ℕ → ℕ = λ v. reasonOf t v values in
       let most = sized-facts t (k .sound .sized) .n-most in
-      list-length (t .n) _ _ most
+      lines-length reasons (t .n) _ _ _ most
       (λ v l. let e = over-at numbers (t .n) (b .numbers) v 0 l in let h = number-le (net t) (t .n) v in omega arith)
       (λ v l. rw (over-at values (t .n) (b .stored) v (pos 0) l) (good-near (values v) (afresh-good t (k .sound) (startValues b) (values-good t (b .starts) from) (t .n) v)))
+      (λ v l. let e = over-at whys (t .n) row v 0 l in let h = reason-low t v values in omega arith)
 
-  built-length : length (text (build b)) ≤ 90112
-  built-length = go (buildVerdict b) refl
+  built-length : length (text (buildReasoned b row)) ≤ 90112
+  unfolding buildReasoned
+  built-length = go (require 1 0 (reasonsFit (b .tables) row) (buildVerdict b)) refl
     where
-      go : (u : Verdict) → buildVerdict b ≡ u → length (text (build b)) ≤ 90112
-      go accepted e = rw (build-judged b .is accepted e) (listed (build-known b e))
-      go (refused number place) e = rw (build-judged b .is (refused number place) e) (let h = refusal-length number place in omega arith)
+      go : (u : Verdict) → require 1 0 (reasonsFit (b .tables) row) (buildVerdict b) ≡ u → length (text (withReasons (buildLeaves b u) (leaves u (builtReasons b row) row))) ≤ 90112
+      go accepted e = listed (build-known b (require-rest 1 0 (reasonsFit (b .tables) row) _ e))
+      go (refused number place) e = let h = refusal-length number place in omega arith
 
 -- ── the text of a file ──
-module _ (file : List ℕ) (t₀ : Tables) (starts₀ : List ℤ) where
-  read-length : length (ofRead (read file t₀ starts₀)) ≤ 90112
+module _ (reasons : Bool) (file : List ℕ) (t₀ : Tables) (starts₀ : List ℤ) where
+  read-length : length (ofRead reasons (read file t₀ starts₀)) ≤ 90112
   unfolding ofTables
   read-length = go (readVerdictAs version1 file (plain t₀ starts₀))
     where
@@ -119,15 +133,15 @@ module _ (file : List ℕ) (t₀ : Tables) (starts₀ : List ℤ) where
       after : Verdict → Contents
       after u = leaves u (laidAs file (nIn file) (mIn file) (eIn file) version1 (plain t₀ starts₀)) (countedAs 0 0 0 (plain t₀ starts₀))
 
-      go : (u : Verdict) → length (ofRead (u, (after u .tables, after u .starts))) ≤ 90112
-      go accepted = built-length (fresh _ _) from
+      go : (u : Verdict) → length (ofRead reasons (u, (after u .tables, after u .starts))) ≤ 90112
+      go accepted = built-length reasons (fresh _ _) _ from
       go (refused number place) = let h = refusal-length number place in omega arith
 
-pub printed-length : (file : List ℕ) → length (printed file) ≤ 98304
+pub printed-length : (reasons : Bool) (file : List ℕ) → length (printed reasons file) ≤ 98304
 unfolding printed
-printed-length file = go (ltb 65536 (length file)) (read-length file empty (replicate 4096 (pos 0)))
+printed-length reasons file = go (ltb 65536 (length file)) (read-length reasons file empty (replicate 4096 (pos 0)))
   where
-    go : (b : Bool) → length (ofRead (read file empty (replicate 4096 (pos 0)))) ≤ 90112
-        → length (cond b (refusal 1 0) (ofRead (read file empty (replicate 4096 (pos 0))))) ≤ 98304
+    go : (b : Bool) → length (ofRead reasons (read file empty (replicate 4096 (pos 0)))) ≤ 90112
+        → length (cond b (refusal 1 0) (ofRead reasons (read file empty (replicate 4096 (pos 0))))) ≤ 98304
     go true h = let l = refusal-length 1 0 in omega arith
     go false h = omega arith

@@ -1,6 +1,7 @@
 -- What is printed, by the case of an answer, and that a buffer of 98,304 bytes shows it whole. Assumes nothing.
 use Prim.Native.Nat.{ℕ, _≤_, _<_}
 use native.Mathlib.Omega.{arith}
+use mathlib.Core.Bool.{Bool}
 use mathlib.Core.List.{List, [], _++_}
 use mathlib.Core.Path.{_≡_, refl, ap, ap₂, sym, subst, _∙_}
 use borrow.Author.Tests.{lt-ltb, le-ltb}
@@ -10,6 +11,7 @@ use lib.Seq.{take-nil, take-all}
 use Rattle.io.specs.Counts.{Counts}
 use Rattle.paper.specs.Tables.{Tables}
 use Rattle.paper.specs.Calls.{BuildLeft}
+use Rattle.paper.specs.Reasoned.{Reasoned, withReasons}
 use Rattle.paper.specs.File.{counted, read}
 use Rattle.files.specs.Answers.{hasRead}
 use Rattle.headers.specs.declared.Reading.{Reading}
@@ -19,24 +21,24 @@ use Rattle.tables.specs.declared.Answer.the-variants.{Accepted, Refused}
 use Rattle.cores.specs.declared.Done.{Done}
 use Rattle.cores.specs.Left.{answerIn, leftByBuild}
 use Rattle.buffers.specs.Buffer.{Shows}
-use Rattle.text.specs.Lines.{list, refusal}
+use Rattle.text.specs.Lines.{lines, refusal}
 use Rattle.report.specs.Printed.{said, ofTables, ofRead, empty, printed, refusalIn, refusalOf}
 use Rattle.report.proofs.Bounds.{printed-length}
 
 -- a buffer shows what is said of what build left
-abbrev Told : ℕ → BuildLeft → List ℕ → List ℕ → ℕ → Type 0
-Told n left before after count = Shows (said (left .answer) n (left .numbers) (left .stored)) before after count
+abbrev Told : Bool → ℕ → Reasoned BuildLeft → List ℕ → List ℕ → ℕ → Type 0
+Told reasons n built before after count = let left = built .left in Shows (said reasons (left .answer) n (left .numbers) (left .stored) (built .reasons)) before after count
 
 -- by the case of the call's answer
-module _ {before after : List ℕ} {count : ℕ} (done : Done) (numbers order : List ℕ) (stored : List ℤ) (starts places sizes : List ℕ) (n : ℕ) (left : BuildLeft)
-    (e : leftByBuild done numbers order stored starts places sizes ≡ left) where
-  told : (a : Answer) → done .answer ≡ a → Shows (said (answerIn a) n numbers stored) before after count → Told n left before after count
-  told a q s = subst (λ x. Told n x before after count) e (subst (λ x. Shows (said (answerIn x) n numbers stored) before after count) (sym q) s)
+module _ {before after : List ℕ} {count : ℕ} (reasons : Bool) (done : Done) (numbers order : List ℕ) (stored : List ℤ) (starts places sizes row : List ℕ) (n : ℕ) (built : Reasoned BuildLeft)
+    (e : withReasons (leftByBuild done numbers order stored starts places sizes) row ≡ built) where
+  told : (a : Answer) → done .answer ≡ a → Shows (said reasons (answerIn a) n numbers stored row) before after count → Told reasons n built before after count
+  told a q s = subst (λ x. Told reasons n x before after count) e (subst (λ x. Shows (said reasons (answerIn x) n numbers stored row) before after count) (sym q) s)
 
-  pub told-list : (evaluations : ℕ) → done .answer ≡ Accepted evaluations → Shows (list n numbers stored) before after count → Told n left before after count
+  pub told-list : (evaluations : ℕ) → done .answer ≡ Accepted evaluations → Shows (lines reasons n numbers stored row) before after count → Told reasons n built before after count
   told-list evaluations q s = told (Accepted evaluations) q s
 
-  pub told-refusal : (number place : ℕ) → done .answer ≡ Refused number place → Shows (refusalIn (answerIn (done .answer))) before after count → Told n left before after count
+  pub told-refusal : (number place : ℕ) → done .answer ≡ Refused number place → Shows (refusalIn (answerIn (done .answer))) before after count → Told reasons n built before after count
   told-refusal number place q s = told (Refused number place) q (subst (λ x. Shows (refusalIn (answerIn x)) before after count) q s)
 
 -- nothing is shown by no bytes
@@ -58,26 +60,27 @@ module _ {before after : List ℕ} {count : ℕ} where
   reading-none n m e q s = subst (λ x. Shows (refusalOf x) before after count) (sym q) s
 
 -- ── the text for a file ──
-pub printed-long : (file : List ℕ) → 65536 < length file → refusal 1 0 ≡ printed file
-unfolding printed
-printed-long file h = rw (lt-ltb 65536 (length file) h)
-
-module _ (file : List ℕ) (r : Reading) (t : Tables) (starts : List ℤ) (q : hasRead r t starts ≡ read file empty (replicate 4096 (pos 0))) (h : length file ≤ 65536) where
-  -- by the answer of the call that read it
-  printed-read : ofRead (hasRead r t starts) ≡ printed file
+module _ (reasons : Bool) (file : List ℕ) where
+  pub printed-long : 65536 < length file → refusal 1 0 ≡ printed reasons file
   unfolding printed
-  printed-read = rw (le-ltb 65536 (length file) h) (ap ofRead q)
+  printed-long h = rw (lt-ltb 65536 (length file) h)
 
-  pub printed-unread : (number place : ℕ) → r ≡ reading.Refused number place → refusalOf r ≡ printed file
-  printed-unread number place e = ap refusalOf e ∙ sym (ap (λ x. ofRead (hasRead x t starts)) e) ∙ printed-read
+  module _ (r : Reading) (t : Tables) (starts : List ℤ) (q : hasRead r t starts ≡ read file empty (replicate 4096 (pos 0))) (h : length file ≤ 65536) where
+    -- by the answer of the call that read it
+    printed-read : ofRead reasons (hasRead r t starts) ≡ printed reasons file
+    unfolding printed
+    printed-read = rw (le-ltb 65536 (length file) h) (ap (ofRead reasons) q)
 
-  pub printed-built : (n m e : ℕ) → r ≡ reading.Accepted n m e → ofTables (counted n m e t) starts ≡ printed file
-  printed-built n m e a = sym (ap (λ x. ofRead (hasRead x t starts)) a) ∙ printed-read
+    pub printed-unread : (number place : ℕ) → r ≡ reading.Refused number place → refusalOf r ≡ printed reasons file
+    printed-unread number place e = ap refusalOf e ∙ sym (ap (λ x. ofRead reasons (hasRead x t starts)) e) ∙ printed-read
 
--- every text fits in 98,304 bytes, so a buffer of so many shows it whole
-pub whole : {before after text : List ℕ} {count : ℕ} (file : List ℕ) → 98304 ≤ length before → text ≡ printed file → Counts count after → Shows text before after count
-    → (count ≡ length (printed file)) × (after ≡ printed file ++ drop count before)
-whole {before} {after} {text} {count} file room e c s =
-    let fits = printed-length file in
-    let front : take count after ≡ printed file = s .shown ∙ ap (take (length before)) e ∙ take-all (length before) (printed file) (omega arith) in
-    (c .1 ∙ ap length front, sym (take-append-drop count after) ∙ ap₂ _++_ front (s .rest))
+    pub printed-built : (n m e : ℕ) → r ≡ reading.Accepted n m e → ofTables reasons (counted n m e t) starts ≡ printed reasons file
+    printed-built n m e a = sym (ap (λ x. ofRead reasons (hasRead x t starts)) a) ∙ printed-read
+
+  -- every text fits in 98,304 bytes, so a buffer of so many shows it whole
+  pub whole : {before after text : List ℕ} {count : ℕ} → 98304 ≤ length before → text ≡ printed reasons file → Counts count after → Shows text before after count
+      → (count ≡ length (printed reasons file)) × (after ≡ printed reasons file ++ drop count before)
+  whole {before} {after} {text} {count} room e c s =
+      let fits = printed-length reasons file in
+      let front : take count after ≡ printed reasons file = s .shown ∙ ap (take (length before)) e ∙ take-all (length before) (printed reasons file) (omega arith) in
+      (c .1 ∙ ap length front, sym (take-append-drop count after) ∙ ap₂ _++_ front (s .rest))

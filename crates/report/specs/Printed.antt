@@ -1,22 +1,23 @@
--- The text that is printed for a model file. Assumes nothing.
+-- The text that is printed for a model file, with the reasons of blanks or without. Assumes nothing.
 use Prim.Native.Nat.{ℕ}
-use mathlib.Core.Bool.{cond}
+use mathlib.Core.Bool.{Bool, cond}
 use mathlib.Core.List.{List, []}
 use lib.Dec.{ltb}
 use lib.IntN.{ℤ, pos}
 use lib.ListN.{length, replicate}
 use Rattle.paper.specs.Tables.{Tables, lent, indexIn}
 use Rattle.paper.specs.Checks.{Verdict, accepted, refused, boundsIn, lowest, highest}
-use Rattle.paper.specs.Calls.{Answer, Accepted, Refused, BuildLent, build}
+use Rattle.paper.specs.Calls.{Answer, Accepted, Refused, BuildLent}
+use Rattle.paper.specs.Reasoned.{buildReasoned}
 use Rattle.paper.specs.File.{read}
 use Rattle.headers.specs.declared.Reading.{Reading}
 use Rattle.headers.specs.declared.Reading.the-variants as reading
-use Rattle.text.specs.Lines.{list, refusal}
+use Rattle.text.specs.Lines.{lines, refusal}
 
 -- of build's answer: the refusal line, or the list of what build left
-abbrev pub said : Answer → ℕ → List ℕ → List ℤ → List ℕ
-said (Accepted evaluations) n numbers stored = list n numbers stored
-said (Refused number place) n numbers stored = refusal number place
+abbrev pub said : Bool → Answer → ℕ → List ℕ → List ℤ → List ℕ → List ℕ
+said reasons (Accepted evaluations) n numbers stored row = lines reasons n numbers stored row
+said reasons (Refused number place) n numbers stored row = refusal number place
 
 -- what build is lent: the tables and start values that a file held, and rows of zeros to fill
 abbrev pub fresh : Tables → List ℤ → BuildLent
@@ -32,14 +33,17 @@ fresh t starts = record {
   logSizes = replicate 65 0;
 }
 
--- the text for tables and start values: what is said of what build leaves of them
-unfoldable pub ofTables : Tables → List ℤ → List ℕ
-ofTables t starts = let left = build (fresh t starts) in said (left .answer) (t .n) (left .numbers) (left .stored)
+-- the text for tables and start values: what is said of what build leaves of them, and of the reasons in a row that was zeros
+unfoldable pub ofTables : Bool → Tables → List ℤ → List ℕ
+ofTables reasons t starts =
+    let built = buildReasoned (fresh t starts) (replicate 4096 0) in
+    let left = built .left in
+    said reasons (left .answer) (t .n) (left .numbers) (left .stored) (built .reasons)
 
 -- the text for what reading gave: the refusal line, or the text for what the file held
-abbrev pub ofRead : Verdict × (Tables × List ℤ) → List ℕ
-ofRead (accepted, (t, starts)) = ofTables t starts
-ofRead (refused number place, left) = refusal number place
+abbrev pub ofRead : Bool → Verdict × (Tables × List ℤ) → List ℕ
+ofRead reasons (accepted, (t, starts)) = ofTables reasons t starts
+ofRead reasons (refused number place, left) = refusal number place
 
 -- the rows of zeros that a file is laid over
 abbrev pub empty : Tables
@@ -48,8 +52,8 @@ empty =
     (replicate 16384 0) (replicate 16384 (pos 0))
 
 -- the text for a file: one of more than 65,536 bytes is refused before any other check
-unfoldable pub printed : List ℕ → List ℕ
-printed file = cond (ltb 65536 (length file)) (refusal 1 0) (ofRead (read file empty (replicate 4096 (pos 0))))
+unfoldable pub printed : Bool → List ℕ → List ℕ
+printed reasons file = cond (ltb 65536 (length file)) (refusal 1 0) (ofRead reasons (read file empty (replicate 4096 (pos 0))))
 
 -- the refusal line of an answer, nothing if it is accepted: build's, and that of a call that reads
 abbrev pub refusalIn : Answer → List ℕ

@@ -1,4 +1,5 @@
-// What the program prints for a model file: the refusal line if it is refused, and otherwise the list of its variables.
+// What the programs print for a model file: the refusal line if it is refused, and otherwise the list of its variables, with the reasons of
+// blanks or without.
 ghost use mathlib.Core.List.{_++_};
 ghost use mathlib.Core.Path.{_≡_};
 ghost use lib.ListN.{length, drop};
@@ -7,7 +8,11 @@ ghost use Rattle.paper.specs.Tables.{lent};
 ghost use Rattle.cores.specs.Left.{answerIn};
 ghost use Rattle.report.specs.Printed.{ofTables, printed, refusalIn, refusalOf};
 ghost use Rattle.buffers.specs.Buffer.{Shows};
+use bounds::HIGHEST;
+use bounds::LOWEST;
+use cores::Session;
 use headers::Reading;
+use reasoned::build_reasoned;
 use tables::Answer;
 
 // The refusal line of a file that is not read; one that is read has none.
@@ -32,12 +37,12 @@ fn show_refused(answer: Answer, out: &mut [u8]) -> usize
     text::refusal(number, place, out)
 }
 
-// The text for a file: it stands whole in front of the buffer, which holds every text, and the answer is how many bytes it has. A file of more
-// than 65,536 bytes is refused before any other check.
-pub fn show(file: &[u8], out: &mut [u8; 98304]) -> usize
+// The text for a file, with reasons or without: it stands whole in front of the buffer, which holds every text, and the answer is how many
+// bytes it has. A file of more than 65,536 bytes is refused before any other check.
+pub fn show(reasons: bool, file: &[u8], out: &mut [u8; 98304]) -> usize
     ensures { λ r. ⌜ Counts r (now (out .exit)) ⌝ }
-    ensures { λ r. ⌜ r ≡ length (printed (now (file .entry))) ⌝ }
-    ensures { λ r. ⌜ now (out .exit) ≡ printed (now (file .entry)) ++ drop r (now (out .entry)) ⌝ }
+    ensures { λ r. ⌜ r ≡ length (printed reasons (now (file .entry))) ⌝ }
+    ensures { λ r. ⌜ now (out .exit) ≡ printed reasons (now (file .entry)) ++ drop r (now (out .entry)) ⌝ }
 {
     if 65536 < file.len() {
         return text::refusal(1, 0, out);
@@ -65,6 +70,7 @@ pub fn show(file: &[u8], out: &mut [u8; 98304]) -> usize
         return show_unread(told, out);
     };
     list_built(
+        reasons,
         n,
         m,
         e,
@@ -80,8 +86,9 @@ pub fn show(file: &[u8], out: &mut [u8; 98304]) -> usize
     )
 }
 
-// The text for tables that a file held: build's refusal, or the list of what it left.
+// The text for tables that a file held: build's refusal, or the list of what it left, with reasons or without.
 fn list_built(
+    reasons: bool,
     n: usize,
     m: usize,
     e: usize,
@@ -96,14 +103,23 @@ fn list_built(
     out: &mut [u8],
 ) -> usize
     ensures { λ r. ⌜ Counts r (now (out .exit)) ⌝ }
-    ensures { λ r. ⌜ Shows (ofTables (lent n m e (now (kinds .entry)) (now (makes .entry)) (now (params .entry)) (now (firsts .entry)) (now (counts .entry)) (now (vars .entry)) (now (coefs .entry))) (now (starts .entry))) (now (out .entry)) (now (out .exit)) r ⌝ }
+    ensures { λ r. ⌜ Shows (ofTables reasons (lent n m e (now (kinds .entry)) (now (makes .entry)) (now (params .entry)) (now (firsts .entry)) (now (counts .entry)) (now (vars .entry)) (now (coefs .entry))) (now (starts .entry))) (now (out .entry)) (now (out .exit)) r ⌝ }
 {
+    let lows = [LOWEST; 4096];
+    let highs = [HIGHEST; 4096];
     let mut numbers = [0u16; 4096];
     let mut order = [0u16; 4096];
     let mut stored = [0i32; 4096];
     let mut reader_starts = [0u16; 4097];
     let mut reader_places = [0u16; 16384];
-    let done = cores::build_new(
+    let mut row = [0u8; 4096];
+    let mut log_sizes = [0u16; 65];
+    let done = build_reasoned(
+        Session {
+            kept: 0,
+            evaluations: 0,
+            blanks: 0,
+        },
         n,
         m,
         e,
@@ -114,16 +130,20 @@ fn list_built(
         counts,
         vars,
         coefs,
+        &lows,
+        &highs,
         starts,
         &mut numbers,
         &mut order,
         &mut stored,
         &mut reader_starts,
         &mut reader_places,
+        &mut row,
+        &mut log_sizes,
     );
     let answer = done.answer;
     let Answer::Accepted { .. } = answer else {
         return show_refused(answer, out);
     };
-    text::list(n, &numbers, &stored, out)
+    text::lines(reasons, n, &numbers, &stored, &row, out)
 }

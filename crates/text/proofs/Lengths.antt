@@ -14,7 +14,7 @@ use Rattle.integers.specs.Integers.{eqZ}
 use Rattle.paper.specs.Lists.{nat, joined}
 use Rattle.paper.specs.Formula.{blank}
 use Rattle.buffers.specs.Buffer.{sign}
-use Rattle.text.specs.Lines.{places, decimal, value, reasoned, line, lines, list, refusal}
+use Rattle.text.specs.Lines.{places, decimal, value, reasoned, line, lines, refusal}
 
 -- ── numbers ──
 digits-length : (b k n : ℕ) → length (digits b k n) ≡ k
@@ -98,7 +98,3 @@ lines-length b n numbers values row few low near known =
     (λ v h. line-length b v (nat numbers v) (getD values v (pos 0)) (nat row v) (omega arith) (low v (omega arith)) (near v (omega arith)) (known v (omega arith))) in
     let l = joined-length (λ v. line b v (nat numbers v) (getD values v (pos 0)) (nat row v)) 22 count short in
     omega arith
-
-pub list-length : (n : ℕ) (numbers : List ℕ) (values : List ℤ) → n ≤ 4096 → ((v : ℕ) → v < n → nat numbers v < 10000)
-    → ((v : ℕ) → v < n → natAbs (getD values v (pos 0)) ≤ 2147483648) → length (list n numbers values) ≤ 90112
-list-length n numbers values few low near = lines-length false n numbers values [] few low near (λ v h. omega arith)

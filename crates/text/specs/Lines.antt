@@ -1,6 +1,6 @@
--- What the program prints, as bytes: the refusal line and the list. Assumes nothing.
+-- What the programs print, as bytes: the refusal line and the list. Assumes nothing.
 use Prim.Native.Nat.{ℕ, zero, suc, _/_, min}
-use mathlib.Core.Bool.{Bool, true, false, cond}
+use mathlib.Core.Bool.{Bool, cond}
 use mathlib.Core.List.{List, [], _∷_, _++_}
 use lib.Dec.{ltb}
 use lib.IntN.{ℤ, pos, natAbs}
@@ -32,16 +32,9 @@ reasoned z reason = cond (eqZ z blank) ((98 ∷ 108 ∷ 97 ∷ 110 ∷ 107 ∷ 5
 abbrev pub line : Bool → ℕ → ℕ → ℤ → ℕ → List ℕ
 line reasons v number z reason = decimal v ++ (32 ∷ []) ++ decimal number ++ (32 ∷ []) ++ cond reasons (reasoned z reason) (value z) ++ (10 ∷ [])
 
--- a line for each of the first n variables that has a number and a value
+-- the list: a line for each of the first n variables that has a number and a value, with the reasons of a row or without
 unfoldable pub lines : Bool → ℕ → List ℕ → List ℤ → List ℕ → List ℕ
 lines reasons n numbers values row = joined (λ v. line reasons v (nat numbers v) (getD values v (pos 0)) (nat row v)) (min n (min (length numbers) (length values)))
-
--- the list without reasons, and with those of a row
-abbrev pub list : ℕ → List ℕ → List ℤ → List ℕ
-list n numbers values = lines false n numbers values []
-
-abbrev pub listWithReasons : ℕ → List ℕ → List ℤ → List ℕ → List ℕ
-listWithReasons n numbers values row = lines true n numbers values row
 
 -- `refused`, the number and the place, parted by single blanks
 unfoldable pub refusal : ℕ → ℕ → List ℕ

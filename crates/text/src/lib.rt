@@ -71,26 +71,19 @@ fn put_refusal(number: u32, place: u32, out: &mut [u8]) -> usize
     put(out, d, b'\n')
 }
 
-// The list of the variables below n: its text in front of the buffer, and how many bytes that is.
-pub fn list(n: usize, numbers: &[u16], values: &[i32], out: &mut [u8]) -> usize
-    ensures { λ r. ⌜ Counts r (now (out .exit)) ⌝ }
-    ensures { λ r. ⌜ Shows (Lines.list n (now (numbers .entry)) (now (values .entry))) (now (out .entry)) (now (out .exit)) r ⌝ }
-{
-    put_lines(false, n, numbers, values, &[], out)
-}
-
-// The list with reasons: its text in front of the buffer, and how many bytes that is. A blank is `blank:` followed by its reason.
-pub fn list_with_reasons(
+// The list of the variables below n, with the reasons of a row or without: its text in front of the buffer, and how many bytes that is.
+pub fn lines(
+    reasons: bool,
     n: usize,
     numbers: &[u16],
     values: &[i32],
-    reasons: &[u8],
+    row: &[u8],
     out: &mut [u8],
 ) -> usize
     ensures { λ r. ⌜ Counts r (now (out .exit)) ⌝ }
-    ensures { λ r. ⌜ Shows (Lines.listWithReasons n (now (numbers .entry)) (now (values .entry)) (now (reasons .entry))) (now (out .entry)) (now (out .exit)) r ⌝ }
+    ensures { λ r. ⌜ Shows (Lines.lines reasons n (now (numbers .entry)) (now (values .entry)) (now (row .entry))) (now (out .entry)) (now (out .exit)) r ⌝ }
 {
-    put_lines(true, n, numbers, values, reasons, out)
+    put_lines(reasons, n, numbers, values, row, out)
 }
 
 // The refusal line: its text in front of the buffer, and how many bytes that is.

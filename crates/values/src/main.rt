@@ -7,6 +7,6 @@ fn main() {
     let mut file = [0u8; 65537];
     let got = io::read_full(STDIN_FILENO, &mut file);
     let mut out = [0u8; 98304];
-    let k = report::show(&file[..got], &mut out);
+    let k = report::show(false, &file[..got], &mut out);
     io::write_all(STDOUT_FILENO, &out[..k]);
 }

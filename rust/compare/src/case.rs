@@ -8,7 +8,7 @@ use crate::{Buffer, Guarded};
 /// Which call.
 #[derive(Clone, Copy, Debug, Default, PartialEq, Eq)]
 pub enum Call {
-    /// Numbers, order, values and readers from tables and start values, and an empty log.
+    /// Numbers, order, values, readers and reasons from tables and start values, and an empty log.
     #[default]
     Build,
     /// A move tried by a route.
@@ -57,6 +57,7 @@ pub struct Case {
     pub stored: Guarded<i32>,
     pub reader_starts: Guarded<u16>,
     pub reader_places: Guarded<u16>,
+    pub reasons: Guarded<u8>,
     pub pairs: usize,
     pub move_vars: Guarded<u16>,
     pub move_values: Guarded<i32>,
@@ -66,6 +67,7 @@ pub struct Case {
     pub results: Guarded<i32>,
     pub trial: Guarded<i32>,
     pub flags: Guarded<u8>,
+    pub why: Guarded<u8>,
     pub log_sizes: Guarded<u16>,
     pub log_vars: Guarded<u16>,
     pub log_values: Guarded<i32>,
@@ -93,12 +95,14 @@ macro_rules! buffers_of {
             ("stored", $($borrowed)+ $case.stored),
             ("reader_starts", $($borrowed)+ $case.reader_starts),
             ("reader_places", $($borrowed)+ $case.reader_places),
+            ("reasons", $($borrowed)+ $case.reasons),
             ("move_vars", $($borrowed)+ $case.move_vars),
             ("move_values", $($borrowed)+ $case.move_values),
             ("asked_vars", $($borrowed)+ $case.asked_vars),
             ("results", $($borrowed)+ $case.results),
             ("trial", $($borrowed)+ $case.trial),
             ("flags", $($borrowed)+ $case.flags),
+            ("why", $($borrowed)+ $case.why),
             ("log_sizes", $($borrowed)+ $case.log_sizes),
             ("log_vars", $($borrowed)+ $case.log_vars),
             ("log_values", $($borrowed)+ $case.log_values),
@@ -129,13 +133,13 @@ impl Case {
 
     /// Every buffer by name, in the order of the fields.
     #[must_use]
-    pub fn buffers(&self) -> [(&'static str, &dyn Buffer); 27] {
+    pub fn buffers(&self) -> [(&'static str, &dyn Buffer); 29] {
         buffers_of!(self, &)
     }
 
     /// Every buffer by name, to be changed.
     #[must_use]
-    pub fn buffers_mut(&mut self) -> [(&'static str, &mut dyn Buffer); 27] {
+    pub fn buffers_mut(&mut self) -> [(&'static str, &mut dyn Buffer); 29] {
         buffers_of!(self, &mut)
     }
 

@@ -303,6 +303,7 @@ fn buffers(case: &mut Case) -> Vec<(&mut dyn Length, usize)> {
         lent.push((&mut case.trial, n));
         lent.push((&mut case.asked_vars, asked));
         lent.push((&mut case.results, asked));
+        lent.push((&mut case.why, asked));
     }
     if matches!(case.call, Call::Trial | Call::Keep | Call::TakeBack) {
         lent.push((&mut case.flags, n));
@@ -324,6 +325,7 @@ fn buffers(case: &mut Case) -> Vec<(&mut dyn Length, usize)> {
         lent.push((&mut case.stored, n));
         lent.push((&mut case.reader_starts, n.saturating_add(1)));
         lent.push((&mut case.reader_places, e));
+        lent.push((&mut case.reasons, n));
     }
     lent
 }

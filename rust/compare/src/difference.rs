@@ -34,16 +34,24 @@ pub struct Difference {
     pub other: Side,
 }
 
-/// Lets two engines answer the same case, and gives the answer on which they agree.
+/// Lets two engines answer the same case, and gives what both made of it.
 ///
 /// # Errors
 /// A difference, unless the answer, the record, every buffer and every guard are equal.
-pub fn compare(one: &dyn Engine, other: &dyn Engine, case: &Case) -> Result<Answer, Box<Difference>> {
+pub fn agreed(one: &dyn Engine, other: &dyn Engine, case: &Case) -> Result<Side, Box<Difference>> {
     let (one, other) = (Side::of(one, case), Side::of(other, case));
     if one.answer == other.answer && one.left == other.left && one.left.intact() {
-        return Ok(one.answer);
+        return Ok(one);
     }
     Err(Box::new(Difference { case: case.clone(), one, other }))
+}
+
+/// Lets two engines answer the same case, and gives the answer on which they agree.
+///
+/// # Errors
+/// A difference, as [`agreed`] finds it.
+pub fn compare(one: &dyn Engine, other: &dyn Engine, case: &Case) -> Result<Answer, Box<Difference>> {
+    agreed(one, other, case).map(|side| side.answer)
 }
 
 impl fmt::Display for Difference {

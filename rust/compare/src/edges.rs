@@ -111,6 +111,55 @@ fn refusal_1_buffers(engine: &dyn Engine) {
     }
 }
 
+/// The rows of reasons on both sides of the length that is asked of them.
+fn refusal_1_reasons(engine: &dyn Engine) {
+    for call in &all_calls(engine)[..4] {
+        for (length, number) in [(0, 1), (1, 1), (5, 1), (6, 0), (7, 0), (600, 0)] {
+            let reasons = with(call, |case| case.reasons = vec![9; length].into());
+            gives(engine, &format!("{:?}: {length} reasons of 6 variables", call.call), &reasons, number, 0);
+        }
+    }
+    let model = built(engine, &model_a());
+    for (asked, length, number) in [
+        (0, 0, 0),
+        (0, 3, 0),
+        (1, 0, 1),
+        (1, 1, 0),
+        (1, 2, 0),
+        (2, 1, 1),
+        (2, 2, 0),
+        (32, 0, 1),
+        (32, 31, 1),
+        (32, 32, 0),
+        (32, 33, 0),
+        (33, 33, 1),
+    ] {
+        for route in 1..=3 {
+            let tried = trial(&model, &[(1, 28801)], &vec![5; asked], route);
+            let tried = with(&tried, |case| case.why = vec![9; length].into());
+            gives(engine, &format!("{length} reasons of {asked} asked"), &tried, number, 0);
+            let short = with(&tried, |case| case.reasons.edit(|reasons| reasons.truncate(5)));
+            gives(engine, "stored reasons one short", &short, 1, 0);
+        }
+    }
+    for call in &all_calls(engine)[2..4] {
+        gives(engine, "no row for reasons asked", &with(call, |case| case.why.edit(Vec::clear)), 0, 0);
+    }
+}
+
+/// As many stored reasons as there may be variables, one less and one more.
+fn refusal_1_many_reasons(engine: &dyn Engine) {
+    let build = no_rows(4096);
+    let model = built(engine, &build);
+    let kept = Side::of(engine, &keep(&model, &[])).left;
+    for call in [build, trial(&model, &[], &[4095], 2), keep(&model, &[]), take_back(&kept)] {
+        for (length, number) in [(4095, 1), (4096, 0), (4097, 0)] {
+            let reasons = with(&call, |case| case.reasons = vec![9; length].into());
+            gives(engine, &format!("{:?}: {length} reasons of 4,096 variables", call.call), &reasons, number, 0);
+        }
+    }
+}
+
 fn refusal_2(engine: &dyn Engine) {
     for call in &all_calls(engine)[..4] {
         for kind in [0, 10, 65535] {
@@ -761,8 +810,9 @@ type Fault = (u32, u32, fn(&mut Case));
 
 /// Of two things wrong the check that runs first speaks.
 fn the_order_of_checks(engine: &dyn Engine) {
-    let tables: [Fault; 6] = [
+    let tables: [Fault; 7] = [
         (1, 0, |case| case.n = 0),
+        (1, 0, |case| case.reasons.edit(|reasons| reasons.truncate(5))),
         (2, 1, |case| case.kinds[1] = 0),
         (3, 2, |case| case.vars[6] = 99),
         (4, 0, |case| case.params[0] = 1),
@@ -808,6 +858,8 @@ pub const EDGES: &[Test] = &[
     ("1: counts", refusal_1_counts),
     ("1: moves and asked", refusal_1_moves),
     ("1: buffers", refusal_1_buffers),
+    ("1: reasons", refusal_1_reasons),
+    ("1: reasons of 4,096 variables", refusal_1_many_reasons),
     ("2", refusal_2),
     ("3: inputs", refusal_3_inputs),
     ("3: places", refusal_3_places),

@@ -15,7 +15,7 @@ pub type Test = (&'static str, fn(&dyn Engine));
 
 /// The calls over what is lent to them.
 pub trait Calls {
-    /// Numbers, order, values and readers from tables and start values, and an empty log.
+    /// Numbers, order, values, readers and reasons from tables and start values, and an empty log.
     fn build(session: &mut Session, tables: Tables<'_>, bounds: Bounds<'_>, starts: &[i32], built: Built<'_>)
     -> Answer;
 
@@ -58,16 +58,17 @@ impl<C: Calls> Engine for C {
         let moved = Move { pairs: case.pairs, vars: &case.move_vars, values: &case.move_values };
         let (numbers, order, stored, flags) = (&mut case.numbers, &mut case.order, &mut case.stored, &mut case.flags);
         let (reader_starts, reader_places) = (&mut case.reader_starts, &mut case.reader_places);
+        let reasons = &mut case.reasons;
         let (log_sizes, log_vars, log_values) = (&mut case.log_sizes, &mut case.log_vars, &mut case.log_values);
         match call {
             Call::Build => {
-                let built = Built { numbers, order, stored, reader_starts, reader_places, log_sizes };
+                let built = Built { numbers, order, stored, reader_starts, reader_places, reasons, log_sizes };
                 C::build(session, tables, bounds, starts, built)
             }
             Call::Trial => {
-                let state = State { numbers, order, stored, reader_starts, reader_places };
+                let state = State { numbers, order, stored, reader_starts, reader_places, reasons };
                 let asked = Asked { asked: case.asked, vars: &case.asked_vars };
-                let tried = Tried { results: &mut case.results, trial: &mut case.trial, flags };
+                let tried = Tried { results: &mut case.results, trial: &mut case.trial, flags, why: &mut case.why };
                 C::trial(session, tables, bounds, Trial { state, moved, asked, route: case.route, tried })
             }
             Call::Keep => C::keep(
@@ -80,6 +81,7 @@ impl<C: Calls> Engine for C {
                     stored,
                     reader_starts,
                     reader_places,
+                    reasons,
                     moved,
                     flags,
                     log_sizes,
@@ -97,6 +99,7 @@ impl<C: Calls> Engine for C {
                     stored,
                     reader_starts,
                     reader_places,
+                    reasons,
                     flags,
                     log_sizes,
                     log_vars,

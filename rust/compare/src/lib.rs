@@ -4,7 +4,7 @@
 //! it in place. [`compare`] lets two engines answer the same case and compares the answers, the session record, every
 //! element of every buffer, and the guards. [`run`] does so for as many random cases as it is told, from a seed, and
 //! [`shrink`] makes a case on which two engines differ smaller. [`sessions`] keeps and takes back over long sessions,
-//! and [`salvages`] saves damaged files. [`versions`] reads and
+//! [`reasons`] asks why values are blank, and [`salvages`] saves damaged files. [`versions`] reads and
 //! writes files of version 2, and moves files from one version to the other. [`tests_of!`] is everything that an engine must pass.
 #![forbid(unsafe_code)]
 #![warn(missing_docs)]
@@ -23,6 +23,7 @@ mod logs;
 mod models;
 mod plan;
 mod random;
+pub mod reasons;
 pub mod runs;
 pub mod salvages;
 pub mod sessions;
@@ -34,7 +35,7 @@ pub mod versions;
 pub use bounds::{draw_bounds, move_outside, near_a_bound, within};
 pub use case::{Answer, Call, Case};
 pub use damage::{damage, lengthen, one_short, scramble, shorten};
-pub use difference::{Difference, Side, compare};
+pub use difference::{Difference, Side, agreed, compare};
 pub use engine::{Calls, Engine, Second, Test};
 pub use guarded::{Buffer, Element, Guarded};
 pub use logs::draw_log;

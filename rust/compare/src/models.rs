@@ -167,6 +167,7 @@ impl Case {
             stored: vec![0; n].into(),
             reader_starts: vec![0; n + 1].into(),
             reader_places: vec![0; e].into(),
+            reasons: vec![0; n].into(),
             log_sizes: vec![0; LOG_SIZES].into(),
             ..bounded
         }
@@ -184,6 +185,7 @@ fn junk(random: &mut Random, case: &mut Case) {
     case.session.kept = random.pick(&[0, 1, u32::MAX - 1, u32::MAX]);
     case.session.evaluations = random.bits() as u32;
     case.session.blanks = random.pick(&[0, 1, case.n as u32, u32::MAX]);
+    case.reasons = Guarded::junk(&mut random.aside(), case.n);
 }
 
 /// A build of a chain: each row of this kind reads the variable before its own `inputs` times, an ELEMENT its index at 0.

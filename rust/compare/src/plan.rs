@@ -6,8 +6,8 @@ use crate::bounds::move_outside;
 use crate::logs::is_search;
 use crate::shrink::rebuilt;
 use crate::{
-    Call, Case, Difference, Engine, Guarded, Random, Second, Sizes, chain, compare, damage, draw_log, lengthen, model,
-    model_of, shorten, shrink, value, within,
+    Call, Case, Difference, Engine, Guarded, Random, Second, Side, Sizes, agreed, chain, damage, draw_log, lengthen,
+    model, model_of, shorten, shrink, value, within,
 };
 
 /// The seed of a run without another.
@@ -32,6 +32,10 @@ pub struct Tally {
     pub unfit: [usize; 2],
     /// The accepted keeps that pushed a move out of the log.
     pub pushed: usize,
+    /// The reasons that accepted calls gave, by call: build, trial, keep, taking back.
+    pub by_reason: [[usize; 6]; 4],
+    /// The stored bytes that are no reason and that accepted calls left or handed on, by call.
+    pub no_reason: [usize; 4],
 }
 
 impl Tally {
@@ -41,13 +45,15 @@ impl Tally {
         self.by_number.iter().sum()
     }
 
-    fn note(&mut self, case: &Case, number: u32) {
+    fn note(&mut self, case: &Case, made: &Side) {
+        let number = made.answer.number;
         if let Some(calls) = self.by_number.get_mut(number as usize) {
             *calls += 1;
         }
         if number == 0 {
             self.accepted[case.call as usize] += 1;
             self.pushed += usize::from(case.call == Call::Keep && case.logged() == MOST_LOGGED);
+            self.note_reasons(&made.left);
         }
         if number == 16 {
             self.unfit[usize::from(case.call == Call::TakeBack)] += 1;
@@ -55,7 +61,30 @@ impl Tally {
         self.by_index += usize::from(number == 8 && passes_with_its_index(case));
     }
 
-    /// Asserts that every number, every accepted call, a wrong index, and a log unfit or full came often.
+    /// Counts the reasons that an accepted call left: of the variables evaluated, and bytes that are none of the others.
+    fn note_reasons(&mut self, left: &Case) {
+        let call = left.call as usize;
+        let left_of = |variable: usize| (variable, left.reasons[variable]);
+        let reasons: Vec<(usize, u8)> = match left.call {
+            Call::Build | Call::Keep | Call::TakeBack => (0..left.n).map(left_of).collect(),
+            Call::Trial => asked_of(left).map(usize::from).zip(left.why.iter().copied()).collect(),
+            _ => Vec::new(),
+        };
+        let evaluated = |variable: usize| match left.call {
+            Call::Build => left.numbers[variable] > 0,
+            _ => left.flags[variable] == 1,
+        };
+        for (variable, reason) in reasons {
+            if evaluated(variable) {
+                self.by_reason[call][usize::from(reason)] += 1;
+            } else {
+                self.no_reason[call] += usize::from(reason > 5);
+            }
+        }
+    }
+
+    /// Asserts that every number, every accepted call, a wrong index, a log unfit or full, every reason, and stored bytes that
+    /// are none came often.
     ///
     /// # Panics
     /// If one hardly ever came.
@@ -67,7 +96,15 @@ impl Tally {
         assert!(self.by_index > 1_000, "the index alone is often wrong: {self:?}");
         assert!(self.unfit.iter().all(|&calls| calls > 1_000), "a log is often unfit: {self:?}");
         assert!(self.pushed > 1_000, "a log is often full: {self:?}");
+        assert!(self.by_reason.as_flattened().iter().all(|&given| given > 100), "every reason is given: {self:?}");
+        assert!(self.no_reason[1..].iter().all(|&left| left > 100), "stored bytes are any: {self:?}");
+        assert_eq!(self.no_reason[0], 0, "a build leaves nothing but reasons: {self:?}");
     }
+}
+
+/// The variables that a trial asks.
+fn asked_of(tried: &Case) -> impl Iterator<Item = u16> {
+    tried.asked_vars.iter().copied().take(tried.asked)
 }
 
 /// Whether check 8 passes once the index of a case is put right.
@@ -93,8 +130,8 @@ pub fn run(
     while tally.calls() < calls {
         let model = draw(&mut random);
         for case in calls_on(&mut random, &model) {
-            let answer = compare(one, other, &case).map_err(|found| shrink(one, other, found))?;
-            tally.note(&case, answer.number);
+            let made = agreed(one, other, &case).map_err(|found| shrink(one, other, found))?;
+            tally.note(&case, &made);
         }
     }
     Ok(tally)
@@ -133,6 +170,9 @@ pub fn calls_on(random: &mut Random, build: &Case) -> Vec<Case> {
     }
     calls.extend(files_of(random, build));
     for case in &mut calls {
+        if random.once_in(3) {
+            draw_reasons(random, case);
+        }
         if random.once_in(3) {
             lengthen(random, case);
         }
@@ -175,6 +215,12 @@ fn stale(random: &mut Random, built: &Case) -> Case {
     stale
 }
 
+/// Gives a case stored reasons that no call left: any reasons, or any bytes at all.
+fn draw_reasons(random: &mut Random, case: &mut Case) {
+    let end = random.pick(&[6, 256]);
+    case.reasons.iter_mut().for_each(|reason| *reason = random.below(end) as u8);
+}
+
 /// A trial of a random move on a model that was built, by a random route.
 pub fn trial_of(random: &mut Random, built: &Case) -> Case {
     let mut case = Case { call: Call::Trial, route: 1 + random.below(3) as u32, ..built.clone() };
@@ -184,6 +230,7 @@ pub fn trial_of(random: &mut Random, built: &Case) -> Case {
     case.results = Guarded::junk(random, case.asked);
     case.trial = Guarded::junk(random, case.n);
     case.flags = Guarded::junk(random, case.n);
+    case.why = Guarded::junk(&mut random.aside(), case.asked);
     case
 }
 

@@ -20,6 +20,12 @@ impl Random {
         bits ^ (bits >> 31)
     }
 
+    /// A generator beside this one, which goes on as if it had not been asked.
+    #[must_use]
+    pub fn aside(&self) -> Random {
+        Random(self.clone().bits())
+    }
+
     /// A number below `end`, or 0 if `end` is 0.
     pub fn below(&mut self, end: usize) -> usize {
         (self.bits() % end.max(1) as u64) as usize

@@ -38,6 +38,7 @@ pub fn trial(built: &Case, pairs: &[(u16, i32)], asked: &[u16], route: u32) -> C
         asked_vars: asked.to_vec().into(),
         route,
         results: vec![0; asked.len()].into(),
+        why: vec![7; asked.len()].into(),
         trial: vec![0; built.n].into(),
         ..moving(built, pairs)
     }
@@ -423,15 +424,19 @@ fn longer_buffers(engine: &dyn Engine) {
     build.stored.edit(|stored| stored.push(79));
     build.reader_starts.edit(|starts| starts.push(83));
     build.reader_places.edit(|places| places.push(84));
+    build.reasons.edit(|reasons| reasons.push(85));
     let model = built(engine, &build);
     assert_eq!((model.numbers.last(), model.order.last(), model.stored.last()), (Some(&77), Some(&78), Some(&79)));
     assert_eq!((model.reader_starts.last(), model.reader_places.last()), (Some(&83), Some(&84)));
+    assert_eq!(model.reasons.last(), Some(&85));
     let mut tried = trial(&model, &[(1, 28801)], &[4], 1);
     tried.results.edit(|results| results.push(80));
     tried.trial.edit(|trial| trial.push(81));
     tried.flags.edit(|flags| flags.push(82));
+    tried.why.edit(|why| why.push(86));
     let left = Side::of(engine, &tried).left;
     assert_eq!((left.results.last(), left.trial.last(), left.flags.last()), (Some(&80), Some(&81), Some(&82)));
+    assert_eq!((left.reasons.last(), left.why.last()), (Some(&85), Some(&86)));
 }
 
 /// All runs by name.

@@ -1,15 +1,17 @@
 //! Long sessions over one log, as tests of any engine beside the second implementation: many more keeps than the log
 //! holds, takings back among them, and now and then a trial, a refused call or a build anew. Taking back leaves the values
-//! before the move byte for byte, and the log is as it was before it; the record's number of blanks is that of the stored
-//! values after every call. Half the models have narrow bounds: every stored value of a search variable lies within them, and
-//! a move outside is refused.
+//! before the move byte for byte, and their reasons, and the log is as it was before it; the record's number of blanks is
+//! that of the stored values after every call, and the stored values and reasons are those worked out afresh. A trial gives
+//! by every route the reasons that a keep of its move would store. Half the models have narrow bounds: every stored value of
+//! a search variable lies within them, and a move outside is refused.
 
 use std::collections::VecDeque;
 
 use second::{BLANK, MOST_LOGGED};
 
 use crate::{
-    Call, Case, Difference, Engine, Guarded, Random, Second, Sizes, compare, draw_move, model, seed, shrink, trial_of,
+    Call, Case, Difference, Engine, Guarded, Random, Second, Side, Sizes, agreed, compare, draw_move, model, seed,
+    shrink, trial_of,
 };
 
 /// How many sessions, and the calls of each.
@@ -34,10 +36,11 @@ pub fn long_sessions(engine: &dyn Engine) {
         tally.add(&session.tally);
     }
     println!("{tally:?}");
-    let Tally { kept, pushed, taken, spent, more, fewer, outside } = tally;
+    let Tally { kept, pushed, taken, spent, more, fewer, outside, blank } = tally;
     assert!(kept > 10_000 && pushed > 2_000 && taken > 5_000 && spent > 100, "every turn comes often: {tally:?}");
     assert!(more > 300 && fewer > 300, "blanks come and go: {tally:?}");
     assert!(outside > 100, "moves outside the bounds are refused: {tally:?}");
+    assert!(blank > 100, "trials say why a value is blank: {tally:?}");
 }
 
 /// A model of some size, with more search variables than a move has pairs at times.
@@ -48,7 +51,7 @@ fn draw(random: &mut Random) -> Case {
 }
 
 /// What happened: keeps, keeps that pushed a move out of the log, takings back, and those with nothing left; calls that left
-/// more blanks, and fewer; moves outside the bounds.
+/// more blanks, and fewer; moves outside the bounds; blank values that trials gave a reason for.
 #[derive(Clone, Copy, Debug, Default)]
 struct Tally {
     kept: usize,
@@ -58,6 +61,7 @@ struct Tally {
     more: usize,
     fewer: usize,
     outside: usize,
+    blank: usize,
 }
 
 impl Tally {
@@ -69,14 +73,18 @@ impl Tally {
         self.more += other.more;
         self.fewer += other.fewer;
         self.outside += other.outside;
+        self.blank += other.blank;
     }
 }
 
-/// A session: the model as the calls left it, and the values before each move that can be taken back.
+/// A byte that stands behind the stored reasons.
+const BEHIND: u8 = 0xEE;
+
+/// A session: the model as the calls left it, and the values and reasons before each move that can be taken back.
 struct Session<'a> {
     engine: &'a dyn Engine,
     model: Case,
-    before: VecDeque<Vec<i32>>,
+    before: VecDeque<(Vec<i32>, Vec<u8>)>,
     kept: u32,
     tally: Tally,
 }
@@ -84,7 +92,8 @@ struct Session<'a> {
 impl<'a> Session<'a> {
     /// The session of a build.
     fn of(engine: &'a dyn Engine, build: Case) -> Session<'a> {
-        let model = Case { flags: vec![7; build.n].into(), ..build.with_log() };
+        let mut model = Case { flags: vec![7; build.n].into(), ..build.with_log() };
+        model.reasons.edit(|reasons| reasons.push(BEHIND));
         let mut session = Session { engine, model, before: VecDeque::new(), kept: 0, tally: Tally::default() };
         session.make(Call::Build, 0);
         session
@@ -119,7 +128,7 @@ impl<'a> Session<'a> {
     }
 
     fn kept(&mut self, random: &mut Random) {
-        let before = self.model.stored.to_vec();
+        let before = (self.model.stored.to_vec(), self.model.reasons.to_vec());
         draw_move(random, &mut self.model);
         self.model.flags = Guarded::junk(random, self.model.n);
         self.make(Call::Keep, 0);
@@ -134,13 +143,14 @@ impl<'a> Session<'a> {
     }
 
     fn taken_back(&mut self) {
-        let Some(before) = self.before.pop_back() else {
+        let Some((stored, reasons)) = self.before.pop_back() else {
             self.make(Call::TakeBack, 15);
             self.tally.spent += 1;
             return;
         };
         self.make(Call::TakeBack, 0);
-        assert_eq!(*self.model.stored, *before, "the values before the move");
+        assert_eq!(*self.model.stored, *stored, "the values before the move");
+        assert_eq!(*self.model.reasons, *reasons, "the reasons before the move");
         self.kept -= 1;
         self.tally.taken += 1;
         self.holds();
@@ -181,10 +191,19 @@ impl<'a> Session<'a> {
         }
     }
 
-    /// A trial is not lent the log.
+    /// A trial is not lent the log. By every route it gives the values and the reasons that a keep of its move would store.
     fn tried(&mut self, random: &mut Random) {
         let tried = trial_of(random, &self.model);
-        assert!(compare(self.engine, &Second, &tried).is_ok_and(|answer| answer.number == 0));
+        let kept = Side::of(self.engine, &Case { call: Call::Keep, ..tried.clone() }).left;
+        let left_of = |&asked: &u16| (kept.stored[usize::from(asked)], kept.reasons[usize::from(asked)]);
+        let (values, reasons): (Vec<i32>, Vec<u8>) = tried.asked_vars.iter().map(left_of).unzip();
+        for route in 1..=3 {
+            let differs = |found: Box<Difference>| panic!("{}", shrink(self.engine, &Second, found));
+            let by_route = Case { route, ..tried.clone() };
+            let Side { answer, left } = agreed(self.engine, &Second, &by_route).unwrap_or_else(differs);
+            assert_eq!((answer.number, &*left.results, &*left.why), (0, &*values, &*reasons), "route {route}");
+        }
+        self.tally.blank += reasons.iter().filter(|&&reason| reason != 0).count();
     }
 
     /// A build empties the log.
@@ -196,8 +215,20 @@ impl<'a> Session<'a> {
         self.make(Call::TakeBack, 15);
     }
 
-    /// The log holds what can be taken back, and the record what was kept and not taken back, and the blanks.
+    /// The model built anew from the values that its search variables have now.
+    fn afresh(&self) -> Case {
+        let start = |(&value, &number): (&i32, &u16)| if number == 0 { value } else { 0 };
+        let starts: Vec<i32> = self.model.stored.iter().zip(&*self.model.numbers).map(start).collect();
+        Side::of(&Second, &Case { call: Call::Build, starts: starts.into(), ..self.model.clone() }).left
+    }
+
+    /// The log holds what can be taken back, and the record what was kept and not taken back, and the blanks; the values and
+    /// the reasons are those worked out afresh.
     fn holds(&self) {
+        let afresh = self.afresh();
+        assert_eq!(*self.model.stored, *afresh.stored, "the values worked out afresh");
+        assert_eq!(*self.model.reasons, *afresh.reasons, "the reasons worked out afresh");
+        assert_eq!(self.model.reasons.last(), Some(&BEHIND), "what lies behind the reasons");
         assert_eq!((self.model.logged(), self.model.session.kept), (self.before.len(), self.kept));
         assert_eq!(self.model.session.blanks, self.model.blanks(), "the number of blanks");
         let within = |variable: usize| {

@@ -44,6 +44,7 @@ impl Search<'_> {
         smaller |= self.without(n, plain_bounds);
         smaller |= self.without(n, plain_values);
         smaller |= self.without(pairs, |case, pair| plain(&mut case.move_values, pair, 0));
+        smaller |= self.without(asked, |case, place| plain(&mut case.why, place, 0));
         smaller |= self.without(m, |case, row| plain(&mut case.params, row, 0));
         smaller |= self.without(e, |case, entry| plain(&mut case.coefs, entry, 1));
         smaller | self.try_case(plain_record)
@@ -93,14 +94,14 @@ fn cut(case: &mut Case) -> bool {
     let rows = [&mut case.kinds, &mut case.makes, &mut case.firsts, &mut case.counts, &mut case.order];
     let mut any = rows.into_iter().fold(false, |any, row| shorter(row, m) | any);
     any |= shorter(&mut case.params, m) | shorter(&mut case.vars, e) | shorter(&mut case.coefs, e);
-    any |= shorter(&mut case.numbers, n) | shorter(&mut case.flags, n);
+    any |= shorter(&mut case.numbers, n) | shorter(&mut case.flags, n) | shorter(&mut case.reasons, n);
     any |= shorter(&mut case.lows, n) | shorter(&mut case.highs, n);
     any |= shorter(&mut case.starts, n) | shorter(&mut case.stored, n) | shorter(&mut case.trial, n);
     any |= shorter(&mut case.reader_starts, n.saturating_add(1)) | shorter(&mut case.reader_places, e);
     any |= shorter(&mut case.move_vars, pairs) | shorter(&mut case.move_values, pairs);
     any |= shorter(&mut case.log_sizes, LOG_SIZES);
     any |= shorter(&mut case.log_vars, LOG_PLACES) | shorter(&mut case.log_values, LOG_PLACES);
-    any | shorter(&mut case.asked_vars, asked) | shorter(&mut case.results, asked)
+    any | shorter(&mut case.asked_vars, asked) | shorter(&mut case.results, asked) | shorter(&mut case.why, asked)
 }
 
 fn shorter<T: Element>(row: &mut Guarded<T>, length: usize) -> bool {
@@ -195,6 +196,7 @@ fn remove_asked(case: &mut Case, place: usize) -> bool {
     }
     remove(&mut case.asked_vars, place);
     remove(&mut case.results, place);
+    remove(&mut case.why, place);
     case.asked -= 1;
     true
 }
@@ -246,6 +248,7 @@ fn remove_variable(case: &mut Case, variable: usize) -> bool {
     remove(&mut case.numbers, variable);
     remove(&mut case.stored, variable);
     remove(&mut case.reader_starts, variable);
+    remove(&mut case.reasons, variable);
     remove(&mut case.trial, variable);
     remove(&mut case.flags, variable);
     case.n -= 1;
@@ -257,12 +260,13 @@ fn plain_bounds(case: &mut Case, variable: usize) -> bool {
     plain(&mut case.lows, variable, LOWEST) | plain(&mut case.highs, variable, HIGHEST)
 }
 
-/// Puts 0 for a variable's start value, stored value and what its buffers held.
+/// Puts 0 for a variable's start value, stored value and reason, and what its buffers held.
 fn plain_values(case: &mut Case, variable: usize) -> bool {
     plain(&mut case.stored, variable, 0)
         | plain(&mut case.starts, variable, 0)
         | plain(&mut case.trial, variable, 0)
         | plain(&mut case.flags, variable, 0)
+        | plain(&mut case.reasons, variable, 0)
 }
 
 /// Puts 0 for the counters of the record, or as few moves kept as the log holds; the number of blanks stays, but for a build.

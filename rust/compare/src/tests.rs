@@ -23,8 +23,8 @@ pub fn random_calls(engine: &dyn Engine) {
     tally.assert_wide();
 }
 
-/// The tests of an engine: the runs that the specification names, both sides of the edge of every refusal, files there
-/// and back, the deepest models on a small stack, random calls beside the second implementation, long sessions of keeps
+/// The tests of an engine: the runs that the specification names, why values are blank, both sides of the edge of every
+/// refusal, files there and back, the deepest models on a small stack, random calls beside the second implementation, long sessions of keeps
 /// and takings back, the fuzz runs, files of both versions, and damaged files that are saved.
 /// The second expression is the engine whose calls have a stack of 2 MiB if their thread has.
 #[macro_export]
@@ -38,6 +38,11 @@ macro_rules! tests_of {
         #[test]
         fn keeps_and_takings_back() {
             $crate::hold(&$engine, $crate::takings::TAKINGS);
+        }
+
+        #[test]
+        fn reasons() {
+            $crate::hold(&$engine, $crate::reasons::REASONS);
         }
 
         #[test]

@@ -87,8 +87,11 @@ pub struct BoundsMut<'a> {
     pub highs: &'a mut [i32],
 }
 
-/// Buffers for `build` to fill: n numbers, m places of the order, n values, n + 1 starts and room for e readers; and the
-/// sizes of a log for it to empty.
+/// Buffers for `build` to fill: n numbers, m places of the order, n values, n + 1 starts and room for e readers, n reasons;
+/// and the sizes of a log for it to empty.
+///
+/// The reason of a variable says why it is blank: 0 it has a value, 1 the result left the range, 2 the index is outside, 3
+/// the headway is 0 or less, 4 a blank input stopped the formula, 5 there are no departures. It is 0 for a search variable.
 #[derive(Debug)]
 pub struct Built<'a> {
     /// Each variable's topological number.
@@ -101,6 +104,8 @@ pub struct Built<'a> {
     pub reader_starts: &'a mut [u16],
     /// The rows that read each variable, ascending, each once; what lies beyond the last is not written.
     pub reader_places: &'a mut [u16],
+    /// Each variable's reason.
+    pub reasons: &'a mut [u8],
     /// The sizes of the log: the first place becomes 0, no move.
     pub log_sizes: &'a mut [u16],
 }
@@ -118,6 +123,8 @@ pub struct State<'a> {
     pub reader_starts: &'a [u16],
     /// The rows that read each variable, ascending, each once.
     pub reader_places: &'a [u16],
+    /// Each variable's reason; any byte may stand there.
+    pub reasons: &'a [u8],
 }
 
 /// A move: at most 64 pairs of a search variable and its new value.
@@ -140,7 +147,7 @@ pub struct Asked<'a> {
     pub vars: &'a [u16],
 }
 
-/// Buffers for `trial` to fill: a result for each place asked, n values, n flags.
+/// Buffers for `trial` to fill: a result for each place asked, n values, n flags, a reason for each place asked.
 #[derive(Debug)]
 pub struct Tried<'a> {
     /// The asked values in asking order.
@@ -149,6 +156,8 @@ pub struct Tried<'a> {
     pub trial: &'a mut [i32],
     /// 1 for each variable that was evaluated, 0 elsewhere.
     pub flags: &'a mut [u8],
+    /// The reasons of the asked values in asking order, the stored one of a variable that was not evaluated.
+    pub why: &'a mut [u8],
 }
 
 /// What a trial is lent besides the record, the tables and the bounds.
@@ -179,6 +188,9 @@ pub struct Keep<'a> {
     pub reader_starts: &'a [u16],
     /// The rows that read each variable, ascending, each once.
     pub reader_places: &'a [u16],
+    /// Each variable's reason, which changes where a formula was evaluated; 0 afterwards for a search variable. Any byte
+    /// may stand there before.
+    pub reasons: &'a mut [u8],
     /// The move to keep.
     pub moved: Move<'a>,
     /// 1 for each variable that was evaluated, 0 elsewhere.
@@ -204,6 +216,9 @@ pub struct TakeBack<'a> {
     pub reader_starts: &'a [u16],
     /// The rows that read each variable, ascending, each once.
     pub reader_places: &'a [u16],
+    /// Each variable's reason, which changes where a formula was evaluated; 0 afterwards for a search variable. Any byte
+    /// may stand there before.
+    pub reasons: &'a mut [u8],
     /// 1 for each variable that was evaluated, 0 elsewhere.
     pub flags: &'a mut [u8],
     /// How many moves the log holds, one less afterwards, and how many pairs each has, the oldest first.

@@ -10,13 +10,13 @@ pub use ::lent::{
     Trial, Tried,
 };
 
-/// Fills numbers, order, stored values and the index of readers from tables and start values, and empties the log; gives
-/// the evaluations, m. Refusals 1 to 7.
+/// Fills numbers, order, stored values, the index of readers and the reasons from tables and start values, and empties the
+/// log; gives the evaluations, m. Refusals 1 to 7.
 #[rustfmt::skip]
 pub fn build(session: &mut Session, tables: Tables<'_>, bounds: Bounds<'_>, starts: &[i32], built: Built<'_>) -> Outcome {
     let Tables { n, m, e, kinds, makes, params, firsts, counts, vars, coefs } = tables;
     let Bounds { lows, highs } = bounds;
-    let Built { numbers, order, stored, reader_starts, reader_places, log_sizes } = built;
+    let Built { numbers, order, stored, reader_starts, reader_places, reasons, log_sizes } = built;
     // SAFETY: each pointer goes with the length of its own slice, and no slice that is written overlaps another.
     unsafe {
         sys::lukhandro_build(
@@ -27,20 +27,21 @@ pub fn build(session: &mut Session, tables: Tables<'_>, bounds: Bounds<'_>, star
             starts.as_ptr(), starts.len(),
             numbers.as_mut_ptr(), numbers.len(), order.as_mut_ptr(), order.len(),
             stored.as_mut_ptr(), stored.len(), reader_starts.as_mut_ptr(), reader_starts.len(),
-            reader_places.as_mut_ptr(), reader_places.len(), log_sizes.as_mut_ptr(), log_sizes.len(),
+            reader_places.as_mut_ptr(), reader_places.len(), reasons.as_mut_ptr(), reasons.len(),
+            log_sizes.as_mut_ptr(), log_sizes.len(),
         )
     }
 }
 
-/// Tries a move by a route, and fills results, trial values and flags; gives the evaluations. Refusals 1 to 13
-/// without 6, and 17 and 19.
+/// Tries a move by a route, and fills results and their reasons, trial values and flags; gives the evaluations. Refusals 1
+/// to 13 without 6, and 17 and 19.
 #[rustfmt::skip]
 pub fn trial(session: &mut Session, tables: Tables<'_>, bounds: Bounds<'_>, lent: Trial<'_>) -> Outcome {
     let Tables { n, m, e, kinds, makes, params, firsts, counts, vars, coefs } = tables;
     let Bounds { lows, highs } = bounds;
     let Trial { state, moved, asked, route, tried } = lent;
-    let State { numbers, order, stored, reader_starts, reader_places } = state;
-    let Tried { results, trial, flags } = tried;
+    let State { numbers, order, stored, reader_starts, reader_places, reasons } = state;
+    let Tried { results, trial, flags, why } = tried;
     // SAFETY: each pointer goes with the length of its own slice, and no slice that is written overlaps another.
     unsafe {
         sys::lukhandro_trial(
@@ -50,20 +51,23 @@ pub fn trial(session: &mut Session, tables: Tables<'_>, bounds: Bounds<'_>, lent
             coefs.as_ptr(), coefs.len(), lows.as_ptr(), lows.len(), highs.as_ptr(), highs.len(),
             numbers.as_ptr(), numbers.len(), order.as_ptr(), order.len(),
             stored.as_ptr(), stored.len(), reader_starts.as_ptr(), reader_starts.len(),
-            reader_places.as_ptr(), reader_places.len(), moved.pairs, moved.vars.as_ptr(), moved.vars.len(),
-            moved.values.as_ptr(), moved.values.len(), asked.asked, asked.vars.as_ptr(), asked.vars.len(), route,
+            reader_places.as_ptr(), reader_places.len(), reasons.as_ptr(), reasons.len(),
+            moved.pairs, moved.vars.as_ptr(), moved.vars.len(), moved.values.as_ptr(), moved.values.len(),
+            asked.asked, asked.vars.as_ptr(), asked.vars.len(), route,
             results.as_mut_ptr(), results.len(), trial.as_mut_ptr(), trial.len(), flags.as_mut_ptr(), flags.len(),
+            why.as_mut_ptr(), why.len(),
         )
     }
 }
 
-/// Keeps a move by route 1: changes the stored values, fills the flags, and notes the move in the log; gives the
-/// evaluations. Refusals 1 to 12 without 6 and 9, and 16, 17 and 19.
+/// Keeps a move by route 1: changes the stored values and reasons, fills the flags, and notes the move in the log; gives
+/// the evaluations. Refusals 1 to 12 without 6 and 9, and 16, 17 and 19.
 #[rustfmt::skip]
 pub fn keep(session: &mut Session, tables: Tables<'_>, bounds: Bounds<'_>, lent: Keep<'_>) -> Outcome {
     let Tables { n, m, e, kinds, makes, params, firsts, counts, vars, coefs } = tables;
     let Bounds { lows, highs } = bounds;
-    let Keep { numbers, order, stored, reader_starts, reader_places, moved, flags, log_sizes, log_vars, log_values } = lent;
+    let Keep { numbers, order, stored, reader_starts, reader_places, reasons, .. } = lent;
+    let Keep { moved, flags, log_sizes, log_vars, log_values, .. } = lent;
     // SAFETY: each pointer goes with the length of its own slice, and no slice that is written overlaps another.
     unsafe {
         sys::lukhandro_keep(
@@ -73,21 +77,23 @@ pub fn keep(session: &mut Session, tables: Tables<'_>, bounds: Bounds<'_>, lent:
             coefs.as_ptr(), coefs.len(), lows.as_ptr(), lows.len(), highs.as_ptr(), highs.len(),
             numbers.as_ptr(), numbers.len(), order.as_ptr(), order.len(),
             stored.as_mut_ptr(), stored.len(), reader_starts.as_ptr(), reader_starts.len(),
-            reader_places.as_ptr(), reader_places.len(), moved.pairs, moved.vars.as_ptr(), moved.vars.len(),
-            moved.values.as_ptr(), moved.values.len(), flags.as_mut_ptr(), flags.len(),
+            reader_places.as_ptr(), reader_places.len(), reasons.as_mut_ptr(), reasons.len(),
+            moved.pairs, moved.vars.as_ptr(), moved.vars.len(), moved.values.as_ptr(), moved.values.len(),
+            flags.as_mut_ptr(), flags.len(),
             log_sizes.as_mut_ptr(), log_sizes.len(), log_vars.as_mut_ptr(), log_vars.len(),
             log_values.as_mut_ptr(), log_values.len(),
         )
     }
 }
 
-/// Takes the latest kept move back by route 1: changes the stored values, fills the flags, and takes the move off the log;
-/// gives the evaluations. Refusals 1 to 5, 7, 8, 16, 19, and 15 if the log holds no move.
+/// Takes the latest kept move back by route 1: changes the stored values and reasons, fills the flags, and takes the move off
+/// the log; gives the evaluations. Refusals 1 to 5, 7, 8, 16, 19, and 15 if the log holds no move.
 #[rustfmt::skip]
 pub fn take_back(session: &mut Session, tables: Tables<'_>, bounds: Bounds<'_>, lent: TakeBack<'_>) -> Outcome {
     let Tables { n, m, e, kinds, makes, params, firsts, counts, vars, coefs } = tables;
     let Bounds { lows, highs } = bounds;
-    let TakeBack { numbers, order, stored, reader_starts, reader_places, flags, log_sizes, log_vars, log_values } = lent;
+    let TakeBack { numbers, order, stored, reader_starts, reader_places, reasons, .. } = lent;
+    let TakeBack { flags, log_sizes, log_vars, log_values, .. } = lent;
     // SAFETY: each pointer goes with the length of its own slice, and no slice that is written overlaps another.
     unsafe {
         sys::lukhandro_take_back(
@@ -97,7 +103,8 @@ pub fn take_back(session: &mut Session, tables: Tables<'_>, bounds: Bounds<'_>, 
             coefs.as_ptr(), coefs.len(), lows.as_ptr(), lows.len(), highs.as_ptr(), highs.len(),
             numbers.as_ptr(), numbers.len(), order.as_ptr(), order.len(),
             stored.as_mut_ptr(), stored.len(), reader_starts.as_ptr(), reader_starts.len(),
-            reader_places.as_ptr(), reader_places.len(), flags.as_mut_ptr(), flags.len(),
+            reader_places.as_ptr(), reader_places.len(), reasons.as_mut_ptr(), reasons.len(),
+            flags.as_mut_ptr(), flags.len(),
             log_sizes.as_mut_ptr(), log_sizes.len(), log_vars.as_ptr(), log_vars.len(),
             log_values.as_ptr(), log_values.len(),
         )

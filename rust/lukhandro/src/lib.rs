@@ -18,6 +18,9 @@
 //! # Ok::<(), lukhandro::Refused>(())
 //! ```
 //!
+//! A value that cannot be worked out is blank, and has a [`Reason`]: [`Model::reason`] gives that of a stored value, and
+//! [`Trial::reason`] that of a value which a trial was asked for.
+//!
 //! [`salvage`] saves what is whole and good in a damaged model file, and the command of that name does so for a file on its
 //! standard input.
 //!
@@ -35,6 +38,7 @@ compile_error!("lukhandro links the archive of the proved engine, which is for x
 
 pub mod lent;
 mod model;
+mod reason;
 mod refused;
 mod row;
 mod salvage;
@@ -42,6 +46,7 @@ pub mod sys;
 mod versions;
 
 pub use model::{Model, Trial};
+pub use reason::Reason;
 pub use refused::Refused;
 pub use row::{Kind, Route, Row};
 pub use salvage::{Salvage, salvage};

@@ -5,7 +5,9 @@ use crate::lent::{
     TakeBack, Tried,
 };
 use crate::sys::ReadOutcome;
-use crate::{BLANK, HIGHEST, LOWEST, MOST_ASKED, MOST_ENTRIES, MOST_PAIRS, MOST_VARIABLES, Refused, Route, Row};
+use crate::{
+    BLANK, HIGHEST, LOWEST, MOST_ASKED, MOST_ENTRIES, MOST_PAIRS, MOST_VARIABLES, Reason, Refused, Route, Row,
+};
 
 /// A model with its values and a log of its kept moves, built and ready to try moves, keep them and take them back.
 ///
@@ -47,9 +49,11 @@ pub struct Model {
     stored: Vec<i32>,
     reader_starts: Vec<u16>,
     reader_places: Vec<u16>,
+    reasons: Vec<u8>,
     results: [i32; MOST_ASKED],
     trial: Vec<i32>,
     flags: Vec<u8>,
+    why: [u8; MOST_ASKED],
     log_sizes: [u16; LOG_SIZES],
     log_vars: Vec<u16>,
     log_values: Vec<i32>,
@@ -66,6 +70,34 @@ pub struct Trial<'a> {
     pub values: &'a [i32],
     /// 1 for each variable that was evaluated, 0 elsewhere.
     pub flags: &'a [u8],
+    /// The reasons of the asked values in asking order: 0 for one that is not blank, else the number of its [`Reason`].
+    pub why: &'a [u8],
+}
+
+impl Trial<'_> {
+    /// Why the value asked at this place is blank; none if it is not, or there is no such place.
+    ///
+    /// ```
+    /// use lukhandro::{BLANK, Model, Reason, Route, Row};
+    ///
+    /// let rows = [Row::departures(3, 0, 1, 2), Row::last(4, 0, 1, 2), Row::linear(5, 2, &[(3, 4)])];
+    /// let mut sheet = Model::build(&[25200, 28800, 600, 0, 0, 0], &rows)?;
+    ///
+    /// // What if the window closed when it opens?
+    /// let tried = sheet.trial(&[(1, 25200)], &[3, 4], Route::MarkGuided)?;
+    /// assert_eq!(tried.results, [0, BLANK]);
+    /// assert_eq!((tried.reason(0), tried.reason(1)), (None, Some(Reason::NoDepartures)));
+    ///
+    /// // A headway of 0 leaves no departures to be counted, and no crews either.
+    /// let tried = sheet.trial(&[(2, 0)], &[3, 5], Route::MarkGuided)?;
+    /// assert_eq!(tried.reason(0), Some(Reason::HeadwayNotPositive));
+    /// assert_eq!(tried.reason(1), Some(Reason::BlankInput));
+    /// # Ok::<(), lukhandro::Refused>(())
+    /// ```
+    #[must_use]
+    pub fn reason(&self, place: usize) -> Option<Reason> {
+        self.why.get(place).copied().and_then(Reason::of)
+    }
 }
 
 /// The tables of a model, borrowed field by field so that its other buffers may be lent too.
@@ -250,7 +282,8 @@ impl Model {
         Ok((Model { kinds, makes, params, firsts, counts, vars, coefs, ..Model::empty(n, m) }, starts))
     }
 
-    /// Tries a move: gives the values of the asked variables as they would be, and changes none that is stored.
+    /// Tries a move: gives the values of the asked variables as they would be, with the reasons of those that would be blank,
+    /// and changes none that is stored.
     ///
     /// # Errors
     /// Refusal 1 for more than 64 pairs or more than 32 asked variables, and refusals 10 to 13 and 17.
@@ -263,15 +296,22 @@ impl Model {
                 stored: &self.stored,
                 reader_starts: &self.reader_starts,
                 reader_places: &self.reader_places,
+                reasons: &self.reasons,
             },
             moved: moved.lent(),
             asked: Asked { asked: asked.len(), vars: asked },
             route: route as u32,
-            tried: Tried { results: &mut self.results, trial: &mut self.trial, flags: &mut self.flags },
+            tried: Tried {
+                results: &mut self.results,
+                trial: &mut self.trial,
+                flags: &mut self.flags,
+                why: &mut self.why,
+            },
         };
         let evaluations = lent::trial(&mut self.session, tables_of!(self), bounds_of!(self), trial).judged()?;
         let results = self.results.get(..asked.len()).unwrap_or(&[]);
-        Ok(Trial { evaluations, results, values: &self.trial, flags: &self.flags })
+        let why = self.why.get(..asked.len()).unwrap_or(&[]);
+        Ok(Trial { evaluations, results, values: &self.trial, flags: &self.flags, why })
     }
 
     /// Keeps a move: changes the stored values, and gives the number of formulas evaluated. The latest 64 kept moves can be
@@ -300,6 +340,7 @@ impl Model {
             stored: &mut self.stored,
             reader_starts: &self.reader_starts,
             reader_places: &self.reader_places,
+            reasons: &mut self.reasons,
             moved: moved.lent(),
             flags: &mut self.flags,
             log_sizes: &mut self.log_sizes,
@@ -309,7 +350,8 @@ impl Model {
         lent::keep(&mut self.session, tables_of!(self), bounds_of!(self), keep).judged()
     }
 
-    /// Takes the latest kept move back: the stored values are those before it again. Gives the number of formulas evaluated.
+    /// Takes the latest kept move back: the stored values are those before it again, and so are their reasons. Gives the
+    /// number of formulas evaluated.
     ///
     /// ```
     /// use lukhandro::{Model, Row};
@@ -338,6 +380,7 @@ impl Model {
             stored: &mut self.stored,
             reader_starts: &self.reader_starts,
             reader_places: &self.reader_places,
+            reasons: &mut self.reasons,
             flags: &mut self.flags,
             log_sizes: &mut self.log_sizes,
             log_vars: &self.log_vars,
@@ -378,6 +421,33 @@ impl Model {
     #[must_use]
     pub fn value(&self, variable: u16) -> Option<i32> {
         self.stored.get(usize::from(variable)).copied().filter(|&value| value != BLANK)
+    }
+
+    /// Why a variable is blank; none if it has a value, or there is no such variable.
+    ///
+    /// ```
+    /// use lukhandro::{Model, Reason, Row};
+    ///
+    /// // The departures of a window, the last of them, and the one that an index chooses.
+    /// let rows = [Row::departures(4, 0, 1, 2), Row::last(5, 0, 1, 2), Row::element(6, 3, &[4, 5])];
+    /// let mut sheet = Model::build(&[25200, 25200, 600, 1, 0, 0, 0], &rows)?;
+    /// assert_eq!((sheet.value(4), sheet.reason(4)), (Some(0), None));
+    /// assert_eq!((sheet.value(5), sheet.reason(5)), (None, Some(Reason::NoDepartures)));
+    /// assert_eq!((sheet.value(6), sheet.reason(6)), (None, Some(Reason::BlankInput)));
+    ///
+    /// sheet.keep(&[(3, 2)])?;
+    /// assert_eq!(sheet.reason(6), Some(Reason::IndexOutside));
+    /// # Ok::<(), lukhandro::Refused>(())
+    /// ```
+    #[must_use]
+    pub fn reason(&self, variable: u16) -> Option<Reason> {
+        self.reasons.get(usize::from(variable)).copied().and_then(Reason::of)
+    }
+
+    /// The reasons of all variables, a byte for each: 0 for one that is not blank, else the number of its [`Reason`].
+    #[must_use]
+    pub fn reasons(&self) -> &[u8] {
+        &self.reasons
     }
 
     /// The lowest and the highest number that a variable may be moved to; none if there is no such variable.
@@ -479,16 +549,18 @@ impl Model {
             stored: vec![0; n],
             reader_starts: vec![0; n + 1],
             reader_places: Vec::new(),
+            reasons: vec![0; n],
             results: [0; MOST_ASKED],
             trial: vec![0; n],
             flags: vec![0; n],
+            why: [0; MOST_ASKED],
             log_sizes: [0; LOG_SIZES],
             log_vars: vec![0; LOG_PLACES],
             log_values: vec![0; LOG_PLACES],
         }
     }
 
-    /// The model with its numbers, order, values and readers, and an empty log.
+    /// The model with its numbers, order, values, readers and reasons, and an empty log.
     fn built(mut self, starts: &[i32]) -> Result<Model, Refused> {
         self.reader_places.resize(self.vars.len(), 0);
         let tables = Tables { n: starts.len(), ..tables_of!(self) };
@@ -498,6 +570,7 @@ impl Model {
             stored: &mut self.stored,
             reader_starts: &mut self.reader_starts,
             reader_places: &mut self.reader_places,
+            reasons: &mut self.reasons,
             log_sizes: &mut self.log_sizes,
         };
         lent::build(&mut self.session, tables, bounds_of!(self), starts, built).judged()?;

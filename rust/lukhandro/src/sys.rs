@@ -113,7 +113,7 @@ impl SalvageOutcome {
 
 #[rustfmt::skip]
 unsafe extern "C" {
-    /// Numbers, order, values and readers from tables and start values, and an empty log.
+    /// Numbers, order, values, readers and reasons from tables and start values, and an empty log.
     pub fn lukhandro_build(
         session: *mut Session, n: usize, m: usize, e: usize,
         kinds: *const u16, kinds_length: usize, makes: *const u16, makes_length: usize,
@@ -123,10 +123,11 @@ unsafe extern "C" {
         highs: *const i32, highs_length: usize, starts: *const i32, starts_length: usize,
         numbers: *mut u16, numbers_length: usize, order: *mut u16, order_length: usize,
         stored: *mut i32, stored_length: usize, reader_starts: *mut u16, reader_starts_length: usize,
-        reader_places: *mut u16, reader_places_length: usize, log_sizes: *mut u16, log_sizes_length: usize,
+        reader_places: *mut u16, reader_places_length: usize, reasons: *mut u8, reasons_length: usize,
+        log_sizes: *mut u16, log_sizes_length: usize,
     ) -> Outcome;
 
-    /// A move tried by a route.
+    /// A move tried by a route, with the reasons of the values asked.
     pub fn lukhandro_trial(
         session: *mut Session, n: usize, m: usize, e: usize,
         kinds: *const u16, kinds_length: usize, makes: *const u16, makes_length: usize,
@@ -136,11 +137,12 @@ unsafe extern "C" {
         highs: *const i32, highs_length: usize, numbers: *const u16, numbers_length: usize,
         order: *const u16, order_length: usize, stored: *const i32, stored_length: usize,
         reader_starts: *const u16, reader_starts_length: usize, reader_places: *const u16, reader_places_length: usize,
+        reasons: *const u8, reasons_length: usize,
         pairs: usize, move_vars: *const u16, move_vars_length: usize,
         move_values: *const i32, move_values_length: usize,
         asked: usize, asked_vars: *const u16, asked_vars_length: usize, route: u32,
         results: *mut i32, results_length: usize, trial: *mut i32, trial_length: usize,
-        flags: *mut u8, flags_length: usize,
+        flags: *mut u8, flags_length: usize, why: *mut u8, why_length: usize,
     ) -> Outcome;
 
     /// A move kept.
@@ -153,6 +155,7 @@ unsafe extern "C" {
         highs: *const i32, highs_length: usize, numbers: *const u16, numbers_length: usize,
         order: *const u16, order_length: usize, stored: *mut i32, stored_length: usize,
         reader_starts: *const u16, reader_starts_length: usize, reader_places: *const u16, reader_places_length: usize,
+        reasons: *mut u8, reasons_length: usize,
         pairs: usize, move_vars: *const u16, move_vars_length: usize,
         move_values: *const i32, move_values_length: usize,
         flags: *mut u8, flags_length: usize, log_sizes: *mut u16, log_sizes_length: usize,
@@ -169,6 +172,7 @@ unsafe extern "C" {
         highs: *const i32, highs_length: usize, numbers: *const u16, numbers_length: usize,
         order: *const u16, order_length: usize, stored: *mut i32, stored_length: usize,
         reader_starts: *const u16, reader_starts_length: usize, reader_places: *const u16, reader_places_length: usize,
+        reasons: *mut u8, reasons_length: usize,
         flags: *mut u8, flags_length: usize, log_sizes: *mut u16, log_sizes_length: usize,
         log_vars: *const u16, log_vars_length: usize, log_values: *const i32, log_values_length: usize,
     ) -> Outcome;

@@ -1,8 +1,8 @@
 //! The model that owns its buffers.
 
 use lukhandro::{
-    BLANK, FULL, HIGHEST, Kind, LOWEST, MOST_LOGGED, Model, Refused, Route, Row, Salvage, salvage, to_version_1,
-    to_version_2,
+    BLANK, FULL, HIGHEST, Kind, LOWEST, MOST_LOGGED, Model, Reason, Refused, Route, Row, Salvage, salvage,
+    to_version_1, to_version_2,
 };
 
 fn refused(number: u32, place: u32) -> Refused {
@@ -106,6 +106,55 @@ fn the_number_of_blanks() {
     for before in numbers.iter().rev().skip(1) {
         sheet.take_back().expect("a kept move");
         assert_eq!((sheet.blanks(), counted(&sheet)), (*before, *before));
+    }
+}
+
+#[test]
+fn why_a_value_is_blank() {
+    let mut sheet = model_a();
+    assert_eq!(sheet.reasons(), [0; 6]);
+    let mut reasons = vec![[0; 6]];
+    for (variable, value, after) in [
+        (2, 0, [0, 0, 0, 3, 3, 4]),
+        (1, 25200, [0, 0, 0, 3, 3, 4]),
+        (2, 600, [0, 0, 0, 0, 5, 0]),
+        (2, 1, [0, 0, 0, 0, 5, 0]),
+        (1, HIGHEST, [0, 0, 0, 0, 0, 1]),
+        (0, LOWEST, [0, 0, 0, 1, 0, 4]),
+    ] {
+        for route in [Route::InputToOutput, Route::OutputToInput, Route::MarkGuided] {
+            let tried = sheet.trial(&[(variable, value)], &[3, 4, 5, 0, 5], route).expect("a trial");
+            assert_eq!(tried.why, [after[3], after[4], after[5], 0, after[5]]);
+            assert_eq!((tried.reason(2), tried.reason(3), tried.reason(5)), (Reason::of(after[5]), None, None));
+            for (&value, &why) in tried.results.iter().zip(tried.why) {
+                assert_eq!(value == BLANK, why != 0);
+            }
+        }
+        assert_eq!(sheet.reasons(), reasons[reasons.len() - 1], "a trial stores no reason");
+        sheet.keep(&[(variable, value)]).expect("a keep");
+        assert_eq!(sheet.reasons(), after);
+        reasons.push(after);
+    }
+    assert_eq!((sheet.reason(3), sheet.reason(4)), (Some(Reason::LeftRange), None));
+    assert_eq!((sheet.reason(5), sheet.reason(6), sheet.reason(65535)), (Some(Reason::BlankInput), None, None));
+    sheet.keep(&[(3, 1)]).expect_err("a made variable");
+    let again = Model::read(&sheet.write().expect("a file")).expect("a model");
+    assert_eq!(again.reasons(), sheet.reasons());
+    for before in reasons.iter().rev().skip(1) {
+        sheet.take_back().expect("a kept move");
+        assert_eq!(sheet.reasons(), before);
+    }
+}
+
+#[test]
+fn every_reason_has_its_number_and_a_sentence() {
+    for number in 1..=5 {
+        let reason = Reason::of(number).expect("a reason");
+        assert_eq!(reason as u8, number);
+        assert!(!reason.to_string().is_empty());
+    }
+    for number in [0, 6, 255] {
+        assert_eq!(Reason::of(number), None);
     }
 }
 
@@ -249,7 +298,7 @@ fn models_that_are_too_large() {
     assert_eq!(Model::build(&[1, 0], &[row(257)]).unwrap_err(), refused(3, 0));
     assert_eq!(Model::build(&[1, 0], &[row(70_000)]).unwrap_err(), refused(1, 0));
     assert_eq!(Model::build(&[], &[]).unwrap_err(), refused(1, 0));
-    assert!(Model::build(&[1; 4096], &[]).is_ok());
+    assert_eq!(Model::build(&[1; 4096], &[]).expect("a model").reasons(), [0; 4096]);
     assert_eq!(Model::build(&[1; 4097], &[]).unwrap_err(), refused(1, 0));
 }
 

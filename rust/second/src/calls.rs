@@ -5,10 +5,11 @@ use crate::checks::{self, Makers, asked_fits, fits, move_fits, state_fits, table
 use crate::log::{Log, LogMut, sizes_fit};
 use crate::parts::{counted_move, counted_state, counted_tables};
 use crate::readers::{self, Index, Readers};
-use crate::{Refused, order, routes};
+use crate::{Refused, order, reasons, routes};
 use lent::{Bounds, Built, Keep, Move, Session, State, Tables, TakeBack, Trial};
 
-/// Fills numbers, order, stored values and the index of readers, and empties the log; gives the number of evaluations, m.
+/// Fills numbers, order, stored values, the index of readers and the reasons, and empties the log; gives the number of
+/// evaluations, m.
 ///
 /// # Errors
 /// Refusals 1 to 7.
@@ -20,8 +21,8 @@ pub fn build(
     built: Built<'_>,
 ) -> Result<u32, Refused> {
     let Tables { n, m, .. } = tables;
-    let Built { numbers: lent_numbers, order, stored, reader_starts, reader_places, log_sizes } = built;
-    let state = State { numbers: lent_numbers, order, stored, reader_starts, reader_places };
+    let Built { numbers: lent_numbers, order, stored, reader_starts, reader_places, reasons, log_sizes } = built;
+    let state = State { numbers: lent_numbers, order, stored, reader_starts, reader_places, reasons };
     fits(&[
         tables_fit(&tables) && bounds_fit(&bounds, n),
         starts.len() >= n,
@@ -40,12 +41,14 @@ pub fn build(
     order::fill_order(&tables, &numbers, order);
     stored.copy_from_slice(&starts[..n]);
     routes::fill_values(&tables, order, stored);
+    reasons::fill(&tables, stored, &mut reasons[..n]);
     log_sizes[0] = 0;
     *session = Session { kept: 0, evaluations: m as u32, blanks: checks::blanks(stored) };
     Ok(session.evaluations)
 }
 
-/// Tries a move by a route, and fills the asked values, the trial values and the flags; gives the evaluations.
+/// Tries a move by a route, and fills the asked values and their reasons, the trial values and the flags; gives the
+/// evaluations.
 ///
 /// # Errors
 /// Refusals 1 to 13 without 6, and 17 and 19.
@@ -54,7 +57,7 @@ pub fn trial(session: &mut Session, tables: Tables<'_>, bounds: Bounds<'_>, lent
     let Trial { state, moved, asked, route, tried } = lent;
     fits(&[
         tables_fit(&tables) && bounds_fit(&bounds, tables.n) && state_fits(&state, &tables),
-        move_fits(&moved) && asked_fits(&asked, tried.results),
+        move_fits(&moved) && asked_fits(&asked, &tried),
         tried.trial.len() >= n && tried.flags.len() >= n,
     ])?;
     let (tables, state, moved) = (counted_tables(&tables), counted_state(&state, &tables), counted_move(&moved));
@@ -73,25 +76,30 @@ pub fn trial(session: &mut Session, tables: Tables<'_>, bounds: Bounds<'_>, lent
     session.evaluations = if route == 1 {
         routes::sweep(&tables, state.order, readers, &changed, values, flags)
     } else {
-        let waiting = if route == 2 { makers } else { routes::marked(&tables, readers, changed) };
+        let waiting = if route == 2 { makers.clone() } else { routes::marked(&tables, readers, changed) };
         let mut asking = routes::Asking { tables: &tables, waiting, values, flags };
         asked.iter().map(|&variable| asking.ask(variable)).sum()
     };
-    for (result, &variable) in tried.results.iter_mut().zip(asked) {
-        *result = tried.trial[usize::from(variable)];
+    for ((result, why), &variable) in tried.results.iter_mut().zip(tried.why).zip(asked) {
+        let variable = usize::from(variable);
+        *result = values[variable];
+        *why = match flags[variable] {
+            1 => reasons::made_reason(&tables, makers[variable], values),
+            _ => state.reasons[variable],
+        };
     }
     Ok(session.evaluations)
 }
 
-/// Keeps a move by route 1: changes the stored values, fills the flags, and notes the move in the log; gives the
-/// evaluations.
+/// Keeps a move by route 1: changes the stored values and their reasons, fills the flags, and notes the move in the log;
+/// gives the evaluations.
 ///
 /// # Errors
 /// Refusals 1 to 12 without 6 and 9, and 16, 17 and 19.
 pub fn keep(session: &mut Session, tables: Tables<'_>, bounds: Bounds<'_>, lent: Keep<'_>) -> Result<u32, Refused> {
-    let Keep { numbers, order, stored, reader_starts, reader_places, .. } = lent;
+    let Keep { numbers, order, stored, reader_starts, reader_places, reasons, .. } = lent;
     let Keep { moved, flags, log_sizes: sizes, log_vars: vars, log_values: values, .. } = lent;
-    let state = State { numbers, order, stored, reader_starts, reader_places };
+    let state = State { numbers, order, stored, reader_starts, reader_places, reasons };
     let log = Log { sizes, vars, values };
     fits(&[
         tables_fit(&tables) && bounds_fit(&bounds, tables.n) && state_fits(&state, &tables),
@@ -107,13 +115,14 @@ pub fn keep(session: &mut Session, tables: Tables<'_>, bounds: Bounds<'_>, lent:
     LogMut { sizes, vars, values }.note(state.stored, &moved);
     let readers = Readers { starts: reader_starts, rows: reader_places };
     session.evaluations = change(&tables, order, readers, &moved, stored, flags);
+    reasons::note(&tables, &makers, flags, stored, reasons);
     session.kept = session.kept.saturating_add(1);
     session.blanks = checks::blanks(&stored[..tables.n]);
     Ok(session.evaluations)
 }
 
-/// Takes the latest kept move back by route 1: its variables get the values that they had before it; fills the flags, and
-/// takes the move off the log. Gives the evaluations.
+/// Takes the latest kept move back by route 1: its variables get the values that they had before it; changes the reasons,
+/// fills the flags, and takes the move off the log. Gives the evaluations.
 ///
 /// # Errors
 /// Refusals 1 to 5, 8, 19, 7, 16 and 15.
@@ -123,9 +132,9 @@ pub fn take_back(
     bounds: Bounds<'_>,
     lent: TakeBack<'_>,
 ) -> Result<u32, Refused> {
-    let TakeBack { numbers, order, stored, reader_starts, reader_places, .. } = lent;
+    let TakeBack { numbers, order, stored, reader_starts, reader_places, reasons, .. } = lent;
     let TakeBack { flags, log_sizes: sizes, log_vars: vars, log_values: values, .. } = lent;
-    let state = State { numbers, order, stored, reader_starts, reader_places };
+    let state = State { numbers, order, stored, reader_starts, reader_places, reasons };
     let log = Log { sizes, vars, values };
     fits(&[
         tables_fit(&tables) && bounds_fit(&bounds, tables.n) && state_fits(&state, &tables),
@@ -140,6 +149,7 @@ pub fn take_back(
 
     let readers = Readers { starts: reader_starts, rows: reader_places };
     session.evaluations = change(&tables, order, readers, &back, stored, flags);
+    reasons::note(&tables, &makers, flags, stored, reasons);
     if session.kept < u32::MAX {
         session.kept -= 1;
     }

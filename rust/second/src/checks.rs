@@ -4,7 +4,7 @@ use crate::bounds::{allow, first_bad, first_outside};
 use crate::formulas::{COUNT, DEPARTURES, ELEMENT, LAST, LINEAR, MAX, MIN, OVER, SHARED, suits};
 use crate::parts::{Row, pairs_of, rows_of};
 use crate::{BLANK, MOST_ASKED, MOST_ENTRIES, MOST_PAIRS, MOST_VARIABLES, Refused};
-use lent::{Asked, Bounds, Move, State, Tables};
+use lent::{Asked, Bounds, Move, State, Tables, Tried};
 
 const MOST_COEFFICIENT: u16 = 1_000;
 const MOST_PARAMETER: u32 = 1_000_000_000;
@@ -43,8 +43,10 @@ pub(crate) fn tables_fit(tables: &Tables<'_>) -> bool {
 
 /// Whether no buffer that build left is shorter than the counts ask.
 pub(crate) fn state_fits(state: &State<'_>, tables: &Tables<'_>) -> bool {
-    let State { numbers, order, stored, reader_starts, reader_places } = state;
-    [numbers.len(), stored.len(), reader_starts.len().saturating_sub(1)].iter().all(|&length| length >= tables.n)
+    let State { numbers, order, stored, reader_starts, reader_places, reasons } = state;
+    [numbers.len(), stored.len(), reader_starts.len().saturating_sub(1), reasons.len()]
+        .iter()
+        .all(|&length| length >= tables.n)
         && order.len() >= tables.m
         && reader_places.len() >= tables.e
 }
@@ -55,8 +57,9 @@ pub(crate) fn move_fits(moved: &Move<'_>) -> bool {
 }
 
 /// Whether the number asked is inside its bound and no buffer is shorter.
-pub(crate) fn asked_fits(asked: &Asked<'_>, results: &[i32]) -> bool {
-    asked.asked <= MOST_ASKED && asked.vars.len() >= asked.asked && results.len() >= asked.asked
+pub(crate) fn asked_fits(asked: &Asked<'_>, tried: &Tried<'_>) -> bool {
+    let rows = [asked.vars.len(), tried.results.len(), tried.why.len()];
+    asked.asked <= MOST_ASKED && rows.iter().all(|&length| length >= asked.asked)
 }
 
 /// Checks 2 to 5, and with them the makers. The tables and the bounds hold no more than the counts ask.

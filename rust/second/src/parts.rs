@@ -36,6 +36,7 @@ pub(crate) fn counted_state<'a>(state: &State<'a>, tables: &Tables<'_>) -> State
         stored: &state.stored[..n],
         reader_starts: &state.reader_starts[..=n],
         reader_places: &state.reader_places[..e],
+        reasons: &state.reasons[..n],
     }
 }
 

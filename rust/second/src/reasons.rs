@@ -3,7 +3,7 @@
 
 use crate::BLANK;
 use crate::formulas::{DEPARTURES, ELEMENT, LAST, MAX, MIN, chosen, input, inputs};
-use crate::parts::{Row, counted_tables, rows_of};
+use crate::parts::{Row, counted_tables, row_of, rows_of};
 use lent::Tables;
 
 const HAS_VALUE: u8 = 0;
@@ -17,15 +17,39 @@ const NO_DEPARTURES: u8 = 5;
 /// passed.
 #[must_use]
 pub fn reasons(tables: &Tables<'_>, values: &[i32]) -> Vec<u8> {
-    let mut reasons = vec![0; tables.n];
-    for row in rows_of(&counted_tables(tables)) {
-        reasons[row.makes] = row_reason(&row, values, values[row.makes]);
-    }
+    let mut reasons = vec![HAS_VALUE; tables.n];
+    fill(&counted_tables(tables), values, &mut reasons);
     reasons
 }
 
+/// What a build leaves: the reason of every variable over the values that it gave them, in n places.
+pub(crate) fn fill(tables: &Tables<'_>, values: &[i32], reasons: &mut [u8]) {
+    reasons.fill(HAS_VALUE);
+    for row in rows_of(tables) {
+        reasons[row.makes] = row_reason(&row, values, values[row.makes]);
+    }
+}
+
+/// What keep and taking back leave: the reasons of the variables that were evaluated, over the new values, and 0 for search
+/// variables. Those of the others stay, and what lies beyond the makers.
+pub(crate) fn note(tables: &Tables<'_>, makers: &[u16], flags: &[u8], values: &[i32], reasons: &mut [u8]) {
+    for (variable, (reason, &maker)) in reasons.iter_mut().zip(makers).enumerate() {
+        if maker == 0 {
+            *reason = HAS_VALUE;
+        } else if flags[variable] == 1 {
+            *reason = made_reason(tables, maker, values);
+        }
+    }
+}
+
+/// The reason of the variable that a maker, one more than its row, gave a value over these.
+pub(crate) fn made_reason(tables: &Tables<'_>, maker: u16, values: &[i32]) -> u8 {
+    let row = row_of(tables, usize::from(maker - 1));
+    row_reason(&row, values, values[row.makes])
+}
+
 /// The reason of the value that a row's formula gave over these values.
-pub(crate) fn row_reason(row: &Row<'_>, values: &[i32], value: i32) -> u8 {
+fn row_reason(row: &Row<'_>, values: &[i32], value: i32) -> u8 {
     if value != BLANK {
         return HAS_VALUE;
     }

@@ -219,6 +219,150 @@ fn finds_a_max_that_one_blank_input_blanks() {
     assert!(found(fault) <= 3);
 }
 
+/// Writes the reasons of a keep or a taking back anew where nothing was evaluated.
+fn note_all(call: Call, case: &mut Case) {
+    if case.call == call {
+        let afresh = second::reasons(&case.tables(), &case.stored);
+        for variable in (0..case.n).filter(|&variable| case.flags[variable] == 0).collect::<Vec<_>>() {
+            case.reasons[variable] = afresh[variable];
+        }
+    }
+}
+
+#[test]
+fn finds_a_reason_written_anew_where_nothing_was_evaluated() {
+    assert!(found(|_, case| note_all(Call::Keep, case)) <= 1);
+    assert!(found(|_, case| note_all(Call::TakeBack, case)) <= 1);
+}
+
+/// Leaves the reasons of search variables as they were lent to a call.
+fn leave_search(call: Call, lent: &Case, case: &mut Case) {
+    if case.call == call {
+        for variable in (0..case.n).filter(|&variable| !is_made(case, variable)).collect::<Vec<_>>() {
+            case.reasons[variable] = lent.reasons[variable];
+        }
+    }
+}
+
+#[test]
+fn finds_a_search_variable_that_keeps_its_reason() {
+    assert_eq!(found(|lent, case| leave_search(Call::Build, lent, case)), 0);
+    assert_eq!(found(|lent, case| leave_search(Call::Keep, lent, case)), 0);
+    assert_eq!(found(|lent, case| leave_search(Call::TakeBack, lent, case)), 0);
+}
+
+/// Puts another reason for each variable that a trial asks and did not evaluate.
+fn give_otherwise(case: &mut Case, reason: fn(&Case, usize) -> u8) {
+    for place in (0..case.asked).filter(|_| case.call == Call::Trial) {
+        let asked = usize::from(case.asked_vars[place]);
+        if case.flags[asked] == 0 {
+            case.why[place] = reason(case, asked);
+        }
+    }
+}
+
+#[test]
+fn finds_a_trial_that_does_not_give_the_stored_reason() {
+    let none = |_: &Case, case: &mut Case| give_otherwise(case, |_, _| 0);
+    assert_eq!(found(none), 0);
+    let anew = |_: &Case, case: &mut Case| {
+        give_otherwise(case, |case, asked| second::reasons(&case.tables(), &case.trial)[asked]);
+    };
+    assert_eq!(found(anew), 0);
+    let of_made = |_: &Case, case: &mut Case| {
+        give_otherwise(case, |case, asked| if is_made(case, asked) { 0 } else { case.reasons[asked] });
+    };
+    assert_eq!(found(of_made), 1);
+}
+
+#[test]
+fn finds_a_trial_that_gives_every_stored_reason() {
+    let fault = |_: &Case, case: &mut Case| {
+        for place in (0..case.asked).filter(|_| case.call == Call::Trial) {
+            case.why[place] = case.reasons[usize::from(case.asked_vars[place])];
+        }
+    };
+    assert_eq!(found(fault), 1);
+}
+
+#[test]
+fn finds_reasons_written_beyond_the_count() {
+    let stored = |_: &Case, case: &mut Case| case.reasons.put(case.n, 0);
+    assert_eq!(found(stored), 0);
+    let asked = |_: &Case, case: &mut Case| case.why.put(case.asked, 0);
+    assert_eq!(found(asked), 0);
+}
+
+#[test]
+fn finds_reasons_in_another_order() {
+    let headway_first = |_: &Case, case: &mut Case| {
+        for row in (0..case.m).filter(|&row| case.call == Call::Build && case.kinds[row] >= 8) {
+            let headway = usize::from(case.vars[usize::from(case.firsts[row]) + 2]);
+            if case.stored[headway] <= 0 {
+                case.reasons[usize::from(case.makes[row])] = 3;
+            }
+        }
+    };
+    assert!(found(headway_first) <= 2);
+    let chosen_blank_outside = |_: &Case, case: &mut Case| {
+        for row in (0..case.m).filter(|&row| case.call == Call::Build && case.kinds[row] == 4) {
+            let (index, made) = (case.vars[usize::from(case.firsts[row])], usize::from(case.makes[row]));
+            if case.stored[usize::from(index)] != BLANK && case.stored[made] == BLANK {
+                case.reasons[made] = 2;
+            }
+        }
+    };
+    assert!(found(chosen_blank_outside) <= 2);
+}
+
+/// An engine that takes rows of reasons that are too short.
+struct ShortReasons {
+    stored: bool,
+    asked: bool,
+}
+
+impl Engine for ShortReasons {
+    fn answer(&self, case: &mut Case) -> Answer {
+        let (reasons, why) = (case.reasons.len(), case.why.len());
+        if self.stored {
+            case.reasons.edit(|reasons| reasons.resize(reasons.len().max(case.n.min(4096)), 0));
+        }
+        if self.asked {
+            case.why.edit(|why| why.resize(why.len().max(case.asked.min(32)), 0));
+        }
+        let answer = Second.answer(case);
+        case.reasons.edit(|held| held.truncate(reasons));
+        case.why.edit(|held| held.truncate(why));
+        answer
+    }
+}
+
+#[test]
+fn finds_rows_of_reasons_that_may_be_too_short() {
+    for (stored, asked) in [(true, false), (false, true)] {
+        assert_eq!(found_in(&ShortReasons { stored, asked }).m, 0);
+    }
+}
+
+/// An engine that writes although it refuses.
+struct RefusedWrites(fn(&mut Case));
+
+impl Engine for RefusedWrites {
+    fn answer(&self, case: &mut Case) -> Answer {
+        let answer = Second.answer(case);
+        if answer.number != 0 {
+            self.0(case);
+        }
+        answer
+    }
+}
+
+#[test]
+fn finds_reasons_written_by_a_refused_call() {
+    assert_eq!(found_in(&RefusedWrites(|case| case.reasons.put(0, 0))).m, 0);
+    assert_eq!(found_in(&RefusedWrites(|case| case.why.put(0, 0))).m, 0);
+}
+
 /// An engine that goes by other bounds than it is lent.
 struct OtherBounds(fn(&mut Case));
 

@@ -5,6 +5,7 @@ mod naive;
 use compare::deep::deepest_models;
 use compare::edges::EDGES;
 use compare::files::FILES;
+use compare::reasons::REASONS;
 use compare::runs::{RUNS, model_a};
 use compare::salvages::{SALVAGES, damaged_files};
 use compare::sessions::long_sessions;
@@ -51,9 +52,22 @@ fn keeps_and_takings_back_by_the_definitions() {
 }
 
 #[test]
+fn reasons() {
+    hold(REASONS, &Second);
+}
+
+#[test]
+fn reasons_by_the_definitions() {
+    let tiny = |name: &str| !["4,096 variables", "the longest chain"].contains(&name);
+    let tests: Vec<_> = REASONS.iter().copied().filter(|(name, _)| tiny(name)).collect();
+    hold(&tests, &Naive);
+}
+
+#[test]
 fn refusals_by_the_definitions() {
-    let tiny =
-        |name: &str| !["1: counts", "4: bounds of 4,096 variables", "6", "14: bounds", "19: bounds"].contains(&name);
+    let large =
+        ["1: counts", "1: reasons of 4,096 variables", "4: bounds of 4,096 variables", "6", "14: bounds", "19: bounds"];
+    let tiny = |name: &str| !large.contains(&name);
     let tests: Vec<_> = EDGES.iter().copied().filter(|(name, _)| tiny(name)).collect();
     hold(&tests, &Naive);
 }

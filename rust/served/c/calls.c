@@ -5,7 +5,8 @@
 #define LENT(buffer) buffer, sizeof buffer / sizeof *buffer
 #define TABLES LENT(kinds), LENT(makes), LENT(params), LENT(firsts), LENT(counts), LENT(vars), LENT(coefs)
 #define BOUNDS LENT(lows), LENT(highs)
-#define BUILT LENT(numbers), LENT(order), LENT(stored), LENT(reader_starts), LENT(reader_places)
+#define INDEXED LENT(numbers), LENT(order), LENT(stored), LENT(reader_starts), LENT(reader_places)
+#define BUILT INDEXED, LENT(reasons)
 #define L LUKHANDRO_LOWEST
 #define H LUKHANDRO_HIGHEST
 #define LOG LENT(log_sizes), LENT(log_vars), LENT(log_values)
@@ -22,12 +23,16 @@ static int32_t results[2], trial[6];
 static int32_t lows[6] = {L, L, 0, L, L, L}, highs[6] = {H, H, 900, H, H, H};
 static int16_t coefs[7] = {1, 1, 1, 1, 1, 1, 4};
 static uint8_t flags[6], bytes[112], file[112], bounded[164];
+/* one place more than asked of each */
+static uint8_t reasons[7] = {9, 9, 9, 9, 9, 9, 9}, why[3] = {8, 8, 8};
 static lukhandro_session session = {9, 9, 9};
 
 static void print(const char *call, lukhandro_outcome outcome) {
     printf("%s %u %u %u, session %u %u %u, stored", call, outcome.number, outcome.place, outcome.evaluations,
         session.kept, session.evaluations, session.blanks);
     for (int variable = 3; variable < 6; variable++) printf(" %d", stored[variable]);
+    printf(", reasons");
+    for (int variable = 3; variable < 6; variable++) printf(" %u", reasons[variable]);
     printf("\n");
 }
 
@@ -50,8 +55,13 @@ int main(void) {
     printf("readers of 2 from place %u to %u: %u %u\n", reader_starts[2], reader_starts[3], reader_places[4],
         reader_places[5]);
     print("trial", lukhandro_trial(&session, 6, 3, 7, TABLES, BOUNDS, BUILT, MOVE, 2,
-        LENT(asked_vars), 3, LENT(results), LENT(trial), LENT(flags)));
+        LENT(asked_vars), 3, LENT(results), LENT(trial), LENT(flags), LENT(why)));
     printf("results %d %d, trial %d, flags %u %u %u\n", results[0], results[1], trial[1], flags[3], flags[4], flags[5]);
+    printf("why %u %u, beyond %u\n", why[0], why[1], why[2]);
+    print("trial", lukhandro_trial(&session, 6, 3, 7, TABLES, BOUNDS, BUILT, MOVE, 2,
+        LENT(asked_vars), 3, LENT(results), LENT(trial), LENT(flags), why, 1));
+    print("trial", lukhandro_trial(&session, 6, 3, 7, TABLES, BOUNDS, INDEXED, reasons, 5, MOVE, 2,
+        LENT(asked_vars), 3, LENT(results), LENT(trial), LENT(flags), LENT(why)));
     print("keep", lukhandro_keep(&session, 6, 3, 7, TABLES, BOUNDS, BUILT, MOVE, LENT(flags), LOG));
     printf("log of %u move: %u pair, variable %u from %d\n", log_sizes[0], log_sizes[1], log_vars[0], log_values[0]);
     print("keep", lukhandro_keep(&session, 6, 3, 7, TABLES, BOUNDS, BUILT, 1, asked_vars + 1, 1, LENT(move_values),
@@ -67,7 +77,13 @@ int main(void) {
     print("taking back", lukhandro_take_back(&session, 6, 3, 7, TABLES, BOUNDS, BUILT, LENT(flags), LOG));
     move_vars[0] = 2;
     move_values[0] = 0;
+    print("trial", lukhandro_trial(&session, 6, 3, 7, TABLES, BOUNDS, BUILT, MOVE, 2,
+        LENT(asked_vars), 2, LENT(results), LENT(trial), LENT(flags), LENT(why)));
+    printf("why %u %u, beyond %u\n", why[0], why[1], why[2]);
+    print("keep", lukhandro_keep(&session, 6, 3, 7, TABLES, BOUNDS, INDEXED, reasons, 5, MOVE, LENT(flags), LOG));
+    reasons[0] = 77;
     print("keep", lukhandro_keep(&session, 6, 3, 7, TABLES, BOUNDS, BUILT, MOVE, LENT(flags), LOG));
+    printf("reasons of search variables %u %u %u, beyond %u\n", reasons[0], reasons[1], reasons[2], reasons[6]);
     session.blanks = 2;
     print("taking back", lukhandro_take_back(&session, 6, 3, 7, TABLES, BOUNDS, BUILT, LENT(flags), LOG));
     session.blanks = 3;

@@ -16,13 +16,13 @@ enum call { BUILD, TRIAL, KEEP, TAKE_BACK, READ, WRITE, SALVAGE, READ_BOUNDED, W
 
 enum buffer {
     SESSION, KINDS, MAKES, PARAMS, FIRSTS, COUNTS, VARS, COEFS, LOWS, HIGHS, STARTS, NUMBERS, ORDER, STORED,
-    READER_STARTS, READER_PLACES, MOVE_VARS, MOVE_VALUES, ASKED_VARS, RESULTS, TRIED, FLAGS, LOG_SIZES, LOG_VARS, LOG_VALUES, BYTES,
-    SAVED, LIST, BUFFERS
+    READER_STARTS, READER_PLACES, REASONS, MOVE_VARS, MOVE_VALUES, ASKED_VARS, RESULTS, TRIED, FLAGS, WHY, LOG_SIZES, LOG_VARS,
+    LOG_VALUES, BYTES, SAVED, LIST, BUFFERS
 };
 
 /* Bytes of one element of each buffer; the record is three elements, its counters. */
 static const uint64_t width[BUFFERS] = {
-    4, 2, 2, 4, 2, 2, 2, 2, 4, 4, 4, 2, 2, 4, 2, 2, 2, 4, 2, 4, 4, 1, 2, 2, 4, 1, 1, 2};
+    4, 2, 2, 4, 2, 2, 2, 2, 4, 4, 4, 2, 2, 4, 2, 2, 1, 2, 4, 2, 4, 4, 1, 1, 2, 2, 4, 1, 1, 2};
 
 struct request {
     uint64_t call, n, m, e, pairs, asked, route;
@@ -83,7 +83,7 @@ static void take_block(void) {
     request.lent[which].length
 #define ROWS_AND_ENTRIES LENT(KINDS), LENT(MAKES), LENT(PARAMS), LENT(FIRSTS), LENT(COUNTS), LENT(VARS), LENT(COEFS)
 #define BOUNDS LENT(LOWS), LENT(HIGHS)
-#define BUILT LENT(NUMBERS), LENT(ORDER), LENT(STORED), LENT(READER_STARTS), LENT(READER_PLACES)
+#define BUILT LENT(NUMBERS), LENT(ORDER), LENT(STORED), LENT(READER_STARTS), LENT(READER_PLACES), LENT(REASONS)
 #define MOVE request.pairs, LENT(MOVE_VARS), LENT(MOVE_VALUES)
 #define LOG LENT(LOG_SIZES), LENT(LOG_VARS), LENT(LOG_VALUES)
 
@@ -112,7 +112,7 @@ static struct answer made(void) {
             LENT(LOG_SIZES)));
     case TRIAL:
         return of_call(lukhandro_trial(session, COUNTED, ROWS_AND_ENTRIES, BOUNDS, BUILT, MOVE, request.asked,
-            LENT(ASKED_VARS), (uint32_t)request.route, LENT(RESULTS), LENT(TRIED), LENT(FLAGS)));
+            LENT(ASKED_VARS), (uint32_t)request.route, LENT(RESULTS), LENT(TRIED), LENT(FLAGS), LENT(WHY)));
     case KEEP:
         return of_call(lukhandro_keep(session, COUNTED, ROWS_AND_ENTRIES, BOUNDS, BUILT, MOVE, LENT(FLAGS), LOG));
     case TAKE_BACK:

@@ -8,8 +8,8 @@ const GAP: u8 = 0x5A;
 /// Every buffer of a block begins at a multiple of this, guards and all.
 const ALIGNED: usize = 8;
 
-/// The bytes of a request before its block: 8 numbers, and the place and length of the record and the 27 buffers.
-const REQUEST: usize = 8 * (8 + 2 * 28);
+/// The bytes of a request before its block: 8 numbers, and the place and length of the record and the 29 buffers.
+const REQUEST: usize = 8 * (8 + 2 * 30);
 
 /// The bytes of an answer before its block.
 const ANSWER: usize = 4 * 9;

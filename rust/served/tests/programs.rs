@@ -21,6 +21,7 @@ number 0, place 0: 6 departures
 every twelve minutes: 5 departures, number 0
 taken back: 6 departures, number 0
 once more: number 15
+closed at seven: 0 departures, no last one for reason 5
 a slipped digit: number 17, place 0
 ";
     assert_eq!(printed("headway"), expected);
@@ -29,26 +30,33 @@ a slipped digit: number 17, place 0
 #[test]
 fn every_call_from_c() {
     let expected = "\
-build 0 0 3, session 0 3 0, stored 6 28200 26
+build 0 0 3, session 0 3 0, stored 6 28200 26, reasons 0 0 0
 readers of 2 from place 4 to 6: 0 1
-trial 0 0 3, session 0 3 0, stored 6 28200 26
+trial 0 0 3, session 0 3 0, stored 6 28200 26, reasons 0 0 0
 results 30 28800, trial 28801, flags 1 1 1
-keep 0 0 3, session 1 3 0, stored 7 28800 30
+why 0 0, beyond 8
+trial 1 0 0, session 0 3 0, stored 6 28200 26, reasons 0 0 0
+trial 1 0 0, session 0 3 0, stored 6 28200 26, reasons 0 0 0
+keep 0 0 3, session 1 3 0, stored 7 28800 30, reasons 0 0 0
 log of 1 move: 1 pair, variable 1 from 28800
-keep 10 0 0, session 1 3 0, stored 7 28800 30
-keep 8 0 0, session 1 3 0, stored 7 28800 30
-taking back 8 0 0, session 1 3 0, stored 7 28800 30
-taking back 16 0 0, session 1 3 0, stored 7 28800 30
-taking back 0 0 3, session 0 3 0, stored 6 28200 26
-taking back 15 0 0, session 0 3 0, stored 6 28200 26
-keep 0 0 3, session 1 3 3, stored -2147483648 -2147483648 -2147483648
-taking back 19 0 0, session 1 3 2, stored -2147483648 -2147483648 -2147483648
-taking back 0 0 3, session 0 3 0, stored 6 28200 26
-keep 17 0 0, session 0 3 0, stored 6 28200 26
-keep 4 3 0, session 0 3 0, stored 6 28200 26
-taking back 7 2 0, session 0 3 0, stored 6 28200 26
-build 1 0 0, session 0 3 0, stored 6 28200 26
-write 0 0 0, session 0 3 0, stored 6 28200 26
+keep 10 0 0, session 1 3 0, stored 7 28800 30, reasons 0 0 0
+keep 8 0 0, session 1 3 0, stored 7 28800 30, reasons 0 0 0
+taking back 8 0 0, session 1 3 0, stored 7 28800 30, reasons 0 0 0
+taking back 16 0 0, session 1 3 0, stored 7 28800 30, reasons 0 0 0
+taking back 0 0 3, session 0 3 0, stored 6 28200 26, reasons 0 0 0
+taking back 15 0 0, session 0 3 0, stored 6 28200 26, reasons 0 0 0
+trial 0 0 3, session 0 3 0, stored 6 28200 26, reasons 0 0 0
+why 4 3, beyond 8
+keep 1 0 0, session 0 3 0, stored 6 28200 26, reasons 0 0 0
+keep 0 0 3, session 1 3 3, stored -2147483648 -2147483648 -2147483648, reasons 3 3 4
+reasons of search variables 0 0 0, beyond 9
+taking back 19 0 0, session 1 3 2, stored -2147483648 -2147483648 -2147483648, reasons 3 3 4
+taking back 0 0 3, session 0 3 0, stored 6 28200 26, reasons 0 0 0
+keep 17 0 0, session 0 3 0, stored 6 28200 26, reasons 0 0 0
+keep 4 3 0, session 0 3 0, stored 6 28200 26, reasons 0 0 0
+taking back 7 2 0, session 0 3 0, stored 6 28200 26, reasons 0 0 0
+build 1 0 0, session 0 3 0, stored 6 28200 26, reasons 0 0 0
+write 0 0 0, session 0 3 0, stored 6 28200 26, reasons 0 0 0
 read 0 0 6 3 7, parameter 2
 read 14 20 0 0 0
 salvage 0 0 96 1 0
@@ -59,7 +67,7 @@ salvage 14 23 0 0 0
 to version 2 0 0 164
 read 0 0 6 3 7, bounds -2147483647 to 2147483647
 to version 1 0 0 112, the same bytes 1
-write 0 0 0, session 0 3 0, stored 6 28200 26
+write 0 0 0, session 0 3 0, stored 6 28200 26, reasons 0 0 0
 to version 1 18 2 0
 read 14 0 0 0 0
 ";
@@ -78,7 +86,7 @@ fn ends(input: &[u8]) -> Option<i32> {
 fn the_server_ends_with_its_input() {
     assert_eq!(ends(&[]), Some(0));
     assert_eq!(ends(&[0; 10]), Some(2), "a request that breaks off");
-    assert_eq!(ends(&[0; 512]), Some(2), "a request without a record");
+    assert_eq!(ends(&[0; 544]), Some(2), "a request without a record");
 }
 
 #[test]

@@ -12,9 +12,9 @@ refusal-requires c κs = search needs
 returns : tie.Need-returns
 returns c =
     let c1 = c .before .before in
-    let file = c1 .before .before .args .file .now in
+    let a = c1 .before .before .args in
     let s = c .refusal .ensures in
-    (s .0, whole file (omega arith) (printed-long file (c1 .if1 .taken)) (s .0) (s .1))
+    (s .0, whole (a .reasons) (a .file .now) (omega arith) (printed-long (a .reasons) (a .file .now) (c1 .if1 .taken)) (s .0) (s .1))
 
 slice-aggregate-read : tie.Need-slice-aggregate-read
 slice-aggregate-read c = search needs
@@ -56,9 +56,9 @@ returns-2 : tie.Need-returns-2
 returns-2 c =
     let c2 = c .before .before .before .before .before .before .before .before .before .before .before .before in
     let c1 = c2 .before .before .before .before .before .before .before .before .before in
-    let file = c1 .before .before .args .file .now in
+    let a = c1 .before .before .args in
     let s = c .show-unread .ensures in
-    (s .0, whole file (omega arith) (printed-unread file _ _ _ (c2 .read .ensures) (c1 .if1 .left) _ _ (c .before .before .enum-told .given .1)) (s .0) (s .1))
+    (s .0, whole (a .reasons) (a .file .now) (omega arith) (printed-unread (a .reasons) (a .file .now) _ _ _ (c2 .read .ensures) (c1 .if1 .left) _ _ (c .before .before .enum-told .given .1)) (s .0) (s .1))
 
 slice-aggregate-list-built : tie.Need-slice-aggregate-list-built
 slice-aggregate-list-built c = search needs
@@ -92,9 +92,9 @@ returns-3 c =
     let c3 = c .before .before .before .before .before .before .before .before .before .before .before in
     let c2 = c3 .before .before .before .before .before .before .before .before .before .before in
     let c1 = c2 .before .before .before .before .before .before .before .before .before in
-    let file = c1 .before .before .args .file .now in
+    let a = c1 .before .before .args in
     let s = c .list-built .ensures in
-    (s .0, whole file (omega arith) (printed-built file _ _ _ (c2 .read .ensures) (c1 .if1 .left) _ _ _ (c3 .told .given .1)) (s .0) (s .1))
+    (s .0, whole (a .reasons) (a .file .now) (omega arith) (printed-built (a .reasons) (a .file .now) _ _ _ (c2 .read .ensures) (c1 .if1 .left) _ _ _ (c3 .told .given .1)) (s .0) (s .1))
 
 pub show-spec : {M : Type 1} → statement M
 show-spec =

@@ -18,7 +18,7 @@
 //! entry variables, coefficients, numbers, order, stored values, of the index of readers the starts and the places, of the
 //! log the sizes, the variables and the values, and the lowest and the highest allowed numbers. A taking back is 4 and
 //! zeros. All keeps and takings back of a session have one log, which the last files try over sessions of many calls; two
-//! of these have narrow bounds.
+//! of these have narrow bounds. Reasons are not recorded.
 //!
 //! The text has a line `read NUMBER PLACE N M E`; if that is accepted a line `build`; and if that is accepted a line for
 //! each call: `trial`, `keep`, `back` or `change ROW PLACE FIELD`. `build`, `trial`, `keep` and `back` go on with `NUMBER
@@ -235,9 +235,9 @@ impl Recording {
             let left = rows([values(&case.stored[..n]), flags]) + &rows(log(&case));
             self.told(if name == Call::Keep { "keep" } else { "back" }, answer, case.session, &left);
         }
-        let Case { session, stored, log_sizes, log_vars, log_values, .. } = case;
+        let Case { session, stored, reasons, log_sizes, log_vars, log_values, .. } = case;
         self.recounted += usize::from(session.blanks != model.session.blanks);
-        *model = Case { session, stored, log_sizes, log_vars, log_values, ..std::mem::take(model) };
+        *model = Case { session, stored, reasons, log_sizes, log_vars, log_values, ..std::mem::take(model) };
     }
 
     /// A change.
@@ -310,7 +310,8 @@ fn cut(mut case: Case) -> Case {
     case.move_vars.edit(|vars| vars.resize(MOST, 0));
     case.move_values.edit(|values| values.resize(MOST, 0));
     case.asked_vars.edit(|vars| vars.resize(MOST, 0));
-    Case { results: vec![0; MOST].into(), trial: vec![0; ROWS].into(), flags: vec![0; ROWS].into(), ..case }
+    let why = vec![0; MOST].into();
+    Case { results: vec![0; MOST].into(), trial: vec![0; ROWS].into(), flags: vec![0; ROWS].into(), why, ..case }
 }
 
 /// Makes the move, the asked list, the route or a count wrong, or only other than it was.

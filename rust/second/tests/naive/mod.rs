@@ -127,12 +127,15 @@ fn check_1(case: &Case) -> bool {
     let tables = check_1_tables(case);
     let bounds = check_1_bounds(case);
     let index = case.reader_starts.len() > n && case.reader_places.len() >= e;
-    let state = case.numbers.len() >= n && case.order.len() >= m && case.stored.len() >= n && index && bounds;
+    let reasons = case.reasons.len() >= n;
+    let state =
+        case.numbers.len() >= n && case.order.len() >= m && case.stored.len() >= n && index && bounds && reasons;
     let moved = pairs <= 64 && case.move_vars.len() >= pairs && case.move_values.len() >= pairs;
     let changes = tables && state && case.flags.len() >= n;
     let sizes = case.log_sizes.len() >= 65;
     let log = sizes && case.log_vars.len() >= 4096 && case.log_values.len() >= 4096;
-    let questions = asked <= 32 && case.asked_vars.len() >= asked && case.results.len() >= asked;
+    let answers = case.results.len() >= asked && case.why.len() >= asked;
+    let questions = asked <= 32 && case.asked_vars.len() >= asked && answers;
     match case.call {
         Call::Build => tables && state && case.starts.len() >= n && sizes,
         Call::Trial => changes && moved && questions && case.trial.len() >= n,
@@ -361,12 +364,13 @@ fn accepted(case: &mut Case) -> Answer {
         Call::TakeBack => Moved::back(case, usize::from(case.log_sizes[0]) - 1),
         _ => Moved::of(case),
     };
-    let (new, evaluated) = {
+    let (new, reasons, evaluated) = {
         let route = Route { model: &model, case, moved: &moved };
         let number = if case.call == Call::Trial { case.route } else { 1 };
         let evaluated = route.evaluated(number);
         let new: Vec<i32> = (0..case.n).map(|variable| route.left(number, &evaluated, variable)).collect();
-        (new, evaluated)
+        let reasons: Vec<u8> = (0..case.n).map(|variable| route.reason_after(number, &evaluated, variable)).collect();
+        (new, reasons, evaluated)
     };
     if case.call == Call::Keep {
         note(case, &moved);
@@ -378,12 +382,18 @@ fn accepted(case: &mut Case) -> Answer {
     }
     if case.call == Call::Trial {
         for place in 0..case.asked {
-            case.results[place] = new[usize::from(case.asked_vars[place])];
+            let asked = usize::from(case.asked_vars[place]);
+            (case.results[place], case.why[place]) = (new[asked], reasons[asked]);
         }
-    } else if case.call == Call::Keep {
+    } else {
+        for (variable, reason) in reasons.into_iter().enumerate() {
+            case.reasons[variable] = if model.maker(variable).is_some() { reason } else { 0 };
+        }
+    }
+    if case.call == Call::Keep {
         case.session.kept = case.session.kept.saturating_add(1);
         case.session.blanks = blanks(case);
-    } else {
+    } else if case.call == Call::TakeBack {
         case.session.kept -= u32::from(case.session.kept != 4_294_967_295);
         case.session.blanks = blanks(case);
         case.log_sizes[0] -= 1;
@@ -394,10 +404,13 @@ fn accepted(case: &mut Case) -> Answer {
 
 fn build(case: &mut Case, model: &Model) -> Answer {
     let route = Route { model, case, moved: &Moved { pairs: Vec::new() } };
-    let values: Vec<i32> = (0..case.n).map(|variable| route.fresh(variable, &|search| case.starts[search])).collect();
+    let fresh = |variable| route.fresh(variable, &|search| case.starts[search]);
+    let values: Vec<i32> = (0..case.n).map(fresh).collect();
+    let reasons: Vec<u8> = (0..case.n).map(|variable| model.reason(variable, &fresh)).collect();
     let numbers: Vec<u16> = (0..case.n).map(|variable| model.number(variable, case.n).unwrap() as u16).collect();
     let order: Vec<u16> = model.order().unwrap().into_iter().map(|row| row as u16).collect();
     case.stored[..values.len()].copy_from_slice(&values);
+    case.reasons[..reasons.len()].copy_from_slice(&reasons);
     case.numbers[..numbers.len()].copy_from_slice(&numbers);
     case.order[..order.len()].copy_from_slice(&order);
     let (starts, places) = model.index();
@@ -504,6 +517,15 @@ impl Route<'_> {
         needed
     }
 
+    /// The reason of a variable after a call: over the new values if it was evaluated, else the stored one.
+    fn reason_after(&self, route: u32, evaluated: &BTreeSet<usize>, variable: usize) -> u8 {
+        if evaluated.contains(&variable) {
+            self.model.reason(variable, &|input| self.new_value(route, input))
+        } else {
+            self.case.reasons[variable]
+        }
+    }
+
     /// The value that a call leaves: the new one of a variable moved or evaluated, the old one elsewhere.
     fn left(&self, route: u32, evaluated: &BTreeSet<usize>, variable: usize) -> i32 {
         if evaluated.contains(&variable) {
@@ -514,6 +536,34 @@ impl Route<'_> {
             self.old(variable)
         }
     }
+}
+
+impl Model {
+    /// The reason of a variable over values; 0 for a search variable.
+    fn reason(&self, variable: usize, value: &dyn Fn(usize) -> i32) -> u8 {
+        self.maker(variable).map_or(0, |row| reason(row, value))
+    }
+}
+
+/// Why the formula of a row has no value over the values of variables, 0 if it has one: each reason by itself, and the first
+/// of those that hold.
+fn reason(row: &Row, value: &dyn Fn(usize) -> i32) -> u8 {
+    if formula(row, value) != BLANK {
+        return 0;
+    }
+    let inputs: Vec<i32> = row.inputs.iter().map(|&(variable, _)| value(variable)).collect();
+    let blanks = inputs.iter().filter(|&&input| input == BLANK).count();
+    let chosen = usize::try_from(inputs[0]).ok().and_then(|index| inputs.get(1 + index));
+    let stopped = match row.kind {
+        2 | 3 => blanks == inputs.len(),
+        4 => inputs[0] == BLANK || chosen == Some(&BLANK),
+        _ => blanks > 0,
+    };
+    let headway = [8, 9].contains(&row.kind) && inputs[2] <= 0;
+    let outside = row.kind == 4 && chosen.is_none();
+    let no_departures = row.kind == 9 && inputs[0] >= inputs[1];
+    let reasons = [(4, stopped), (3, headway), (2, outside), (5, no_departures), (1, true)];
+    reasons.into_iter().find(|&(_, holds)| holds).map_or(0, |(number, _)| number)
 }
 
 /// The formula of a row over the values of variables.

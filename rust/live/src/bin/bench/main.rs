@@ -91,11 +91,12 @@ fn round(engine: &dyn Engine, calls: &mut [Case; 2], times: usize) -> f64 {
     start.elapsed().as_secs_f64() / (2 * times) as f64
 }
 
-/// A keep finds the values, their number of blanks and the log that the keep before it left. A taking back finds the values,
-/// their number of blanks, and a log that is full again.
+/// A keep finds the values, their reasons and number of blanks and the log that the keep before it left. A taking back finds
+/// the values, their reasons and number of blanks, and a log that is full again.
 fn hand_on(from: &mut Case, to: &mut Case) {
     if matches!(from.call, Call::Keep | Call::TakeBack) {
         std::mem::swap(&mut from.stored, &mut to.stored);
+        std::mem::swap(&mut from.reasons, &mut to.reasons);
         std::mem::swap(&mut from.session.blanks, &mut to.session.blanks);
     }
     if from.call == Call::Keep {

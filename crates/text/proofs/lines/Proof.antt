@@ -1,8 +1,8 @@
 -- The text was put from the front on, and the buffer shows it (`put-shows`). Assumes nothing.
 use borrow.Author.Needs.{needs}
 use Rattle.buffers.proofs.Laid.{put-counts, put-shows}
-use Rattle.text.proofs.list_with_reasons.Statement.{statement}
-use Rattle.text.proofs.list_with_reasons.Tie as tie
+use Rattle.text.proofs.lines.Statement.{statement}
+use Rattle.text.proofs.lines.Tie as tie
 
 put-lines-requires : tie.Need-put-lines-requires
 put-lines-requires c κs = search needs
@@ -13,5 +13,5 @@ same-length c = search needs
 returns : tie.Need-returns
 returns c = let p = c .before .before .put-lines .ensures in (put-counts p, put-shows p)
 
-pub list-with-reasons-spec : {M : Type 1} → statement M
-list-with-reasons-spec = tie.close (tie.spec put-lines-requires same-length returns)
+pub lines-spec : {M : Type 1} → statement M
+lines-spec = tie.close (tie.spec put-lines-requires same-length returns)
