@@ -132,7 +132,7 @@ noted-row g w mv low = let k = min (logged g) 63 in
     (λ i l. sym (getD-take (w .tables .n) (w .stored) (nat (mv .vars) i) (pos 0) (low i l))))
 
 -- a row that was filled is as long as it was
-pub filled-long : (n : ℕ) (f : Values) (before row : List ℤ) → row ≡ over n f before → n ≤ length before → n ≤ length row
+pub filled-long : {A : Type 0} (n : ℕ) (f : ℕ → A) (before row : List A) → row ≡ over n f before → n ≤ length before → n ≤ length row
 filled-long n f before row e h = let same = over-length f n before h in let is = ap length e in omega arith
 
 -- the blank values of a row that was filled

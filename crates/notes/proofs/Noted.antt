@@ -1,18 +1,17 @@
 -- What the rows of sound tables give the code that reads them, that what it works out by the row of makers is what the tables say, and that this is the
 -- reason of the paper where the row holds the values that the formula looks at. Assumes nothing.
-use Prim.Native.Nat.{ℕ, zero, suc, _≤_, _<_}
-use native.Mathlib.Nat.{not-suc-le-zero}
+use Prim.Native.Nat.{ℕ, suc, _≤_, _<_}
 use native.Mathlib.Omega.{arith}
 use mathlib.Core.Bool.{Bool, true, false, cond, not, _&&_, _||_, true≢false, false≢true}
 use mathlib.Core.List.{List, map}
 use mathlib.Core.Path.{_≡_, refl, ap, ap₂, sym, _∙_}
-use borrow.Author.Tests.{ltb-true, ltb-false, lt-ltb, eq-eqb}
+use borrow.Author.Tests.{ltb-true, lt-ltb, eq-eqb}
 use lib.Dec.{eqb, ltb}
 use lib.IntN.{ℤ}
 use lib.ListN.{length, replicate, getD-replicate}
 use Rattle.integers.specs.Integers.{eqZ}
 use Rattle.paper.specs.Calls.{blanksAmong}
-use Rattle.paper.specs.Lists.{all, nat, size, allBelow, over}
+use Rattle.paper.specs.Lists.{all, nat, allBelow, over}
 use Rattle.paper.specs.Formula.{blank}
 use Rattle.paper.specs.Net.{Values}
 use Rattle.paper.specs.Tables.{Tables, part, rowOf, isMade, inputsOf, formOf}
@@ -20,6 +19,7 @@ use Rattle.paper.specs.Reason.{why, reasonOf, reasonAfter, reasonKept}
 use Rattle.paper.specs.Checks.{arity, Sound}
 use Rattle.paper.proofs.Lists.{all-at, all-in, all-of}
 use Rattle.paper.proofs.Least.{allBelow-at}
+use Rattle.paper.proofs.Count.{size-zero}
 use Rattle.paper.proofs.Buffers.{over-same}
 use Rattle.paper.proofs.Scan.{part-length}
 use Rattle.paper.proofs.Sizes.{sized-facts}
@@ -119,21 +119,12 @@ plain-row t flags values stored asked before row none e =
     (λ i l. plain-is t flags values (nat stored) (nat asked i) (allBelow-at (λ k. notBlank flags values (nat asked k)) (length asked) none i l))
 
 -- ── where no value is blank ──
-size-none : (p : ℕ → Bool) (n : ℕ) → size p n ≡ 0 → (v : ℕ) → v < n → p v ≡ false
-size-none p zero e v l = absurd (not-suc-le-zero l)
-size-none p (suc n) e v l = go (p n) refl e (ltb v n) refl (size-none p n)
-  where
-    go : (a : Bool) → p n ≡ a → cond a (suc (size p n)) (size p n) ≡ 0 → (b : Bool) → ltb v n ≡ b → (size p n ≡ 0 → (u : ℕ) → u < n → p u ≡ false) → p v ≡ false
-    go true q h b r ih = absurd (omega arith)
-    go false q h true r ih = ih h v (ltb-true v n r)
-    go false q h false r ih = let k = ltb-false v n r in let same : v ≡ n = omega arith in rw same q
-
 pub plain-noted : (t : Tables) (by : List ℕ) (k : Makers t by) (flags : List ℕ) (values : List ℤ) (before row : List ℕ) → blanksAmong (t .n) (valuesOf values) ≡ 0
     → row ≡ over (t .n) (plainNoted by flags (nat before)) before → row ≡ over (t .n) (noted t flags (valuesOf values) (nat before)) before
 plain-noted t by k flags values before row none e =
     e ∙ over-same (plainNoted by flags (nat before)) (t .n) before (noted t flags (valuesOf values) (nat before)) (λ v l.
     ap (λ b. cond (b || eqb (nat flags v) 1) 0 (nat before v)) (maker-zero t by k v l)
-    ∙ go (isMade t v) (eqb (nat flags v) 1) (eqZ (valuesOf values v) blank) (size-none (λ u. eqZ (valuesOf values u) blank) (t .n) none v l) (why (nat (t .kinds) (rowOf t v)) (map (valuesOf values) (inputsOf t v))) (nat before v))
+    ∙ go (isMade t v) (eqb (nat flags v) 1) (eqZ (valuesOf values v) blank) (size-zero (λ u. eqZ (valuesOf values u) blank) (t .n) none v l) (why (nat (t .kinds) (rowOf t v)) (map (valuesOf values) (inputsOf t v))) (nat before v))
   where
     go : (m a z : Bool) → z ≡ false → (w x : ℕ) → cond (not m || a) 0 x ≡ cond m (cond a (cond m (cond z w 0) 0) x) 0
     go true true true q w x = absurd (true≢false q)

@@ -7,9 +7,9 @@ use mathlib.Core.Logic.{_≢_}
 use mathlib.Core.Bool.{Bool, true, false, cond, _||_, true≢false, false≢true}
 use mathlib.Core.List.{List, [], _∷_, List·Memᴰ, List·Memᴰ·head, List·Memᴰ·tail}
 use mathlib.Core.Path.{_≡_, refl, ap, _∙_}
-use lib.Dec.{eqb}
+use lib.Dec.{eqb, ltb}
 use lib.ListN.{length}
-use borrow.Author.Tests.{eqb-true, ne-eqb}
+use borrow.Author.Tests.{eqb-true, ne-eqb, ltb-true, ltb-false}
 use Rattle.paper.specs.Lists.{any, size}
 use Rattle.paper.proofs.Lists.{clash, eqb-self}
 
@@ -78,6 +78,16 @@ distinct-size n (x ∷ xs) h d =
 
 pub distinct-length : (n : ℕ) (xs : List ℕ) → ((i : ℕ) → List·Memᴰ i xs → i < n) → Distinct xs → length xs ≤ n
 distinct-length n xs h d = rw (← (distinct-size n xs h d)) (size-le (λ v. any (eqb v) xs) n)
+
+-- a test that none passes fails everywhere
+pub size-zero : (p : ℕ → Bool) (n : ℕ) → size p n ≡ 0 → (v : ℕ) → v < n → p v ≡ false
+size-zero p zero e v l = absurd (not-suc-le-zero l)
+size-zero p (suc n) e v l = go (p n) refl e (ltb v n) refl (size-zero p n)
+  where
+    go : (a : Bool) → p n ≡ a → cond a (suc (size p n)) (size p n) ≡ 0 → (b : Bool) → ltb v n ≡ b → (size p n ≡ 0 → (u : ℕ) → u < n → p u ≡ false) → p v ≡ false
+    go true q h b r ih = absurd (omega arith)
+    go false q h true r ih = ih h v (ltb-true v n r)
+    go false q h false r ih = let k = ltb-false v n r in let same : v ≡ n = omega arith in rw same q
 
 -- a test that as many pass as there are is passed by all
 pub size-full : (p : ℕ → Bool) (n v : ℕ) → size p n ≡ n → v < n → p v ≡ true

@@ -163,6 +163,7 @@ pub record TrialKnown (w : Model) (c : Tried) : Type 0 where
   pub route : between 1 (c .route) 3 ≡ true
   pub move : MoveKnown (w .tables) (w .bounds) (c .move)
   pub few : c .asked ≤ 32
+  pub asked-long : c .asked ≤ length (c .askedVars)
   pub asked : (i : ℕ) → i < c .asked → nat (c .askedVars) i < w .tables .n
 
 pub trial-known : (s : Session) (w : Model) (c : Tried) → trialVerdict s w c ≡ accepted → TrialKnown w c
@@ -177,6 +178,7 @@ trial-known s w c e =
       route = require-held 9 0 (between 1 (c .route) 3) _ (a .2);
       move = m .0;
       few = leb-true (c .asked) 32 (fits .1 .1 .0);
+      asked-long = leb-true (c .asked) (length (c .askedVars)) (fits .1 .1 .1 .0);
       asked = λ i k. ltb-true (nat (c .askedVars) i) n (check-held 13 (c .asked) (λ j. ltb (nat (c .askedVars) j) n) accepted (m .1) i k);
     }
 

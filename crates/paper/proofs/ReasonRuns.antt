@@ -8,29 +8,27 @@ use mathlib.Core.List.{List, [], _∷_, List·Memᴰ, List·Memᴰ·head, List·
 use mathlib.Core.Path.{_≡_, refl, ap, sym, _∙_, fun-ext, subst, subst⁻¹}
 use lib.IntN.{ℤ}
 use lib.ListN.{length, take}
-use borrow.Author.Tests.{leb-true}
 use Rattle.paper.specs.Lists.{nat, over}
 use Rattle.paper.specs.Net.{Net, Values, Route, input-to-output, afresh, moved}
 use Rattle.paper.specs.Tables.{Tables, net, valuesIn}
 use Rattle.paper.specs.Checks.{Verdict, accepted, refused, leaves, movePairs}
 use Rattle.paper.specs.Log.{Log, logIn}
 use Rattle.paper.specs.Reason.{reasonOf, reasonAfter, reasonKept}
-use Rattle.paper.specs.Calls.{Session, Answer, Refused, numberOf, newValues, evaluates, BuildLent, BuildLeft, startValues, build, Model, Tried, TrialLeft, askedList, routeOf, trialFits, trialVerdict, trial, Kept, KeepLeft, keepVerdict, keep, latest, takeVerdict, takeBack}
+use Rattle.paper.specs.Calls.{Session, Answer, Refused, numberOf, newValues, evaluates, BuildLent, BuildLeft, startValues, build, Model, Tried, TrialLeft, askedList, routeOf, trial, Kept, KeepLeft, keepVerdict, keep, latest, takeVerdict, takeBack}
 use Rattle.paper.specs.Reasoned.{Reasoned, withReasons, reasonsFit, buildReasoned, movedReasons}
 use Rattle.paper.specs.Demands.{trialAsWas, keepAsWas, Lent, own, Lends, Call, tries, keeps, takes, lendsOf, logOf, State, lentOf, ownAfter, rest, modelOf, verdictOf, passedOn, step, applied, ownModel, fresh, after, history, Proper, old, renewed}
 use Rattle.paper.specs.ReasonRuns.{Reasoning, ReasonState, rowLent, hasRoom, triedNow, keptNow, takenNow, handedOn, stepBy, stands, roomy, OwnReasons, next, ReasonsRight}
-use Rattle.paper.proofs.Lists.{each}
 use Rattle.paper.proofs.Buffers.{over-at, over-same, over-over}
 use Rattle.paper.proofs.Lawful.{lawful}
 use Rattle.paper.proofs.Fresh.{Fresh, afresh-fresh}
 use Rattle.paper.proofs.Routes.{route-fresh}
 use Rattle.paper.proofs.RouteReasons.{Settled, asked-settled, reason-fresh, kept-fresh}
-use Rattle.paper.proofs.Verdicts.{refused-not, require-held}
+use Rattle.paper.proofs.Verdicts.{refused-not, refused-stays}
 use Rattle.paper.proofs.Known.{BuildKnown, trial-known}
 use Rattle.paper.proofs.Outcomes.{build-judged, trial-judged, keep-judged, take-judged}
 use Rattle.paper.proofs.Reasoned.{Roomy, build-roomy, trial-roomy, keep-roomy, take-roomy}
 use Rattle.paper.proofs.Session as session
-use Rattle.paper.proofs.Session.{own-left, passed-as-was, refused-stays}
+use Rattle.paper.proofs.Session.{own-left, passed-as-was}
 
 -- an entry among the first k
 at-mem : (k : ℕ) (l : List ℕ) → k ≤ length l → (i : ℕ) → i < k → List·Memᴰ (nat l i) (take k l)
@@ -38,11 +36,6 @@ at-mem zero l h i m = absurd (not-suc-le-zero m)
 at-mem (suc k) [] h i m = absurd (omega arith)
 at-mem (suc k) (x ∷ l) h zero m = List·Memᴰ·head refl
 at-mem (suc k) (x ∷ l) h (suc i) m = List·Memᴰ·tail (at-mem k l (omega arith) i (omega arith))
-
--- the row of what is asked holds all that is asked
-trial-long : (s : Session) (w : Model) (c : Tried) → trialVerdict s w c ≡ accepted → c .asked ≤ length (c .askedVars)
-unfolding trialVerdict
-trial-long s w c e = leb-true (c .asked) (length (c .askedVars)) (each _ (require-held 1 0 (trialFits w c) _ e) .1 .1 .1 .0)
 
 module _ (b : BuildLent) (first : List ℕ) (room : List ℕ × List ℤ) (ok : numberOf (build b .answer) ≡ 0) where
   abbrev t : Tables
@@ -220,7 +213,7 @@ module _ (b : BuildLent) (first : List ℕ) (room : List ℕ × List ℤ) (ok : 
         ∙ over-same (λ i. reasonAfter t (evaluates t (valuesIn t (s .stored)) (routeOf (c .route)) (movePairs (c .move)) (askedList c)) (newValues t (valuesIn t (s .stored)) (routeOf (c .route)) (movePairs (c .move)) (askedList c)) (nat (now .reasons)) (nat (c .askedVars) i))
         (c .asked) why (λ i. reasonOf t (nat (c .askedVars) i) (renewed b room cs (c .move)))
         (λ i l. asked-reason b first room plain-ok cs (h .proper) (s .stored) (ap (λ (z : State). z .stored) (h .state)) (now .reasons) (h .held) (movePairs (c .move)) (routeOf (c .route)) (askedList c)
-        (nat (c .askedVars) i) (k .asked i l) (at-mem (c .asked) (c .askedVars) (trial-long (s .session) w c (g .1)) i l));
+        (nat (c .askedVars) i) (k .asked i l) (at-mem (c .asked) (c .askedVars) (k .asked-long) i l));
     keep-accepted = λ c e.
         let s = now .state in let by = keep-roomy (s .session) (s .log) (modelOf s (ownModel b room)) (now .reasons) c in let g = by .good e in
         by .given-by (g .0) (g .1) ∙ keep-laid b first room plain-ok now cs h c;

@@ -12,7 +12,7 @@ use Rattle.paper.specs.Checks.{Verdict, accepted, refused, leaves, moveP
 use Rattle.paper.specs.Log.{Log}
 use Rattle.paper.specs.Calls.{Session, Answer, Accepted, Refused, numberOf, answered, evaluates, BuildLent, BuildLeft, buildVerdict, buildLeaves, build, Model, storedValues, Tried, askedList, routeOf, TrialLeft, trialVerdict, trialLeaves, trial, Kept, KeepLeft, keptCount, keepVerdict, keepLeaves, keep, latest, takeVerdict, takeLeaves, takeBack}
 use Rattle.paper.specs.Demands.{buildAsWas, trialAsWas, keepAsWas}
-use Rattle.paper.proofs.Verdicts.{refused-not}
+use Rattle.paper.proofs.Verdicts.{refused-not, refused-stays}
 use Rattle.paper.proofs.Outcomes.{build-judged, trial-judged, keep-judged, take-judged}
 use Rattle.paper.specs.Reasoned.{Reasoned, withReasons, reasonsFit, reasoned, builtReasons, buildReasoned, askedReasons, trialReasoned, movedReasons, keepReasoned, takeReasoned}
 
@@ -28,10 +28,6 @@ accepted-by (refused number place) count e = let z : false ≡ true = ap isAccep
 refused-by : (v : Verdict) (count : ℕ) {number place : ℕ} → answered v count ≡ Refused number place → v ≡ accepted → ⊥
 refused-by accepted count e a = let z : true ≡ false = ap isAccepted e in true≢false z
 refused-by (refused number place) count e a = refused-not a
-
-refused-leaves : {A : Type 0} (v : Verdict) (other lent : A) → (v ≡ accepted → ⊥) → leaves v other lent ≡ lent
-refused-leaves accepted other lent wrong = absurd (wrong refl)
-refused-leaves (refused number place) other lent wrong = refl
 
 -- ── what holds of every call with reasons: x is what it leaves, by its verdict v without them and what it leaves by that ──
 pub record Roomy {Left : Type 0} (answer : Left → Answer) (fits : Bool) (v : Verdict) (plain asWas : Left) (given row : List ℕ) (x : Reasoned Left) : Type 0 where
@@ -65,7 +61,7 @@ roomy-of answer true v left asWas given row count reads is good = record {
   no-room = λ e. absurd (true≢false e);
   same = λ e. refl;
   given-by = λ e a. ap (λ u. leaves u given row) a;
-  stays = λ wrong. refused-leaves v given row wrong;
+  stays = λ wrong. refused-stays v given row wrong;
   accepts = λ e. accepted-by v count (sym (reads v) ∙ e);
   refuses = λ e. refused-by v count (sym (reads v) ∙ e);
   good = λ e. (refl, good e);

@@ -21,6 +21,7 @@ use Rattle.paper.specs.Checks.{Verdict, accepted, refused, leaves, sized
 use Rattle.paper.specs.Log.{Log, logIn, logged, back, logGood, dropped}
 use Rattle.paper.specs.Calls.{Session, blanksAmong, Answer, Refused, numberOf, evaluationsOf, newValues, evaluates, BuildLent, BuildLeft, startValues, build, Model, Tried, TrialLeft, askedList, routeOf, trialVerdict, trialLeaves, trial, Kept, KeepLeft, storedValues, keptBlanks, keptStored, keepVerdict, keepLeaves, keep, latest, takeVerdict, takeLeaves, takeBack}
 use Rattle.paper.specs.Demands.{keepAsWas, evaluatedBy, Lent, own, another, Lends, Call, tries, keeps, takes, State, lentOf, ownAfter, rest, modelOf, verdictOf, lendsOf, logOf, passedOn, step, standing, applied, ownModel, fresh, after, history, Proper, old, renewed, tried, triedSet, TrialRight, kept, KeepRight, taken, TakeRight, Told, Demand3}
+use Rattle.paper.proofs.Verdicts.{refused-stays}
 use Rattle.paper.proofs.Lists.{and-right, each}
 use Rattle.paper.proofs.Buffers.{length-below, getD-below, over-front, over-over, ones-below}
 use Rattle.paper.proofs.Lawful.{lawful}
@@ -44,11 +45,6 @@ passed-as-was now l g flags answer left e = λ i. record {
   stored = own-left (l .stored) (left .stored) (now .stored) (ap (λ (x : KeepLeft). x .stored) e) i;
   log = own-left g (left .log) (now .log) (ap (λ (x : KeepLeft). x .log) e) i;
 }
-
--- and a call that is not accepted leaves the history
-pub refused-stays : {A : Type 0} (v : Verdict) (other moves : A) → (v ≡ accepted → ⊥) → leaves v other moves ≡ moves
-refused-stays accepted other moves wrong = absurd (wrong refl)
-refused-stays (refused number place) other moves wrong = refl
 
 rest-length : (moves : List (List (ℕ × ℤ))) → length (rest moves) ≡ pred (length moves)
 rest-length [] = refl

@@ -15,7 +15,7 @@ use Rattle.paper.specs.Tables.{Tables, net, isMade, inputsOf, formOf, valuesIn}
 use Rattle.paper.specs.Checks.{Sound, movePairs}
 use Rattle.paper.specs.Reason.{reasonOf, reasonAfter, reasonKept}
 use Rattle.paper.specs.Calls.{Session, newValues, evaluates, trialRow, flagRow, BuildLent, startValues, Model, storedValues, Tried, askedList, routeOf, Kept, keptStored, keptFlags}
-use Rattle.paper.proofs.Buffers.{over-length, over-at, over-same}
+use Rattle.paper.proofs.Buffers.{over-at, over-same}
 use Rattle.paper.proofs.Lawful.{lawful}
 use Rattle.paper.proofs.Fresh.{unnamed}
 use Rattle.paper.proofs.Routes.{new-equation}
@@ -24,10 +24,6 @@ use Rattle.steps.specs.Changes.{valuesOf}
 use Rattle.notes.specs.Noted.{shown, current, noted}
 use Rattle.notes.proofs.Noted.{shown-reason, current-after, noted-kept}
 use Rattle.paper.specs.Reasoned.{builtReasons, askedReasons, movedReasons}
-
--- a row that was filled is as long as it was
-pub over-long : {A : Type 0} (f : ℕ → A) (n : ℕ) (before row : List A) → row ≡ over n f before → n ≤ length before → n ≤ length row
-over-long f n before row e h = let same = over-length f n before h in let is = ap length e in omega arith
 
 -- a flag is 1 where the variable was evaluated
 flag-is : (b : Bool) → eqb (cond b 1 0) 1 ≡ b

@@ -13,10 +13,10 @@ use Rattle.paper.proofs.Known.{keep-known}
 use Rattle.paper.proofs.Outcomes.{keep-judged}
 use Rattle.fits.specs.Lent.{toModel, toKeep}
 use Rattle.cores.specs.Left.{recordIn, answerIn}
-use Rattle.cores.proofs.Accepts.{keeping-of}
+use Rattle.cores.proofs.Accepts.{keeping-of, filled-long}
 use Rattle.paper.specs.Reasoned.{withReasons, reasonsFit}
 use Rattle.paper.proofs.Reasoned.{met-refused, met-accepted, keep-roomy}
-use Rattle.reasoned.proofs.Given.{over-long, moved-given}
+use Rattle.reasoned.proofs.Given.{moved-given}
 use Rattle.reasoned.proofs.keeping.keep_reasoned.Statement.{statement}
 use Rattle.reasoned.proofs.keeping.keep_reasoned.Tie as tie
 
@@ -92,7 +92,7 @@ note-reasons-requires : tie.Need-note-reasons-requires
 note-reasons-requires c κs =
     let e = c .before .before .before in let s = start (core e) in let n = model s .tables .n in
     let k = keep-known (session s) (log s) (model s) (kept s) (passed e) in let ready = keeping-of (session s) (log s) (model s) (kept s) (passed e) in
-    (k .model .sound, (over-long _ n (model s .stored) _ (stored e) (ready .in-stored), over-long _ n (s .args .flags .now) _ (flags e) (ready .in-flags), leb-true n (length (s .args .reasons .now)) (room (core e))))
+    (k .model .sound, (filled-long n _ (model s .stored) _ (stored e) (ready .in-stored), filled-long n _ (s .args .flags .now) _ (flags e) (ready .in-flags), leb-true n (length (s .args .reasons .now)) (room (core e))))
 
 same-length-6 : tie.Need-same-length-6
 same-length-6 c = search needs

@@ -13,10 +13,10 @@ use Rattle.paper.proofs.Known.{take-known}
 use Rattle.paper.proofs.Outcomes.{take-judged}
 use Rattle.fits.specs.Lent.{toModel}
 use Rattle.cores.specs.Left.{recordIn, answerIn}
-use Rattle.cores.proofs.Accepts.{taking-of}
+use Rattle.cores.proofs.Accepts.{taking-of, filled-long}
 use Rattle.paper.specs.Reasoned.{withReasons, reasonsFit}
 use Rattle.paper.proofs.Reasoned.{met-refused, met-accepted, take-roomy}
-use Rattle.reasoned.proofs.Given.{over-long, moved-given}
+use Rattle.reasoned.proofs.Given.{moved-given}
 use Rattle.reasoned.proofs.taking.take_back_reasoned.Statement.{statement}
 use Rattle.reasoned.proofs.taking.take_back_reasoned.Tie as tie
 
@@ -83,7 +83,7 @@ note-reasons-requires : tie.Need-note-reasons-requires
 note-reasons-requires c κs =
     let e = c .before .before .before in let s = start (core e) in let n = model s .tables .n in
     let k = take-known (session s) (log s) (model s) (s .args .flags .now) (passed e) in let ready = taking-of (session s) (log s) (model s) (s .args .flags .now) (passed e) (latest (log s) (s .args .flags .now)) refl in
-    (k .model .sound, (over-long _ n (model s .stored) _ (stored e) (ready .in-stored), over-long _ n (s .args .flags .now) _ (flags e) (ready .in-flags), leb-true n (length (s .args .reasons .now)) (room (core e))))
+    (k .model .sound, (filled-long n _ (model s .stored) _ (stored e) (ready .in-stored), filled-long n _ (s .args .flags .now) _ (flags e) (ready .in-flags), leb-true n (length (s .args .reasons .now)) (room (core e))))
 
 same-length-4 : tie.Need-same-length-4
 same-length-4 c = search needs

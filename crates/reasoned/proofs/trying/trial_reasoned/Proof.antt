@@ -16,10 +16,10 @@ use Rattle.paper.proofs.Known.{trial-known}
 use Rattle.paper.proofs.Outcomes.{trial-judged}
 use Rattle.fits.specs.Lent.{toModel, toTry}
 use Rattle.cores.specs.Left.{recordIn, answerIn}
-use Rattle.cores.proofs.Accepts.{trying-of}
+use Rattle.cores.proofs.Accepts.{trying-of, filled-long}
 use Rattle.paper.specs.Reasoned.{withReasons, reasonsFit}
 use Rattle.paper.proofs.Reasoned.{met-refused, met-accepted, trial-roomy}
-use Rattle.reasoned.proofs.Given.{over-long, asked-given}
+use Rattle.reasoned.proofs.Given.{asked-given}
 use Rattle.reasoned.proofs.trying.trial_reasoned.Statement.{statement}
 use Rattle.reasoned.proofs.trying.trial_reasoned.Tie as tie
 
@@ -100,8 +100,8 @@ asked-reasons-requires c κs =
       k .model .sound,
       (
         (
-          over-long _ n (s .args .trial .now) _ (row e) (ready .in-trial),
-          over-long _ n (s .args .flags .now) _ (flags e) (ready .keeping .in-flags),
+          filled-long n _ (s .args .trial .now) _ (row e) (ready .in-trial),
+          filled-long n _ (s .args .flags .now) _ (flags e) (ready .keeping .in-flags),
           leb-true n (length (s .args .reasons .now)) (and-left fit _ (room (core e))),
           rw z (let q = length-take-le (s .args .asked) (s .args .asked-vars .now) (ready .in-asked) in let h = leb-true (s .args .asked) (length (s .args .why .now)) (and-right fit _ (room (core e))) in omega arith),
         ),
