@@ -1,7 +1,7 @@
 // The numbers of an answer: its refusal's, and how many evaluations it tells.
 ghost use mathlib.Core.Path.{_≡_};
 ghost use Rattle.paper.specs.Calls.{numberOf, evaluationsOf};
-ghost use Rattle.cores.specs.Left.{answerIn};
+ghost use Rattle.records.specs.Left.{answerIn};
 use tables::Answer;
 
 // The number of an answer, 0 if the call was accepted.

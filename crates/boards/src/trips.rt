@@ -8,7 +8,7 @@ ghost use Rattle.paper.specs.Formula.{strict};
 ghost use Rattle.times.specs.Windows.{lends, timesBelow, Numbered};
 ghost use Rattle.boards.specs.Counting.{counted};
 use blanks::BLANK;
-use cores::build_new;
+use building::build_new;
 
 // DEPARTURES of a window, the one row of a model of it: variables 0 to 2 are its numbers, and row 0 makes variable 3. Build refuses a blank number and leaves the row as it
 // was: then there is no value.

@@ -23,7 +23,7 @@ use denote.Steps.{peeks, heard, nothing}
 use denote.Struct.Laws as LL
 use Rattle.tables.specs.declared.Answer.{Answer}
 use Rattle.tables.proofs.Answer as R
-use Rattle.cores.specs.Left.{answerIn}
+use Rattle.records.specs.Left.{answerIn}
 use Rattle.capi.specs.declared.Outcome.{Outcome}
 use Rattle.capi.specs.Outcomes.{inNumbers}
 use Rattle.capi.proofs.Outcome as O

@@ -12,9 +12,9 @@ use Rattle.headers.specs.declared.Reading.the-variants as reading
 use Rattle.salvage.specs.Salvage as salvage
 use Rattle.salvage.specs.declared.Salvaged.{Salvaged}
 use Rattle.salvage.specs.declared.Salvaged.the-variants as salvaged
-use Rattle.cores.specs.Left.{recordIn}
+use Rattle.records.specs.Left.{recordIn}
 use Rattle.paper.specs.Reasoned.{Reasoned}
-use Rattle.cores.specs.declared.Session as code-session
+use Rattle.records.specs.declared.Session as code-session
 use Rattle.capi.specs.declared.Outcome.{Outcome}
 use Rattle.capi.specs.declared.ReadOutcome.{ReadOutcome}
 use Rattle.capi.specs.declared.SalvageOutcome.{SalvageOutcome}

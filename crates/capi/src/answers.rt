@@ -1,6 +1,6 @@
 // What a call answers, as C takes it.
 ghost use mathlib.Core.Path.{_≡_};
-ghost use Rattle.cores.specs.Left.{answerIn};
+ghost use Rattle.records.specs.Left.{answerIn};
 ghost use Rattle.capi.specs.Outcomes.{inNumbers};
 use crate::Outcome;
 use tables::Answer;

@@ -1,12 +1,12 @@
 // Build across the C boundary.
 ghost use mathlib.Core.Path.{_≡_};
 ghost use Rattle.fits.specs.Lent.{toBuild};
-ghost use Rattle.cores.specs.Left.{recordIn};
+ghost use Rattle.records.specs.Left.{recordIn};
 ghost use Rattle.paper.specs.Reasoned.{buildReasoned};
 ghost use Rattle.capi.specs.Outcomes.{leftByBuild, builtOut};
 use crate::Outcome;
 use crate::answers::in_numbers;
-use cores::Session;
+use records::Session;
 
 // `engine::build` for C. The reason of every variable is given.
 #[no_mangle]

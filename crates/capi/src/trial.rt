@@ -1,12 +1,12 @@
 // Trial across the C boundary.
 ghost use mathlib.Core.Path.{_≡_};
 ghost use Rattle.fits.specs.Lent.{toModel, toTry};
-ghost use Rattle.cores.specs.Left.{recordIn};
+ghost use Rattle.records.specs.Left.{recordIn};
 ghost use Rattle.paper.specs.Reasoned.{trialReasoned};
 ghost use Rattle.capi.specs.Outcomes.{leftByTrial, triedOut};
 use crate::Outcome;
 use crate::answers::in_numbers;
-use cores::Session;
+use records::Session;
 
 // `engine::trial` for C. The reason of every variable asked is given.
 #[no_mangle]

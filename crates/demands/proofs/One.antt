@@ -13,7 +13,7 @@ use Rattle.paper.proofs.Outcomes.{build-judged, trial-judged, keep-judged, take
 use Rattle.paper.proofs.Demands as paper
 use Rattle.tables.specs.declared.Answer as code-answer
 use Rattle.tables.specs.declared.Answer.the-variants as code
-use Rattle.cores.specs.Left.{answerIn}
+use Rattle.records.specs.Left.{answerIn}
 use Rattle.files.specs.Answers.{verdict, hasRead}
 use Rattle.files.specs.declared.Written.{Written}
 use Rattle.files.specs.declared.Written.the-variants as written

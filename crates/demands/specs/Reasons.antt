@@ -16,8 +16,8 @@ use Rattle.paper.specs.Calls.{Session, Refused, numberOf, BuildLent, BuildLeft,
 use Rattle.paper.specs.Reasoned.{withReasons, reasonsFit, buildReasoned, trialReasoned, keepReasoned, takeReasoned}
 use Rattle.paper.specs.Demands.{buildAsWas, trialAsWas, keepAsWas, Lent, own, Lends, tries, keeps, takes, lentOf, ownAfter, modelOf, passedOn, renewed, restored}
 use Rattle.paper.specs.ReasonRuns.{Reasoning, ReasonState, stands, roomy, ReasonsRight}
-use Rattle.cores.specs.Left.{leftByBuild, leftByTrial, leftByKeep}
-use Rattle.cores.specs.declared.Done.{Done}
+use Rattle.records.specs.Left.{leftByBuild, leftByTrial, leftByKeep}
+use Rattle.records.specs.declared.Done.{Done}
 use Rattle.demands.specs.Stated.{BuildOutcome, TrialOutcome, KeepOutcome, TakeOutcome}
 use Rattle.demands.specs.Runs.{afterBuild, afterTrial}
 

@@ -7,8 +7,8 @@ use Prim.Native.Nat.{ℕ}
 use Rattle.paper.specs.Log.{Log, logIn}
 use Rattle.paper.specs.Calls.{numberOf, BuildLent, Tried, Kept}
 use Rattle.paper.specs.Demands.{Lent, own, Lends, Call, tries, keeps, takes, State, lentOf, modelOf, passedOn}
-use Rattle.cores.specs.Left.{recordIn}
-use Rattle.cores.specs.declared.Done.{Done}
+use Rattle.records.specs.Left.{recordIn}
+use Rattle.records.specs.declared.Done.{Done}
 use Rattle.demands.specs.Stated.{BuildOutcome, TrialOutcome, leftTried, KeepOutcome, leftKept, TakeOutcome, leftTaken}
 
 -- what is handed on, the record, the session's own row of stored values and its log: by build

@@ -11,8 +11,8 @@ use Rattle.paper.specs.Calls as call
 use Rattle.paper.specs.Calls.{Session, BuildLent, BuildLeft, Model, Tried, TrialLeft, Kept, KeepLeft}
 use Rattle.paper.specs.File as file
 use Rattle.paper.specs.File.{counted}
-use Rattle.cores.specs.Left.{leftByBuild, leftByTrial, leftByKeep}
-use Rattle.cores.specs.declared.Done.{Done}
+use Rattle.records.specs.Left.{leftByBuild, leftByTrial, leftByKeep}
+use Rattle.records.specs.declared.Done.{Done}
 use Rattle.files.specs.Answers.{verdict, hasRead}
 use Rattle.files.specs.declared.Written.{Written}
 use Rattle.headers.specs.declared.Reading.{Reading}

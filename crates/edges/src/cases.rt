@@ -15,8 +15,6 @@
 use crate::batches::count_case;
 use crate::kept::change_case;
 use crate::print;
-use cores::Done;
-use cores::Session;
 use pools::calls::build_planned;
 use pools::calls::try_planned;
 use pools::fields::after;
@@ -31,6 +29,8 @@ use pools::rows::fill16;
 use pools::rows::row_signed16;
 use pools::rows::row_signed32;
 use pools::rows::row16;
+use records::Done;
+use records::Session;
 
 // A number of the case.
 pub fn count(case: &[u8], at: usize) -> usize {

@@ -1,5 +1,4 @@
 // The line of a case: which call, the case's name, the answer, the record, and the rows that are left.
-use cores::Done;
 use figures::Counted;
 use figures::Totals;
 use libc::STDOUT_FILENO;
@@ -9,6 +8,7 @@ use pools::print::number;
 use pools::print::record;
 use pools::print::text;
 use pools::print::three;
+use records::Done;
 
 // Prints a case's name, and what its call comes to.
 fn come_to(name: &[u8], done: Done) {

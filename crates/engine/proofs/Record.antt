@@ -26,15 +26,15 @@ use denote.Steps.{only, opens, closes, owned, peeks, facts}
 use denote.Struct.Steps.{spelt}
 use denote.Struct.Laws as LL
 use denote.Enum.Laws as EL
-use Rattle.cores.specs.declared.Session.{Session}
+use Rattle.records.specs.declared.Session.{Session}
 use Rattle.tables.specs.declared.Answer.{Answer}
-use Rattle.cores.specs.declared.Done.{Done}
-use Rattle.cores.proofs.Session as S
-use Rattle.cores.proofs.Session.Laws as S′
+use Rattle.records.specs.declared.Done.{Done}
+use Rattle.records.proofs.Session as S
+use Rattle.records.proofs.Session.Laws as S′
 use Rattle.tables.proofs.Answer as R
 use Rattle.tables.proofs.Answer.Laws as R′
-use Rattle.cores.proofs.Done as D
-use Rattle.cores.proofs.Done.Laws as D′
+use Rattle.records.proofs.Done as D
+use Rattle.records.proofs.Done.Laws as D′
 
 abbrev pub svals : Session → List Val
 svals = LL.vals S.the-type S′.the-laws

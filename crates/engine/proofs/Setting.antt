@@ -27,9 +27,9 @@ use denote.Signature.{typesAt}
 use denote.Steps.{owned, facts, heard, nothing}
 use denote.Struct.Laws as LL
 use denote.Triple.Statement.{Contract}
-use Rattle.cores.specs.declared.Session.{Session}
-use Rattle.cores.proofs.Session as S
-use Rattle.cores.proofs.Session.Laws as S′
+use Rattle.records.specs.declared.Session.{Session}
+use Rattle.records.proofs.Session as S
+use Rattle.records.proofs.Session.Laws as S′
 use Rattle.walker.proofs.Walk.{Con, returned}
 use Rattle.engine.proofs.Record.{svals}
 use Rattle.engine.proofs.counters.set_counts as set

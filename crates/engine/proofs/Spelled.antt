@@ -7,7 +7,7 @@ use denote.Builtin.{i16, i32, u16, u8}
 use denote.Ref.{ptr-vals, mut-tells}
 use denote.Slice.{slice-vals, mut-slice-tells, shr-slice-tells}
 use denote.Signature.{typesAt}
-use Rattle.cores.proofs.Session as S
+use Rattle.records.proofs.Session as S
 use Rattle.engine.proofs.calls.build as build
 use Rattle.engine.proofs.calls.trial as trial
 use Rattle.engine.proofs.calls.keep as keep

@@ -20,15 +20,15 @@ use denote.Laws.{Is, shows}
 use denote.Steps.{only, owned, facts}
 use denote.Struct.Laws as LL
 use denote.Enum.Laws as EL
-use Rattle.cores.specs.declared.Session.{Session}
+use Rattle.records.specs.declared.Session.{Session}
 use Rattle.tables.specs.declared.Answer.{Answer}
-use Rattle.cores.specs.declared.Done.{Done}
-use Rattle.cores.proofs.Session as S
-use Rattle.cores.proofs.Session.Laws as S′
+use Rattle.records.specs.declared.Done.{Done}
+use Rattle.records.proofs.Session as S
+use Rattle.records.proofs.Session.Laws as S′
 use Rattle.tables.proofs.Answer as R
 use Rattle.tables.proofs.Answer.Laws as R′
-use Rattle.cores.proofs.Done as D
-use Rattle.cores.proofs.Done.Laws as D′
+use Rattle.records.proofs.Done as D
+use Rattle.records.proofs.Done.Laws as D′
 use Rattle.engine.proofs.counters.set_counts as set
 use Rattle.engine.proofs.counters.set_counts.Symbol as set-def
 use Rattle.engine.proofs.counters.set_counts.Met as set-thm

@@ -2,15 +2,15 @@
 ghost use mathlib.Core.Path.{_≡_};
 ghost use Rattle.paper.specs.Log.{logIn};
 ghost use Rattle.fits.specs.Lent.{toBuild, toModel, toTry, toKeep};
-ghost use Rattle.cores.specs.Left.{recordIn, leftByBuild, leftByTrial, leftByKeep};
+ghost use Rattle.records.specs.Left.{recordIn, leftByBuild, leftByTrial, leftByKeep};
 ghost use Rattle.paper.specs.Reasoned.{withReasons, buildReasoned, trialReasoned, keepReasoned, takeReasoned};
 use crate::counters::set_counts;
-use cores::Session;
-use reasoned::build_reasoned;
-use reasoned::keep_reasoned;
-use reasoned::take_back_reasoned;
-use reasoned::trial_reasoned;
+use records::Session;
+use storing::build_reasoned;
+use storing::keep_reasoned;
+use storing::take_back_reasoned;
 use tables::Answer;
+use telling::trial_reasoned;
 
 // Build: numbers, order, values and index of readers of a model whose tables and start values are lent. The reason of every variable is given.
 pub fn build(

@@ -1,6 +1,6 @@
 // The thin function that sets a lent session record.
 ghost use mathlib.Core.Path.{_≡_};
-use cores::Session;
+use records::Session;
 
 // Sets the moves kept, the evaluations of the last accepted call, and the number of blanks.
 pub fn set_counts(session: &mut Session, kept: u32, evaluations: u32, blanks: u32)

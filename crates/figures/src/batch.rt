@@ -5,15 +5,15 @@ ghost use Prim.Native.Nat.{suc, _+_, min, _≤_, _<_};
 ghost use lib.ListN.{length, take, drop, set};
 ghost use Rattle.paper.specs.Lists.{nat, over};
 ghost use Rattle.fits.specs.Lent.{toModel};
-ghost use Rattle.cores.specs.Left.{recordIn};
+ghost use Rattle.records.specs.Left.{recordIn};
 ghost use Rattle.figures.specs.Figures.{outcomes, totals, tallies, batchOf, figures as counted};
 use crate::Counted;
 use crate::Totals;
 use crate::add::add;
 use blanks::BLANK;
-use cores::Session;
 use integers::wide;
 use outcomes::try_move;
+use records::Session;
 
 // The figures of no move.
 fn none() -> Totals

@@ -4,11 +4,11 @@ ghost use Prim.Native.Nat.{_≤_, _<_};
 ghost use Rattle.integers.specs.Integers.{away};
 ghost use Rattle.fits.specs.Lent.{toModel};
 ghost use Rattle.moves.specs.Moves.{moveOf};
-ghost use Rattle.cores.specs.Left.{recordIn};
+ghost use Rattle.records.specs.Left.{recordIn};
 ghost use Rattle.outcomes.specs.Outcomes.{tried, outcome, Small};
 use answers::evaluations_of;
 use answers::number_of;
-use cores::Session;
+use records::Session;
 
 // What comes of a move by one route: the number that the engine answers, its evaluations, and the value of the asked variable.
 pub struct Tried {
@@ -58,7 +58,7 @@ fn try_by(
     let mut results = [0i32; 1];
     let mut trial = [0i32; 4096];
     let mut flags = [0u8; 4096];
-    let done = cores::trial_core(
+    let done = trying::trial_core(
         session,
         n,
         m,

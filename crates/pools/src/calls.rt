@@ -1,8 +1,8 @@
 // The engine's calls, with the rows of unsigned numbers in a pool. The plan names these in this order: kinds, made variables, firsts, counts, entry
 // variables, numbers, order, and the starts and the places of the index of readers.
 use crate::rows::row16;
-use cores::Done;
-use cores::Session;
+use records::Done;
+use records::Session;
 
 // Builds a model.
 pub fn build_planned(
@@ -24,7 +24,7 @@ pub fn build_planned(
     reader_places: &mut [u16],
     log_sizes: &mut [u16],
 ) -> Done {
-    cores::build_core(
+    building::build_core(
         session,
         n,
         m,
@@ -71,7 +71,7 @@ pub fn try_planned(
     trial: &mut [i32],
     flags: &mut [u8],
 ) -> Done {
-    cores::trial_core(
+    trying::trial_core(
         session,
         n,
         m,
@@ -123,7 +123,7 @@ pub fn keep_planned(
     log_vars: &mut [u16],
     log_values: &mut [i32],
 ) -> Done {
-    cores::keep_core(
+    keeping::keep_core(
         session,
         n,
         m,
@@ -170,7 +170,7 @@ pub fn take_planned(
     log_vars: &[u16],
     log_values: &[i32],
 ) -> Done {
-    cores::take_back_core(
+    taking::take_back_core(
         session,
         n,
         m,

@@ -2,8 +2,8 @@
 use crate::fields::least;
 use crate::fields::wide;
 use blanks::is_blank;
-use cores::Session;
 use libc::STDOUT_FILENO;
+use records::Session;
 use tables::Answer;
 
 // Prints text as it is.

@@ -7,7 +7,6 @@ use crate::model::lows;
 use crate::model::params;
 use crate::model::plan;
 use crate::print;
-use cores::Session;
 use pools::calls::keep_planned;
 use pools::calls::take_planned;
 use pools::calls::try_planned;
@@ -15,6 +14,7 @@ use pools::fields::part;
 use pools::fields::word;
 use pools::rows::fill_signed32;
 use pools::rows::fill16;
+use records::Session;
 
 // The numbers of two bytes at a place and behind it, four in all.
 fn four(call: &[u8], at: usize) -> [u16; 4] {

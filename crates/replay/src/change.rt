@@ -4,7 +4,6 @@
 use crate::model::start;
 use crate::model::start_word;
 use crate::print;
-use cores::Session;
 use integers::signed16;
 use integers::signed32;
 use pools::fields::after;
@@ -12,6 +11,7 @@ use pools::fields::word;
 use pools::rows::put_signed16;
 use pools::rows::put_signed32;
 use pools::rows::put16;
+use records::Session;
 
 // The lower 16 bits of a field.
 fn low(field: u32) -> u16 {

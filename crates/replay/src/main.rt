@@ -14,8 +14,6 @@ use crate::model::put_bounds;
 use crate::model::put_built;
 use crate::model::put_params;
 use crate::model::put_tables;
-use cores::Done;
-use cores::Session;
 use headers::Reading;
 use pools::calls::build_planned;
 use pools::fields::after;
@@ -23,6 +21,8 @@ use pools::fields::least;
 use pools::fields::part;
 use pools::fields::word;
 use pools::given::read_argument;
+use records::Done;
+use records::Session;
 use tables::Answer;
 
 // Makes the calls of a session one after another.

@@ -1,6 +1,5 @@
 // The lines of a session: what a read, a build, a trial, a keep, a change and a taking back print. Behind the answer and the record stand the rows that an accepted
 // call leaves, a bar before each.
-use cores::Done;
 use headers::Reading;
 use pools::fields::after;
 use pools::print::answer;
@@ -14,6 +13,7 @@ use pools::print::values;
 use pools::rows::number_at;
 use pools::rows::row_signed32;
 use pools::rows::row16;
+use records::Done;
 use tables::Answer;
 
 // Prints the line of a read: number, place, n, m and e.

@@ -18,8 +18,8 @@ use Rattle.headers.specs.declared.Reading.{Reading}
 use Rattle.headers.specs.declared.Reading.the-variants as reading
 use Rattle.tables.specs.declared.Answer.{Answer}
 use Rattle.tables.specs.declared.Answer.the-variants.{Accepted, Refused}
-use Rattle.cores.specs.declared.Done.{Done}
-use Rattle.cores.specs.Left.{answerIn, leftByBuild}
+use Rattle.records.specs.declared.Done.{Done}
+use Rattle.records.specs.Left.{answerIn, leftByBuild}
 use Rattle.buffers.specs.Buffer.{Shows}
 use Rattle.text.specs.Lines.{lines, refusal}
 use Rattle.report.specs.Printed.{said, ofTables, ofRead, empty, printed, refusalIn, refusalOf}

@@ -5,14 +5,14 @@ ghost use mathlib.Core.Path.{_≡_};
 ghost use lib.ListN.{length, drop};
 ghost use Rattle.io.specs.Counts.{Counts};
 ghost use Rattle.paper.specs.Tables.{lent};
-ghost use Rattle.cores.specs.Left.{answerIn};
+ghost use Rattle.records.specs.Left.{answerIn};
 ghost use Rattle.report.specs.Printed.{ofTables, printed, refusalIn, refusalOf};
 ghost use Rattle.buffers.specs.Buffer.{Shows};
 use bounds::HIGHEST;
 use bounds::LOWEST;
-use cores::Session;
 use headers::Reading;
-use reasoned::build_reasoned;
+use records::Session;
+use storing::build_reasoned;
 use tables::Answer;
 
 // The refusal line of a file that is not read; one that is read has none.

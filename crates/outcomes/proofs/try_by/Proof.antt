@@ -8,7 +8,7 @@ use Rattle.integers.proofs.Ranges.{fits-away}
 use Rattle.paper.specs.Calls.{Model}
 use Rattle.moves.specs.Moves.{moveOf}
 use Rattle.fits.specs.Lent.{toModel}
-use Rattle.cores.specs.Left.{recordIn}
+use Rattle.records.specs.Left.{recordIn}
 use Rattle.outcomes.specs.declared.Tried.{Tried}
 use Rattle.outcomes.proofs.Trying.{tried-low, tried-is}
 use Rattle.outcomes.proofs.try_by.Statement.{statement}

@@ -1,6 +1,6 @@
 -- Each variant is spelled out as the paper does it. Assumes nothing.
 use mathlib.Core.Path.{ap, sym}
-use Rattle.cores.specs.Left.{answerIn}
+use Rattle.records.specs.Left.{answerIn}
 use Rattle.capi.specs.Outcomes.{inNumbers}
 use borrow.Author.Needs.{needs}
 use Rattle.capi.proofs.answers.in_numbers.Statement.{statement}

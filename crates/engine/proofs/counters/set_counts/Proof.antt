@@ -27,9 +27,9 @@ use denote.Struct.Laws as LL
 use denote.Triple.Entry.{Args, onEntry}
 use denote.Triple.Spec.{tripleOf}
 use denote.Triple.Table.{entered}
-use Rattle.cores.specs.declared.Session.{Session}
-use Rattle.cores.proofs.Session as S
-use Rattle.cores.proofs.Session.Laws as S′
+use Rattle.records.specs.declared.Session.{Session}
+use Rattle.records.proofs.Session as S
+use Rattle.records.proofs.Session.Laws as S′
 use Rattle.walker.proofs.Walk.{Con, ends-said, meets-said}
 use Rattle.engine.proofs.Record.{svals, opens-record, closes-record}
 use Rattle.engine.proofs.counters.set_counts.Key.{name as #engine·set-counts}

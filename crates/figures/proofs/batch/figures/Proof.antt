@@ -2,7 +2,7 @@
 use borrow.Author.Tests.{not-true, not-false}
 use Rattle.paper.specs.Calls.{Session, Model}
 use Rattle.fits.specs.Lent.{toModel}
-use Rattle.cores.specs.Left.{recordIn}
+use Rattle.records.specs.Left.{recordIn}
 use Rattle.figures.specs.Figures.{Batch, batchOf}
 use Rattle.figures.proofs.Called.{fits-known, figures-refused, figures-accepted}
 use borrow.Author.Needs.{needs}

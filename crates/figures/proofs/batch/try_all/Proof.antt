@@ -6,7 +6,7 @@ use borrow.Author.Needs.{needs}
 use Rattle.paper.specs.Calls.{Session, Model}
 use Rattle.moves.specs.Moves.{moveOf}
 use Rattle.fits.specs.Lent.{toModel}
-use Rattle.cores.specs.Left.{recordIn}
+use Rattle.records.specs.Left.{recordIn}
 use Rattle.outcomes.specs.Outcomes.{outcome}
 use Rattle.figures.specs.Figures.{Batch, batchOf}
 use Rattle.figures.proofs.Going.{cleared-long, Going, going-start, going-next, going-long, going-few, going-room, going-end}
