@@ -7,7 +7,7 @@ use Rattle.paper.specs.Net.{number}
 use Rattle.paper.specs.Tables.{Tables, net, rowOf, ends, order}
 use Rattle.paper.specs.Checks.{Sound, numbered}
 use Rattle.paper.proofs.Sizes.{sized-facts}
-use Rattle.paper.proofs.Accept.{sound-row, made-below, inputs-below}
+use Rattle.paper.proofs.Accept.{sound-row, row-of, made-by, made-below, inputs-below}
 use Rattle.tables.specs.Makers.{Makers}
 use Rattle.order.specs.Formed.{bare, Formed}
 
@@ -29,6 +29,8 @@ formed-of t s =
       row-reads = λ r l. sound-row t s r l .some;
       row-inside = λ r l. let h = sound-row t s r l .inside in omega arith;
       row-small = λ r l. let h = sound-row t s r l .inside in omega arith;
+      row-of = row-of t s;
+      made-by = made-by t s;
       made-below = made-below t s;
       inputs-below = inputs-below t s;
     }

@@ -2,33 +2,33 @@
 -- do both. Assumes nothing.
 use Prim.Native.Nat.{ℕ, zero, suc, max, _+_, _*_, _≤_, _<_}
 use native.Mathlib.Nat.{not-suc-le-zero, lt-irrefl}
-use native.Mathlib.Numerals.{add-one}
 use native.Mathlib.Omega.{arith}
 use mathlib.Core.Bool.{Bool, true, false, cond, _&&_}
 use mathlib.Core.List.{List, [], _∷_, map, List·Memᴰ, List·Memᴰ·head, List·Memᴰ·tail, List·Memᴰ·not-nil}
 use mathlib.Core.Logic.{inl, inr, _≢_}
-use mathlib.Core.Path.{_≡_, refl, ap, ap₂, sym, _∙_, subst, fun-ext}
-use lib.Dec.{leb, ltb}
+use mathlib.Core.Path.{_≡_, refl, ap, ap₂, sym, _∙_, subst}
+use lib.Dec.{ltb}
 use lib.ListN.{length, take, List·getD-eq-default}
 use lib.Seq.{getD-take, length-take-le}
-use borrow.Author.Tests.{ltb-true, ltb-false, leb-true, eqb-true, eq-eqb, ne-eqb, lt-ltb, le-ltb, le-leb, lt-leb}
-use Rattle.paper.specs.Lists.{greatest, nat, firstFail, allBelow}
+use borrow.Author.Tests.{ltb-true, ltb-false, leb-true, eqb-true, eq-eqb, ne-eqb, lt-ltb, le-leb}
+use Rattle.paper.specs.Lists.{greatest, nat, allBelow}
 use Rattle.paper.specs.Net.{able, numbering, number}
-use Rattle.paper.specs.Tables.{Tables, isMade, inputsOf, net, order}
+use Rattle.paper.specs.Tables.{Tables, part, isMade, inputsOf, net, order}
 use Rattle.paper.specs.Checks.{numbered}
 use Rattle.paper.proofs.Lists.{clash, and-left, and-right, all-of, all-at}
 use Rattle.paper.proofs.Least.{allBelow-at, below-all}
-use Rattle.paper.proofs.Scan.{Scan, scan-start, scan-next, scan-found}
+use Rattle.paper.proofs.Scan.{Scan, scan-next}
 use Rattle.paper.proofs.Lawful.{lawful}
 use Rattle.paper.proofs.Numbers.{Numbers, numbering-local, number-right, numbers-unique}
 use Rattle.paper.proofs.Circle.{numbers-end, ends-everywhere}
 use Rattle.paper.proofs.Order.{Prec, Sorted, Rising, rank, order-sorted, order-in, order-length, order-unique, order-checked}
 use Rattle.paper.proofs.Eight.{numbered-ends, numbered-numbers, numbered-order, numbered-of}
+use Rattle.tables.specs.Makers.{Makers}
 use Rattle.order.specs.Formed.{Formed}
 use Rattle.ascents.specs.Ascent.{standing, floor, risesAt}
 use Rattle.ascents.proofs.Climbs.{fails-here}
-use Rattle.order.specs.Numbering.{above, rightAt, partAt}
-use Rattle.order.proofs.Parted.{Parts}
+use Rattle.order.specs.Numbering.{above, searchedRight, madeRight}
+use Rattle.order.proofs.ByRows.{rightAt, iff, by-rows}
 use Rattle.order.proofs.Sweeps.{numbering-above}
 
 -- ── the number that the inputs' numbers ask: those in `left` are still to be looked at ──
@@ -55,13 +55,14 @@ module _ (n : ℕ) (f : ℕ → ℕ) (inputs : List ℕ) where
       all = let h = rw e at (A .all) in omega arith;
     }
 
--- ── the pass over the numbers ──
-module _ (dep : ℕ → List ℕ) (nums : List ℕ) (n v x y : ℕ) (S : Scan (rightAt dep nums) n v) (l : v < n) (ex : x ≡ nat nums v) (ey : y ≡ above (nat nums) (dep v)) where
-  pub right-next : x ≡ y → Scan (rightAt dep nums) n (v + 1)
-  right-next e = scan-next (rightAt dep nums) n v S l (eq-eqb (nat nums v) (above (nat nums) (dep v)) (sym ex ∙ e ∙ ey))
+-- ── the pass over the rows ──
+module _ (t : Tables) (nums : List ℕ) (r x y : ℕ) (S : Scan (madeRight t nums) (t .m) r) (l : r < t .m) (ex : x ≡ nat nums (nat (t .makes) r))
+    (ey : y ≡ above (nat nums) (part t r (t .vars))) where
+  pub right-next : x ≡ y → Scan (madeRight t nums) (t .m) (r + 1)
+  right-next e = scan-next (madeRight t nums) (t .m) r S l (eq-eqb (nat nums (nat (t .makes) r)) (above (nat nums) (part t r (t .vars))) (sym ex ∙ e ∙ ey))
 
-  pub wrong-here : x ≢ y → false ≡ allBelow (rightAt dep nums) n
-  wrong-here ne = fails-here (rightAt dep nums) n v S l (ne-eqb (nat nums v) (above (nat nums) (dep v)) (λ e. ne (ex ∙ e ∙ sym ey)))
+  pub wrong-here : x ≢ y → false ≡ allBelow (madeRight t nums) (t .m)
+  wrong-here ne = fails-here (madeRight t nums) (t .m) r S l (ne-eqb (nat nums (nat (t .makes) r)) (above (nat nums) (part t r (t .vars))) (λ e. ne (ex ∙ e ∙ sym ey)))
 
 -- ── neighbours ──
 index-of : {w : ℕ} (l : List ℕ) → List·Memᴰ w l → (j : ℕ) × (j < length l) × (w ≡ nat l j)
@@ -91,12 +92,6 @@ module _ (d : ℕ → ℕ) where
         go : (c : Bool) → ltb (d a) (d b) ≡ c → Prec d a b
         go true e = inl (ltb-true (d a) (d b) e)
         go false e = let q = ltb-false (d a) (d b) e in inr (omega arith, omega arith)
-
--- two tests that imply each other are one
-iff : (a b : Bool) → (a ≡ true → b ≡ true) → (b ≡ true → a ≡ true) → a ≡ b
-iff true b p q = sym (p refl)
-iff false true p q = q refl
-iff false false p q = refl
 
 module _ (t : Tables) (F : Formed t) (nums ord : List ℕ) (long : t .n ≤ length nums) (room : t .m ≤ length ord) where
   -- ── the numbers ──
@@ -205,13 +200,12 @@ module _ (t : Tables) (F : Formed t) (nums ord : List ℕ) (long : t .n ≤ leng
           ∙ numbering-local (net t) (number (net t) (t .n)) (nat nums) v (λ i m. sym (is i (F .inputs-below v i m))) ∙ numbering-above t F (nat nums) v))) e
       go false q = refl
 
-  module _ (begins stops : List ℕ) (P : Parts t begins stops) where
-    same-test : allBelow (rightAt (partAt begins stops (t .vars)) nums) (t .n) ≡ allBelow (rightAt (inputsOf t) nums) (t .n)
-    same-test = ap (λ dep. allBelow (rightAt dep nums) (t .n)) (fun-ext (P .inputs))
+  module _ (by : List ℕ) (M : Makers t by) {a b : Bool} (p : a ≡ allBelow (searchedRight by nums) (t .n)) (q : b ≡ allBelow (madeRight t nums) (t .m)) where
+    told : (a && b) ≡ allBelow (rightAt (inputsOf t) nums) (t .n)
+    told = ap₂ _&&_ p q ∙ by-rows t F by nums M
 
-    pub eight-right : {a b : Bool} → a ≡ allBelow (rightAt (partAt begins stops (t .vars)) nums) (t .n) → a ≡ true
-        → b ≡ allBelow (risesAt (standing (t .makes) nums) (t .m) ord) (t .m) → b ≡ numbered t nums ord
-    eight-right p e q = q ∙ passes (sym same-test ∙ sym p ∙ e)
+    pub eight-right : {c : Bool} → (a && b) ≡ true → c ≡ allBelow (risesAt (standing (t .makes) nums) (t .m) ord) (t .m) → c ≡ numbered t nums ord
+    eight-right e h = h ∙ passes (sym told ∙ e)
 
-    pub eight-wrong : {a : Bool} → a ≡ allBelow (rightAt (partAt begins stops (t .vars)) nums) (t .n) → a ≡ false → false ≡ numbered t nums ord
-    eight-wrong p e = fails (sym same-test ∙ sym p ∙ e)
+    pub eight-wrong : (a && b) ≡ false → false ≡ numbered t nums ord
+    eight-wrong e = fails (sym told ∙ e)

@@ -4,4 +4,5 @@ pub mod Visits
 pub mod Sweeps
 pub mod Links
 pub mod Ordered
+pub mod ByRows
 pub mod Eight

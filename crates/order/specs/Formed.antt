@@ -6,7 +6,7 @@ use mathlib.Core.List.{List, [], List·Memᴰ}
 use mathlib.Core.Path.{_≡_}
 use lib.ListN.{length}
 use Rattle.paper.specs.Lists.{nat}
-use Rattle.paper.specs.Tables.{Tables, lent, isMade, inputsOf}
+use Rattle.paper.specs.Tables.{Tables, lent, rowOf, isMade, inputsOf}
 
 -- kinds, parameters and coefficients play no part
 abbrev pub bare : ℕ → ℕ → List ℕ → List ℕ → List ℕ → List ℕ → Tables
@@ -24,6 +24,9 @@ pub record Formed (t : Tables) : Type 0 where
   pub row-reads : (r : ℕ) → r < t .m → 1 ≤ nat (t .counts) r
   pub row-inside : (r : ℕ) → r < t .m → nat (t .firsts) r + nat (t .counts) r ≤ length (t .vars)
   pub row-small : (r : ℕ) → r < t .m → nat (t .firsts) r + nat (t .counts) r ≤ 16384
+  -- each row is that of the variable which it makes, and the row of a made variable makes it
+  pub row-of : (r : ℕ) → r < t .m → rowOf t (nat (t .makes) r) ≡ r
+  pub made-by : (v : ℕ) → isMade t v ≡ true → nat (t .makes) (rowOf t v) ≡ v
   -- what is made, and what it is made from, are variables
   pub made-below : (v : ℕ) → isMade t v ≡ true → v < t .n
   pub inputs-below : (v i : ℕ) → List·Memᴰ i (inputsOf t v) → i < t .n

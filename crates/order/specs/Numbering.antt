@@ -1,6 +1,6 @@
 -- Numbering by visits: what the scratch rows hold. Assumes nothing.
 use Prim.Native.Nat.{ℕ, suc, max, _+_, _-_, _≤_, _<_}
-use mathlib.Core.Bool.{Bool, cond}
+use mathlib.Core.Bool.{Bool, cond, not, _||_}
 use mathlib.Core.List.{List, [], _∷_, List·Memᴰ}
 use mathlib.Core.Logic.{_⊎_}
 use mathlib.Core.Path.{_≡_}
@@ -9,7 +9,7 @@ use lib.ListN.{length}
 use lib.Seq.{slice}
 use Rattle.paper.specs.Lists.{nat, size, firstFail}
 use Rattle.paper.specs.Net.{number}
-use Rattle.paper.specs.Tables.{Tables, net, ends}
+use Rattle.paper.specs.Tables.{Tables, part, net, ends}
 
 -- a row of zeros, at least n long
 pub record Clean (n : ℕ) (row : List ℕ) : Type 0 where
@@ -21,9 +21,16 @@ abbrev pub above : (ℕ → ℕ) → List ℕ → ℕ
 above f [] = 0
 above f (x ∷ xs) = max (suc (f x)) (above f xs)
 
--- check 8 of the numbers: v's number is the least above its inputs'
-abbrev pub rightAt : (ℕ → List ℕ) → List ℕ → ℕ → Bool
-rightAt dep nums v = eqb (nat nums v) (above (nat nums) (dep v))
+-- check 8 of the numbers: that of a search variable is 0, and that of what row r makes the least above its inputs'
+abbrev pub searchedRight : List ℕ → List ℕ → ℕ → Bool
+searchedRight by nums v = not (eqb (nat by v) 0) || eqb (nat nums v) 0
+
+abbrev pub madeRight : Tables → List ℕ → ℕ → Bool
+madeRight t nums r = eqb (nat nums (nat (t .makes) r)) (above (nat nums) (part t r (t .vars)))
+
+-- all these inputs are below n
+pub record Inputs (n : ℕ) (inputs : List ℕ) : Type 0 where
+  pub below : (i : ℕ) → List·Memᴰ i inputs → i < n
 
 -- what the maker's row has in a column, 0 without a maker; and where its part stops
 abbrev pub ofMaker : ℕ → List ℕ → ℕ

@@ -1,58 +1,61 @@
 // Check 8: whether lent numbers and a lent order are what build gives, without numbering anew.
-use crate::parts::set_parts;
 use ascents::order_right;
 use integers::wide;
 use naturals::larger;
 ghost use mathlib.Core.Path.{_≡_};
-ghost use Prim.Native.Nat.{_≤_, _<_};
+ghost use Prim.Native.Nat.{_≤_};
 ghost use lib.ListN.{length};
 ghost use Rattle.paper.specs.Lists.{nat, allBelow};
 ghost use Rattle.paper.specs.Checks.{numbered};
 ghost use Rattle.tables.specs.Makers.{Makers};
 ghost use Rattle.order.specs.Formed.{bare, Formed};
-ghost use Rattle.order.specs.Numbering.{above, rightAt, partAt, Parted};
+ghost use Rattle.order.specs.Numbering.{above, searchedRight, madeRight, Inputs};
 
-// The number that v's inputs' numbers give it.
-fn due(
-    v: usize,
-    n: usize,
-    begins: &[u16; 4096],
-    stops: &[u16; 4096],
-    vars: &[u16],
-    nums: &[u16],
-) -> usize
-    requires parted { ⌜ Parted n (now begins) (now stops) (now vars) ⌝ }
-    requires there { ⌜ (v < n) × (n ≤ length (now nums)) ⌝ }
-    ensures { λ r. ⌜ r ≡ above (nat (now (nums .entry))) (partAt (now (begins .entry)) (now (stops .entry)) (now (vars .entry)) v) ⌝ }
+// Whether every search variable has the number 0. No variable stops the loop, so that it takes several at a time.
+fn searched_right(n: usize, by: &[u16], nums: &[u16]) -> bool
+    requires { ⌜ (n ≤ length (now by)) × (n ≤ length (now nums)) ⌝ }
+    ensures { λ b. ⌜ b ≡ allBelow (searchedRight (now (by .entry)) (now (nums .entry))) n ⌝ }
 {
-    let stop = wide(stops[v]);
+    let mut all = true;
+    for v in 0..n {
+        all = all & ((by[v] != 0) | (nums[v] == 0));
+    }
+    all
+}
+
+// The number that these inputs' numbers give what is made from them.
+fn due(n: usize, inputs: &[u16], nums: &[u16]) -> usize
+    requires known { ⌜ Inputs n (now inputs) ⌝ }
+    requires there { ⌜ n ≤ length (now nums) ⌝ }
+    ensures { λ r. ⌜ r ≡ above (nat (now (nums .entry))) (now (inputs .entry)) ⌝ }
+{
     let mut best = 0;
-    let mut i = wide(begins[v]);
-    while i < stop {
-        best = larger(best, wide(nums[wide(vars[i])]) + 1);
-        i += 1;
+    for i in 0..inputs.len() {
+        best = larger(best, wide(nums[wide(inputs[i])]) + 1);
     }
     best
 }
 
-// Whether every variable has the number that its inputs' numbers give it.
-fn numbers_right(
+// Whether what each row makes has the number that its inputs' numbers give it.
+fn made_right(
     n: usize,
-    begins: &[u16; 4096],
-    stops: &[u16; 4096],
+    m: usize,
+    makes: &[u16],
+    firsts: &[u16],
+    counts: &[u16],
     vars: &[u16],
     nums: &[u16],
 ) -> bool
-    requires parted { ⌜ Parted n (now begins) (now stops) (now vars) ⌝ }
+    requires formed { ⌜ Formed (bare n m (now makes) (now firsts) (now counts) (now vars)) ⌝ }
     requires there { ⌜ n ≤ length (now nums) ⌝ }
-    ensures { λ b. ⌜ b ≡ allBelow (rightAt (partAt (now (begins .entry)) (now (stops .entry)) (now (vars .entry))) (now (nums .entry))) n ⌝ }
+    ensures { λ b. ⌜ b ≡ allBelow (madeRight (bare n m (now (makes .entry)) (now (firsts .entry)) (now (counts .entry)) (now (vars .entry))) (now (nums .entry))) m ⌝ }
 {
-    let mut v = 0;
-    while v < n {
-        if wide(nums[v]) != due(v, n, begins, stops, vars, nums) {
+    for r in 0..m {
+        let first = wide(firsts[r]);
+        let least = due(n, &vars[first..first + wide(counts[r])], nums);
+        if wide(nums[wide(makes[r])]) != least {
             return false;
         }
-        v += 1;
     }
     true
 }
@@ -74,10 +77,8 @@ pub fn numbered_right(
     requires there { ⌜ (n ≤ length (now nums)) × (m ≤ length (now ord)) ⌝ }
     ensures { λ b. ⌜ b ≡ numbered (bare n m (now (makes .entry)) (now (firsts .entry)) (now (counts .entry)) (now (vars .entry))) (now (nums .entry)) (now (ord .entry)) ⌝ }
 {
-    let mut begins = [0u16; 4096];
-    let mut stops = [0u16; 4096];
-    set_parts(n, firsts, counts, by, &mut begins, &mut stops);
-    if numbers_right(n, &begins, &stops, vars, nums) {
+    let searched = searched_right(n, by, nums);
+    if searched & made_right(n, m, makes, firsts, counts, vars, nums) {
         return order_right(n, m, makes, nums, ord);
     }
     false

@@ -28,8 +28,8 @@ use Rattle.readers.proofs.Few.{readers-few}
 
 -- the first k rows stand where they are to among the places that build may fill
 pub record Walked (t : Tables) (starts filled : List ℕ) (k : ℕ) (reached last : List ℕ) : Type 0 where
-  pub reached-long : 4096 ≤ length reached
-  pub last-long : 4096 ≤ length last
+  pub reached-long : t .n ≤ length reached
+  pub last-long : t .n ≤ length last
   pub on : (v : ℕ) → v < t .n → nat reached v ≡ nat starts v + length (those (reads t v) k)
   pub at : (v j : ℕ) → v < t .n → j < length (those (reads t v) k) → stands (nat (those (reads t v) k) j) filled (nat starts v + j) ≡ true
   pub low : (v : ℕ) → nat last v ≤ k
@@ -45,9 +45,9 @@ module _ (t : Tables) (L : Laid t) (starts places : List ℕ) (room : t .e ≤ l
   abbrev before : ℕ → ℕ → List ℕ
   before k v = those (reads t v) k
 
-  pub walked-start : (reached₀ reached last : List ℕ) → Clean 4096 reached₀ → Clean 4096 last → reached ≡ over (t .n) (nat starts) reached₀ → Walked t starts filled 0 reached last
+  pub walked-start : (reached₀ reached last : List ℕ) → Clean (t .n) reached₀ → Clean (t .n) last → reached ≡ over (t .n) (nat starts) reached₀ → Walked t starts filled 0 reached last
   walked-start reached₀ reached last C D e = record {
-    reached-long = let a = ap length e ∙ over-length (nat starts) (t .n) reached₀ (let c = C .long in let f = L .few in omega arith) in let c = C .long in omega arith;
+    reached-long = let a = ap length e ∙ over-length (nat starts) (t .n) reached₀ (C .long) in let c = C .long in omega arith;
     last-long = D .long;
     on = λ v l. let a = ap (λ (x : List ℕ). nat x v) e ∙ over-at (nat starts) (t .n) reached₀ v 0 l in omega arith;
     at = λ v j l h. absurd (not-suc-le-zero h);
@@ -67,13 +67,15 @@ module _ (t : Tables) (L : Laid t) (starts places : List ℕ) (room : t .e ≤ l
         record {
           row = omega arith;
           room = let a = length-take-le (t .e) places room in let e = L .small in omega arith;
-          reached-long = W .reached-long;
-          last-long = W .last-long;
-          below = λ i h.
-              let a = part-long t L k l in let long = ap length e in let b = entry-low t L k i l (omega arith) in let x = ap (λ (p : List ℕ). nat p i) e in
-              omega arith;
+          in-reached = λ i h. let b = low i h in let k = W .reached-long in omega arith;
+          in-last = λ i h. let b = low i h in let k = W .last-long in omega arith;
           not-found = W .low;
         }
+      where
+        low : (i : ℕ) → i < length part′ → nat part′ i < t .n
+        low i h =
+            let a = part-long t L k l in let long = ap length e in let b = entry-low t L k i l (omega arith) in let x = ap (λ (p : List ℕ). nat p i) e in
+            omega arith
 
     -- ── the row stands behind them ──
     row-next : all good inputs ≡ true → (reached′ last′ : List ℕ) → Passed k inputs reached last reached′ last′ → Walked t starts filled (k + 1) reached′ last′

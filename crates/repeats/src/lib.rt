@@ -1,4 +1,4 @@
-// Check 5, and check 11 with it: a variable that an earlier place of a list names too.
+// A variable that an earlier place of a list names too, as checks 5 and 11 have it: check 11.
 ghost use mathlib.Core.Bool.{true};
 ghost use mathlib.Core.Path.{_≡_};
 ghost use Prim.Native.Nat.{_≤_, _<_};
@@ -44,8 +44,8 @@ pub fn mark(v: u16, seen: &mut [bool])
     seen[at] = true;
 }
 
-// The first of m places that names what an earlier one names.
-pub fn first_again(m: usize, vars: &[u16]) -> usize
+// The first of m places that names what an earlier one names, by marks: one look at a place, but a row of marks to clear.
+fn first_marked(m: usize, vars: &[u16]) -> usize
     requires { ⌜ m ≤ length (now vars) ⌝ }
     ensures { λ r. ⌜ r ≡ firstFail (madeOnce (makesRows (now (vars .entry)))) m ⌝ }
 {
@@ -57,4 +57,28 @@ pub fn first_again(m: usize, vars: &[u16]) -> usize
         mark(vars[i], &mut seen);
     }
     m
+}
+
+// The first of m places that names what an earlier one names, by comparing each place with those before it.
+fn first_compared(m: usize, vars: &[u16]) -> usize
+    requires { ⌜ m ≤ length (now vars) ⌝ }
+    ensures { λ r. ⌜ r ≡ firstFail (madeOnce (makesRows (now (vars .entry)))) m ⌝ }
+{
+    for place in 0..m {
+        if names(&vars[0..place], vars[place]) {
+            return place;
+        }
+    }
+    m
+}
+
+// The first of m places that names what an earlier one names. Few places are compared sooner than a row of marks is cleared.
+pub fn first_again(m: usize, vars: &[u16]) -> usize
+    requires { ⌜ m ≤ length (now vars) ⌝ }
+    ensures { λ r. ⌜ r ≡ firstFail (madeOnce (makesRows (now (vars .entry)))) m ⌝ }
+{
+    if m <= 16 {
+        return first_compared(m, vars);
+    }
+    first_marked(m, vars)
 }

@@ -2,13 +2,16 @@
 ghost use mathlib.Core.Path.{_≡_};
 ghost use Prim.Native.Nat.{pred, _≤_};
 ghost use lib.ListN.{length};
+ghost use Rattle.paper.specs.Lists.{firstFail};
 ghost use Rattle.paper.specs.Tables.{lent};
-ghost use Rattle.paper.specs.Checks.{accepted, boundsIn, rowChecks};
+ghost use Rattle.paper.specs.Checks.{accepted, boundsIn, madeOnce, rowChecks};
 ghost use Rattle.paper.proofs.Sizes.{Sized};
+ghost use Rattle.repeats.specs.Named.{makesRows};
 ghost use Rattle.tables.specs.Answers.{answerOf};
 ghost use Rattle.sound.specs.Judged.{TablesJudged};
+ghost use Rattle.sound.specs.Once.{Made};
 use bounds::first_bad_bound;
-use repeats::first_again;
+use integers::wide;
 use tables::Answer;
 use tables::first_bad_kind;
 use tables::first_bad_number;
@@ -62,6 +65,20 @@ pub fn row_checks(
     Answer::Accepted { evaluations: 0 }
 }
 
+// Check 5: the first row that makes a variable which an earlier row makes too. The row of makers names the first row that makes each. The test is
+// not whether it names this row: the compiler would take the number that it reads for the next turn's, and each turn would wait for the one before.
+fn first_made_again(n: usize, m: usize, makes: &[u16], by: &[u16]) -> usize
+    requires { ⌜ Made n m (now makes) (now by) ⌝ }
+    ensures { λ r. ⌜ r ≡ firstFail (madeOnce (makesRows (now (makes .entry)))) m ⌝ }
+{
+    for row in 0..m {
+        if wide(by[wide(makes[row])]) <= row {
+            return row;
+        }
+    }
+    m
+}
+
 // Checks 2 to 5, the bounds after the rows of check 4; if all are passed, `by` holds the makers.
 pub fn table_checks(
     n: usize,
@@ -92,7 +109,7 @@ pub fn table_checks(
     if bad < n {
         return refused(4, bad);
     }
-    let again = first_again(m, makes);
+    let again = first_made_again(n, m, makes, by);
     if again < m {
         return refused(5, again);
     }

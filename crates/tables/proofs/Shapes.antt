@@ -3,7 +3,7 @@
 use Prim.Native.Nat.{ℕ, suc, _+_, _-_, _≤_, _<_}
 use native.Mathlib.Omega.{arith}
 use mathlib.Core.Logic.{_≢_}
-use mathlib.Core.Bool.{Bool, true, false, _&&_, _||_, and-true, and-false}
+use mathlib.Core.Bool.{Bool, true, false, _&&_, and-true, and-false}
 use mathlib.Core.List.{List, [], _∷_}
 use mathlib.Core.Path.{_≡_, refl, sym, ap, ap₂, _∙_}
 use lib.Dec.{eqb, leb, ltb}
@@ -18,7 +18,7 @@ use Rattle.paper.proofs.Least.{firstFail-fails, firstFail-before, allBelow-at}
 use Rattle.paper.proofs.Scan.{part-same}
 use Rattle.tables.proofs.Tests.{second-last}
 use Rattle.tables.proofs.Parts.{cut}
-use Rattle.tables.proofs.Whole.{all-part, part-front, known-or}
+use Rattle.tables.proofs.Whole.{all-part, part-front}
 
 -- ── how many inputs ──
 twice : (b : Bool) → b ≡ (b && true && true)
@@ -76,34 +76,21 @@ all-greatest n (x ∷ xs) h = ap₂ _&&_ (lt-ltb x n (omega arith)) (all-greates
 
 -- ── a row, as the code reads it ──
 -- if the greatest of the first e is below n, so are the variables of a part within e
-pub inputs-known : (n e first count : ℕ) (vars : List ℕ) → first + count ≤ e
-    → (ltb (greatest (take e vars)) n || all (λ v. ltb v n) (cut first count vars)) ≡ all (λ v. ltb v n) (cut first count vars)
-inputs-known n e first count vars h = known-or _ _ (λ q. sym (ap (all below) (part-front first own e vars (omega arith))) ∙ all-part below first own (take e vars) (known q))
-  where
-    own : ℕ
-    own = (first + count) - first
-
-    below : ℕ → Bool
-    below v = ltb v n
-
-    known : ltb (greatest (take e vars)) n ≡ true → all below (take e vars) ≡ true
-    known q = all-greatest n (take e vars) (ltb-true (greatest (take e vars)) n q)
+pub inputs-known : (n e first count : ℕ) (vars : List ℕ) → first + count ≤ e → ltb (greatest (take e vars)) n ≡ true → all (λ v. ltb v n) (cut first count vars) ≡ true
+inputs-known n e first count vars h q =
+    let known = all-greatest n (take e vars) (ltb-true (greatest (take e vars)) n q) in
+    sym (ap (all (λ v. ltb v n)) (part-front first ((first + count) - first) e vars (omega arith))) ∙ all-part (λ v. ltb v n) first ((first + count) - first) (take e vars) known
 
 -- if the greatest of the first m made variables is below n and the counts of m rows suit their kinds, each of these rows is good
-pub rows-known : (n m r : ℕ) (kinds makes counts : List ℕ) (known fit good : Bool) → m ≤ length makes → r < m
-    → known ≡ ltb (greatest (take m makes)) n → fit ≡ allBelow (λ i. arity (nat kinds i) (nat counts i)) m
-    → let own = ltb (nat makes r) n && arity (nat kinds r) (nat counts r) in good ≡ ((known && fit) || own) → good ≡ own
-rows-known n m r kinds makes counts known fit good long low k f g =
-    g ∙ known-or _ _ (λ q. ap₂ _&&_ (made (sym k ∙ and-left known fit q)) (allBelow-at suits m (sym f ∙ and-right known fit q) r low))
+pub rows-known : (n m r : ℕ) (kinds makes counts : List ℕ) → m ≤ length makes → r < m
+    → ltb (greatest (take m makes)) n ≡ true → allBelow (λ i. arity (nat kinds i) (nat counts i)) m ≡ true → (ltb (nat makes r) n && arity (nat kinds r) (nat counts r)) ≡ true
+rows-known n m r kinds makes counts long low k f = ap₂ _&&_ made (allBelow-at (λ i. arity (nat kinds i) (nat counts i)) m f r low)
   where
-    suits : ℕ → Bool
-    suits i = arity (nat kinds i) (nat counts i)
-
-    made : ltb (greatest (take m makes)) n ≡ true → ltb (nat makes r) n ≡ true
-    made q =
+    made : ltb (nat makes r) n ≡ true
+    made =
         let few = length-take-le m makes long in
         ap (λ v. ltb v n) (sym (getD-take m makes r 0 low))
-        ∙ all-at (λ v. ltb v n) (take m makes) (all-greatest n (take m makes) (ltb-true (greatest (take m makes)) n q)) r 0 (omega arith)
+        ∙ all-at (λ v. ltb v n) (take m makes) (all-greatest n (take m makes) (ltb-true (greatest (take m makes)) n k)) r 0 (omega arith)
 
 -- the test before the part is looked at: `before` entries have gone to the rows before, and `good` says whether variable and count are
 abbrev pub placed : Tables → Bool → ℕ → ℕ → ℕ → Bool

@@ -1,12 +1,13 @@
 -- The lent rows that one check reads, as tables: what it does not read is left empty. So its contract is the paper's own test, which is the
--- same over the whole tables. Then check 4 as the code takes it, coefficients and parameter each. Assumes nothing.
+-- same over the whole tables. Then check 3 of all parts at once, and check 4 as the code takes it, coefficients and parameter each. Assumes nothing.
 use Prim.Native.Nat.{ℕ}
-use mathlib.Core.Bool.{Bool, cond, _||_}
+use mathlib.Core.Bool.{Bool, cond, _&&_, _||_}
 use mathlib.Core.List.{List, []}
 use lib.IntN.{ℤ, pos, natAbs}
 use lib.Dec.{eqb, leb}
+use lib.ListN.{take}
 use Rattle.integers.specs.Integers.{eqZ}
-use Rattle.paper.specs.Lists.{all}
+use Rattle.paper.specs.Lists.{all, total, nat, allBelow}
 use Rattle.paper.specs.Tables.{Tables, lent}
 
 abbrev pub kindRows : List ℕ → Tables
@@ -17,6 +18,10 @@ shapeRows n e kinds makes firsts counts vars = lent n 0 e kinds makes [] firsts 
 
 abbrev pub numberRows : List ℕ → List ℤ → List ℕ → List ℕ → List ℤ → Tables
 numberRows kinds params firsts counts coefs = lent 0 0 0 kinds [] params firsts counts [] coefs
+
+-- check 3 of the parts of m rows: each begins where those before it end, and the last ends within e
+abbrev pub partsGood : ℕ → ℕ → List ℕ → List ℕ → Bool
+partsGood m e firsts counts = allBelow (λ r. eqb (nat firsts r) (total (take r counts))) m && leb (total (take m counts)) e
 
 -- ── check 4, coefficients and parameter each ──
 abbrev pub allSmall : List ℤ → Bool

@@ -1,12 +1,12 @@
 // Check 3: variables, counts and parts.
-ghost use mathlib.Core.Bool.{_&&_, _||_};
+ghost use mathlib.Core.Bool.{_&&_};
 ghost use mathlib.Core.Path.{_≡_};
 ghost use Prim.Native.Nat.{_≤_, max};
 ghost use lib.Dec.{ltb};
 ghost use lib.ListN.{length, take};
 ghost use Rattle.paper.specs.Lists.{all, greatest, total, nat, firstFail, allBelow};
 ghost use Rattle.paper.specs.Checks.{arity, shapeGood};
-ghost use Rattle.tables.specs.Rows.{shapeRows};
+ghost use Rattle.tables.specs.Rows.{shapeRows, partsGood};
 use integers::wide;
 
 // A row of this kind may have so many inputs.
@@ -75,28 +75,70 @@ fn counts_good(m: usize, kinds: &[u16], counts: &[u16]) -> bool
     good
 }
 
-// A row may make this variable and have so many inputs, which is known or looked up.
-fn row_good(known: bool, n: usize, kind: u16, made: u16, count: u16) -> bool
-    ensures { λ r. ⌜ r ≡ known || (ltb made n && arity kind count) ⌝ }
+// Each of m rows has its part where those before it end, and the last one's ends within e. No row stops the loop.
+fn parts_good(m: usize, e: usize, firsts: &[u16], counts: &[u16]) -> bool
+    requires { ⌜ (m ≤ length (now firsts)) × (m ≤ length (now counts)) ⌝ }
+    ensures { λ r. ⌜ r ≡ partsGood m e (now (firsts .entry)) (now (counts .entry)) ⌝ }
 {
-    if known {
-        return true;
+    let mut good = true;
+    let mut before: u32 = 0;
+    for row in 0..m {
+        let first = firsts[row] as u32;
+        good = good & (first == before);
+        before = first + (counts[row] as u32);
     }
+    good & ((before as usize) <= e)
+}
+
+// A row may make this variable and have so many inputs.
+fn row_good(n: usize, kind: u16, made: u16, count: u16) -> bool
+    ensures { λ r. ⌜ r ≡ (ltb made n && arity kind count) ⌝ }
+{
     (wide(made) < n) & arity_good(kind, count)
 }
 
-// All variables of a part are below n, which is known or looked up.
-fn inputs_good(known: bool, n: usize, part: &[u16]) -> bool
-    ensures { λ r. ⌜ r ≡ known || all (λ v. ltb v n) (now (part .entry)) ⌝ }
+// All variables of a part are below n.
+fn inputs_good(n: usize, part: &[u16]) -> bool
+    ensures { λ r. ⌜ r ≡ all (λ v. ltb v n) (now (part .entry)) ⌝ }
 {
-    if known {
-        return true;
-    }
     part.len() <= first_unknown(n, part.len(), part)
 }
 
 // The first row that has a variable not below n, a count that does not suit its kind, or a part that does not begin where those before it end
-// or that ends after e. All rows and all entries are looked at once: what they show to be good is not looked at again.
+// or that ends after e, row by row.
+fn bad_shape_by_row(
+    n: usize,
+    m: usize,
+    e: usize,
+    kinds: &[u16],
+    makes: &[u16],
+    firsts: &[u16],
+    counts: &[u16],
+    vars: &[u16],
+) -> usize
+    requires { ⌜ (m ≤ length (now kinds)) × (m ≤ length (now makes)) × (m ≤ length (now firsts)) × (m ≤ length (now counts)) × (e ≤ length (now vars)) ⌝ }
+    ensures { λ r. ⌜ r ≡ firstFail (shapeGood (shapeRows n e (now (kinds .entry)) (now (makes .entry)) (now (firsts .entry)) (now (counts .entry)) (now (vars .entry)))) m ⌝ }
+{
+    let mut before = 0;
+    for row in 0..m {
+        let first = wide(firsts[row]);
+        let end = first + wide(counts[row]);
+        let placed = row_good(n, kinds[row], makes[row], counts[row])
+            & (first == before)
+            & (end <= e);
+        if !placed {
+            return row;
+        }
+        if !inputs_good(n, &vars[first..end]) {
+            return row;
+        }
+        before = end;
+    }
+    m
+}
+
+// The same. All rows and all entries are looked at once, in loops that nothing stops; only where these do not show every row to be good are they
+// looked at row by row.
 pub fn first_bad_shape(
     n: usize,
     m: usize,
@@ -111,23 +153,11 @@ pub fn first_bad_shape(
     ensures { λ r. ⌜ r ≡ firstFail (shapeGood (shapeRows n e (now (kinds .entry)) (now (makes .entry)) (now (firsts .entry)) (now (counts .entry)) (now (vars .entry)))) m ⌝ }
 {
     let rows_known = all_known(n, m, makes) & counts_good(m, kinds, counts);
-    let inputs_known = all_known(n, e, vars);
-    let mut before = 0;
-    for row in 0..m {
-        let first = wide(firsts[row]);
-        let end = first + wide(counts[row]);
-        let placed = row_good(rows_known, n, kinds[row], makes[row], counts[row])
-            & (first == before)
-            & (end <= e);
-        if !placed {
-            return row;
-        }
-        if !inputs_good(inputs_known, n, &vars[first..end]) {
-            return row;
-        }
-        before = end;
+    let inputs_known = all_known(n, e, vars) & parts_good(m, e, firsts, counts);
+    if rows_known & inputs_known {
+        return m;
     }
-    m
+    bad_shape_by_row(n, m, e, kinds, makes, firsts, counts, vars)
 }
 
 // The sum of the counts of m rows.

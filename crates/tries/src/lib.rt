@@ -7,14 +7,8 @@ use integers::wide;
 
 // Whether row r stands where the readers of v have reached, which then go on behind it. A row that reads v twice stands there once: `last` has one
 // more than the last row found among each variable's readers.
-fn reader_right(
-    r: usize,
-    v: usize,
-    places: &[u16],
-    reached: &mut [u16; 4096],
-    last: &mut [u16; 4096],
-) -> bool
-    requires { ⌜ (r < 4096) × (v < 4096) × (length (now places) ≤ 16384) ⌝ }
+fn reader_right(r: usize, v: usize, places: &[u16], reached: &mut [u16], last: &mut [u16]) -> bool
+    requires { ⌜ (r < 4096) × (v < length (now reached)) × (v < length (now last)) × (length (now places) ≤ 16384) ⌝ }
     ensures { λ b. ⌜ Tried r v (now (places .entry)) (now (reached .entry)) (now (last .entry)) (now (reached .exit)) (now (last .exit)) b ⌝ }
 {
     if wide(last[v]) == r + 1 {
@@ -37,8 +31,8 @@ pub fn row_right(
     r: usize,
     part: &[u16],
     places: &[u16],
-    reached: &mut [u16; 4096],
-    last: &mut [u16; 4096],
+    reached: &mut [u16],
+    last: &mut [u16],
 ) -> bool
     requires { ⌜ Untried r (now part) (now places) (now reached) (now last) ⌝ }
     ensures { λ b. ⌜ RowTried r (now (part .entry)) (now (places .entry)) (now (reached .entry)) (now (last .entry)) (now (reached .exit)) (now (last .exit)) b ⌝ }
@@ -51,15 +45,15 @@ pub fn row_right(
     true
 }
 
-// Whether each variable's readers have reached the start of the next one's, and the first start at 0.
-pub fn ends_right(n: usize, starts: &[u16], reached: &[u16; 4096]) -> bool
-    requires { ⌜ (suc n ≤ length (now starts)) × (n ≤ 4096) ⌝ }
+// Whether each variable's readers have reached the start of the next one's, and the first start at 0. No variable stops the loop, so that it takes
+// several at a time.
+pub fn ends_right(n: usize, starts: &[u16], reached: &[u16]) -> bool
+    requires { ⌜ (suc n ≤ length (now starts)) × (n ≤ length (now reached)) ⌝ }
     ensures { λ b. ⌜ b ≡ closed n (now (starts .entry)) (now (reached .entry)) ⌝ }
 {
+    let mut all = true;
     for v in 0..n {
-        if reached[v] != starts[v + 1] {
-            return false;
-        }
+        all = all & (reached[v] == starts[v + 1]);
     }
-    starts[0] == 0
+    all & (starts[0] == 0)
 }

@@ -73,8 +73,11 @@ returns-2 c =
     rows-passed t bs _ (filled e (c .before .before .before .before .before .before .makers .ensures)) _ (refused 4 _) (past e)
     (check-stops 4 (t .n) (boundsGood t bs) (fromFive t accepted) _ (least (c .before .before)) (c .before .if1 .taken)) (c .refused .ensures)
 
-first-again-requires : tie.Need-first-again-requires
-first-again-requires c κs = search needs
+first-made-again-requires : tie.Need-first-made-again-requires
+first-made-again-requires c κs =
+    let e = c .before .before .before .before .before .before .before .before in let s = start e in let z = s .pre .0 in
+    let makers = filled e (c .before .before .before .before .before .before .makers .ensures) in
+    record { rows = z .makes; long = makers .long; below = rows-make (tables s) (past e) .at; at = makers .at }
 
 refused-requires-2 : tie.Need-refused-requires-2
 refused-requires-2 c κs = search needs
@@ -84,10 +87,10 @@ same-length-2 c = search needs
 
 returns-3 : tie.Need-returns-3
 returns-3 c =
-    let e = c .before .before .before .before .before .before .before .before .before .before in let s = start e in let t = tables s in let bs = limits s in
-    rows-passed t bs _ (filled e (c .before .before .before .before .before .before .before .before .makers .ensures)) _ (refused 5 _) (past e)
-    (check-passes 4 (t .n) (boundsGood t bs) (fromFive t accepted) _ (least (c .before .before .before .before), c .before .before .before .if1 .left)
-    ∙ check-stops 5 (t .m) (madeOnce t) accepted _ (c .before .before .first-again .ensures) (c .before .if2 .taken))
+    let e = c .before .before .before .before .before .before .before .before .before .before .before in let s = start e in let t = tables s in let bs = limits s in
+    rows-passed t bs _ (filled e (c .before .before .before .before .before .before .before .before .before .makers .ensures)) _ (refused 5 _) (past e)
+    (check-passes 4 (t .n) (boundsGood t bs) (fromFive t accepted) _ (least (c .before .before .before .before .before), c .before .before .before .before .if1 .left)
+    ∙ check-stops 5 (t .m) (madeOnce t) accepted _ (c .before .before .first-made-again .ensures) (c .before .if2 .taken))
     (c .refused2 .ensures)
 
 same-length-3 : tie.Need-same-length-3
@@ -95,11 +98,11 @@ same-length-3 c = search needs
 
 returns-4 : tie.Need-returns-4
 returns-4 c =
-    let e = c .before .before .before .before .before .before .before .before .before in let s = start e in let t = tables s in let bs = limits s in
-    rows-passed t bs _ (filled e (c .before .before .before .before .before .before .before .makers .ensures)) _ accepted (past e)
-    (check-passes 4 (t .n) (boundsGood t bs) (fromFive t accepted) _ (least (c .before .before .before), c .before .before .if1 .left)
-    ∙ check-passes 5 (t .m) (madeOnce t) accepted _ (c .before .first-again .ensures, c .if2 .left))
-    (c .before .before .before .before .before .before .before .before .before .before .before .row-checks .ensures ∙ ap (answerOf 0) (past e))
+    let e = c .before .before .before .before .before .before .before .before .before .before in let s = start e in let t = tables s in let bs = limits s in
+    rows-passed t bs _ (filled e (c .before .before .before .before .before .before .before .before .makers .ensures)) _ accepted (past e)
+    (check-passes 4 (t .n) (boundsGood t bs) (fromFive t accepted) _ (least (c .before .before .before .before), c .before .before .before .if1 .left)
+    ∙ check-passes 5 (t .m) (madeOnce t) accepted _ (c .before .first-made-again .ensures, c .if2 .left))
+    (c .before .before .before .before .before .before .before .before .before .before .before .before .row-checks .ensures ∙ ap (answerOf 0) (past e))
 
 pub table-checks-spec : {M : Type 1} → statement M
 table-checks-spec =
@@ -114,7 +117,7 @@ table-checks-spec =
     refused-requires
     same-length
     returns-2
-    first-again-requires
+    first-made-again-requires
     refused-requires-2
     same-length-2
     returns-3

@@ -9,8 +9,8 @@ use Rattle.tries.proofs.reader_right.Tie as tie
 mul-wide : tie.Need-mul-wide
 mul-wide c = search needs
 
-element-copy-out-wide : tie.Need-element-copy-out-wide
-element-copy-out-wide c = search needs
+slice-read-wide : tie.Need-slice-read-wide
+slice-read-wide c = search needs
 
 wide-requires : tie.Need-wide-requires
 wide-requires c κs = search needs
@@ -24,8 +24,8 @@ returns c = tried-before _ _ _ _ _ (omega arith)
 mul-wide-2 : tie.Need-mul-wide-2
 mul-wide-2 c = search needs
 
-element-copy-out-wide-2 : tie.Need-element-copy-out-wide-2
-element-copy-out-wide-2 c = search needs
+slice-read-wide-2 : tie.Need-slice-read-wide-2
+slice-read-wide-2 c = search needs
 
 wide-requires-2 : tie.Need-wide-requires-2
 wide-requires-2 c κs = search needs
@@ -58,8 +58,8 @@ cast-reached c = search needs
 mul-reached : tie.Need-mul-reached
 mul-reached c = search needs
 
-element-write-reached : tie.Need-element-write-reached
-element-write-reached c = search needs
+slice-write-reached : tie.Need-slice-write-reached
+slice-write-reached c = search needs
 
 add-last : tie.Need-add-last
 add-last c = search needs
@@ -70,8 +70,14 @@ cast-last c = search needs
 mul-last : tie.Need-mul-last
 mul-last c = search needs
 
-element-write-last : tie.Need-element-write-last
-element-write-last c = search needs
+slice-write-last : tie.Need-slice-write-last
+slice-write-last c = search needs
+
+same-length : tie.Need-same-length
+same-length c = search needs
+
+same-length-2 : tie.Need-same-length-2
+same-length-2 c = search needs
 
 returns-4 : tie.Need-returns-4
 returns-4 c =
@@ -83,12 +89,12 @@ reader-right-spec =
     tie.close
     (tie.spec
     mul-wide
-    element-copy-out-wide
+    slice-read-wide
     wide-requires
     add-if1
     returns
     mul-wide-2
-    element-copy-out-wide-2
+    slice-read-wide-2
     wide-requires-2
     returns-2
     mul-wide-3
@@ -98,9 +104,11 @@ reader-right-spec =
     add-reached
     cast-reached
     mul-reached
-    element-write-reached
+    slice-write-reached
     add-last
     cast-last
     mul-last
-    element-write-last
+    slice-write-last
+    same-length
+    same-length-2
     returns-4)

@@ -27,13 +27,19 @@ wide-requires c κs = search needs
 
 reader-right-requires : tie.Need-reader-right-requires Inv-loop μ-loop
 reader-right-requires c κs =
-    let s = c .before .before .before .before .before .before .before .before in let l = c .before .before .before .before .before .loop in
-    (s .pre .row, omega (arith, s .pre .below (l .i) (omega arith), c .before .before .wide .ensures .0), s .pre .room)
+    let s = c .before .before .before .before .before .before .before .before .before .before in let l = c .before .before .before .before .before .loop in let v = c .before .before .wide .ensures .0 in let same = l .inv .1 .passed in
+    (s .pre .row, omega (arith, s .pre .in-reached (l .i) (omega arith), v, same .reached-long), omega (arith, s .pre .in-last (l .i) (omega arith), v, same .last-long), s .pre .room)
+
+same-length : tie.Need-same-length Inv-loop μ-loop
+same-length c = search needs
+
+same-length-2 : tie.Need-same-length-2 Inv-loop μ-loop
+same-length-2 c = search needs
 
 returns : tie.Need-returns Inv-loop μ-loop
 returns c =
-    let l = c .before .before .before .before .before .before .before in let s = c .before .before .before .before .before .before .before .before .before .before in let tried = c .before .reader-right .ensures in
-    passing-stop _ _ _ _ _ (s .pre) _ _ _ (l .loop .inv .1) (omega arith) _ (c .before .before .before .before .wide .ensures .0) _ _ tried (not-true _ (c .if1 .taken))
+    let l = c .before .before .before .before .before .before .before .before .before .before .before in let s = c .before .before .before .before .before .before .before .before .before .before .before .before .before .before .before .before in let tried = c .before .before .before .before .before .reader-right .ensures in
+    passing-stop _ _ _ _ _ (s .pre) _ _ _ (l .loop .inv .1) (omega arith) _ (c .before .before .before .before .before .before .before .before .wide .ensures .0) _ _ tried (not-true _ (c .if1 .taken))
 
 add-i : tie.Need-add-i Inv-loop μ-loop
 add-i c = search needs
@@ -43,11 +49,17 @@ loop-less c = search needs
 
 loop-again : tie.Need-loop-again Inv-loop μ-loop
 loop-again c =
-    let l = c .before .before .before .before .before .before .before in let s = c .before .before .before .before .before .before .before .before .before .before in let tried = c .before .reader-right .ensures in
-    (omega arith, passing-next _ _ _ _ _ (s .pre) _ _ _ (l .loop .inv .1) (omega arith) _ (c .before .before .before .before .wide .ensures .0) _ _ tried (not-false _ (c .if1 .left)))
+    let l = c .before .before .before .before .before .before .before .before .before .before .before in let s = c .before .before .before .before .before .before .before .before .before .before .before .before .before .before .before .before in let tried = c .before .before .before .before .before .reader-right .ensures in
+    (omega arith, passing-next _ _ _ _ _ (s .pre) _ _ _ (l .loop .inv .1) (omega arith) _ (c .before .before .before .before .before .before .before .before .wide .ensures .0) _ _ tried (not-false _ (c .if1 .left)))
+
+same-length-3 : tie.Need-same-length-3 Inv-loop μ-loop
+same-length-3 c = search needs
+
+same-length-4 : tie.Need-same-length-4 Inv-loop μ-loop
+same-length-4 c = search needs
 
 returns-2 : tie.Need-returns-2 Inv-loop μ-loop
-returns-2 c = let s = c .before .before .before .before in passing-end _ _ _ _ _ (s .pre) _ _ _ (c .before .loop .inv .1) (omega arith)
+returns-2 c = let s = c .before .before .before .before .before .before in passing-end _ _ _ _ _ (s .pre) _ _ _ (c .before .loop .inv .1) (omega arith)
 
 pub row-right-spec : {M : Type 1} → statement M
 row-right-spec =
@@ -60,8 +72,12 @@ row-right-spec =
     shared-slice-read-wide
     wide-requires
     reader-right-requires
+    same-length
+    same-length-2
     returns
     add-i
     loop-less
     loop-again
+    same-length-3
+    same-length-4
     returns-2)

@@ -1,79 +1,52 @@
 -- The greater of `best` and of what the inputs that are left ask stays what all inputs ask. Assumes nothing.
-use Prim.Native.Nat.{_+_, _-_, _≤_}
+use Prim.Native.Nat.{_+_, _-_}
 use mathlib.Core.List.{_∷_}
-use mathlib.Core.Path.{_≡_, ap₂}
+use mathlib.Core.Path.{_≡_, refl, ap, sym, _∙_}
 use native.Mathlib.Omega.{arith}
-use lib.ListN.{length}
-use lib.Seq.{slice}
+use lib.ListN.{length, drop, drop-of-length-le}
 use borrow.Author.Needs.{needs}
 use Rattle.paper.specs.Lists.{nat}
-use Rattle.order.specs.Numbering.{partAt}
-use Rattle.order.proofs.Visits.{left-next, left-none}
+use Rattle.paper.proofs.Scan.{next}
 use Rattle.order.proofs.Eight.{Asking, asking-start, asking-end, asked-below, asking-next}
 use Rattle.order.proofs.right.due.Statement.{statement}
 use Rattle.order.proofs.right.due.Tie as tie
 
 abbrev Inv-loop : tie.InvT-loop
-Inv-loop v n begins stops vars nums stop best₀ i₀ best i = Asking n (nat nums) (partAt begins stops vars v) (slice i stop vars) best
+Inv-loop n inputs nums best₀ i₀ i-end best i = (i-end ≡ length inputs) × Asking n (nat nums) inputs (drop i inputs) best
 
 abbrev μ-loop : tie.MeasureT-loop
-μ-loop v n begins stops vars nums stop best₀ i₀ best i = stop - i
+μ-loop n inputs nums best₀ i₀ i-end best i = i-end - i
+
+loop-holds : tie.Need-loop-holds Inv-loop μ-loop
+loop-holds c = (refl, asking-start _ _ _ _ refl (c .before .before .pre .0 .below))
 
 mul-wide : tie.Need-mul-wide Inv-loop μ-loop
 mul-wide c = search needs
 
-element-copy-out-wide : tie.Need-element-copy-out-wide Inv-loop μ-loop
-element-copy-out-wide c = search needs
+shared-slice-read-wide : tie.Need-shared-slice-read-wide Inv-loop μ-loop
+shared-slice-read-wide c = search needs
 
 wide-requires : tie.Need-wide-requires Inv-loop μ-loop
 wide-requires c κs = search needs
 
+-- the next input is the first of those that are left
+first : (c : tie.After-wide Inv-loop μ-loop)
+    → let l = c .before .before .before in let inputs = l .before .before .before .args .inputs .now in
+    drop (l .loop .i) inputs ≡ c .wide .result ∷ drop (l .loop .i + 1) inputs
+first c =
+    let l = c .before .before .before in let inputs = l .before .before .before .args .inputs .now in let long = l .loop .inv .0 in
+    next inputs (l .loop .i) 0 (omega arith) ∙ ap (_∷ drop (l .loop .i + 1) inputs) (sym (c .wide .ensures .0))
+
 mul-wide-2 : tie.Need-mul-wide-2 Inv-loop μ-loop
 mul-wide-2 c = search needs
 
-element-copy-out-wide-2 : tie.Need-element-copy-out-wide-2 Inv-loop μ-loop
-element-copy-out-wide-2 c = search needs
+shared-slice-read-wide-2 : tie.Need-shared-slice-read-wide-2 Inv-loop μ-loop
+shared-slice-read-wide-2 c =
+    let low = asked-below _ _ _ _ _ _ _ (c .before .before .before .before .loop .inv .1) (first (c .before)) in let s = c .before .before .before .before .before .before .before in
+    omega (arith, low, s .pre .1)
 
 wide-requires-2 : tie.Need-wide-requires-2 Inv-loop μ-loop
 wide-requires-2 c κs = search needs
-
-loop-holds : tie.Need-loop-holds Inv-loop μ-loop
-loop-holds c =
-    let wide = c .before .before .wide in let s = c .before .before .before .before .before .before in
-    asking-start _ _ _ _ (ap₂ (λ a b. slice a b (s .args .vars .now)) (c .wide2 .ensures .0) (wide .ensures .0)) (s .pre .0 .below _)
-
--- the part stops inside the entries
-inside : (c : tie.At-loop Inv-loop μ-loop) → c .before .before .before .wide .result ≤ length (c .before .before .before .before .before .before .before .args .vars .now)
-inside c = let s = c .before .before .before .before .before .before .before in omega (arith, s .pre .0 .inside (s .args .v))
-
--- the next input is the first of those that are left
-next : (c : tie.After-wide3 Inv-loop μ-loop)
-    → let l = c .before .before .before in let vars = l .before .before .before .before .before .before .before .args .vars .now in
-    let stop = l .before .before .before .wide .result in
-    slice (l .loop .i) stop vars ≡ c .wide3 .result ∷ slice (l .loop .i + 1) stop vars
-next c = left-next _ _ _ _ (c .before .before .loop-test .taken) (inside (c .before .before .before)) (c .wide3 .ensures .0)
-
-mul-wide-3 : tie.Need-mul-wide-3 Inv-loop μ-loop
-mul-wide-3 c = search needs
-
-shared-slice-read-wide : tie.Need-shared-slice-read-wide Inv-loop μ-loop
-shared-slice-read-wide c =
-    omega (arith, inside (c .before .before))
-
-wide-requires-3 : tie.Need-wide-requires-3 Inv-loop μ-loop
-wide-requires-3 c κs = search needs
-
-mul-wide-4 : tie.Need-mul-wide-4 Inv-loop μ-loop
-mul-wide-4 c = search needs
-
-shared-slice-read-wide-2 : tie.Need-shared-slice-read-wide-2 Inv-loop μ-loop
-shared-slice-read-wide-2 c =
-    let low = asked-below _ _ _ _ _ _ _ (c .before .before .before .before .loop .inv) (next (c .before)) in
-    let s = c .before .before .before .before .before .before .before .before .before .before .before in
-    omega (arith, low, s .pre .1 .1)
-
-wide-requires-4 : tie.Need-wide-requires-4 Inv-loop μ-loop
-wide-requires-4 c κs = search needs
 
 add-larger : tie.Need-add-larger Inv-loop μ-loop
 add-larger c = search needs
@@ -89,11 +62,13 @@ loop-less c = search needs
 
 loop-again : tie.Need-loop-again Inv-loop μ-loop
 loop-again c =
-    let l = c .before .before .before .before .before .before in let x = c .before .wide4 .ensures in
-    asking-next _ _ _ _ _ _ _ (l .loop .inv) (next (c .before .before .before)) _ _ (x .0) (x .1) (c .larger .ensures)
+    let l = c .before .before .before .before .before .before in let x = c .before .wide2 .ensures in
+    (l .loop .inv .0, asking-next _ _ _ _ _ _ _ (l .loop .inv .1) (first (c .before .before .before)) _ _ (x .0) (x .1) (c .larger .ensures))
 
 returns : tie.Need-returns Inv-loop μ-loop
-returns c = asking-end _ _ _ _ _ (c .before .loop .inv) (left-none _ _ _ (c .loop-test .left))
+returns c =
+    let l = c .before in let long = l .loop .inv .0 in
+    asking-end _ _ _ _ _ (l .loop .inv .1) (drop-of-length-le (l .before .before .before .args .inputs .now) {i = l .loop .i} (omega arith))
 
 pub due-spec : {M : Type 1} → statement M
 due-spec =
@@ -101,19 +76,13 @@ due-spec =
     (tie.spec
     Inv-loop
     μ-loop
+    loop-holds
     mul-wide
-    element-copy-out-wide
+    shared-slice-read-wide
     wide-requires
     mul-wide-2
-    element-copy-out-wide-2
-    wide-requires-2
-    loop-holds
-    mul-wide-3
-    shared-slice-read-wide
-    wide-requires-3
-    mul-wide-4
     shared-slice-read-wide-2
-    wide-requires-4
+    wide-requires-2
     add-larger
     larger-requires
     add-i

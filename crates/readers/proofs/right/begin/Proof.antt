@@ -26,8 +26,8 @@ shared-slice-read-reached c = search needs
 mul-reached-2 : tie.Need-mul-reached-2 Inv-loop μ-loop
 mul-reached-2 c = search needs
 
-element-write-reached : tie.Need-element-write-reached Inv-loop μ-loop
-element-write-reached c = search needs
+slice-write-reached : tie.Need-slice-write-reached Inv-loop μ-loop
+slice-write-reached c = let long = c .before .before .loop .inv .1 .long in omega arith
 
 add-v : tie.Need-add-v Inv-loop μ-loop
 add-v c = search needs
@@ -37,6 +37,9 @@ loop-less c = search needs
 
 loop-again : tie.Need-loop-again Inv-loop μ-loop
 loop-again c = (omega arith, filled-next _ _ _ _ (c .before .before .loop .inv .1) (omega arith) refl)
+
+same-length : tie.Need-same-length Inv-loop μ-loop
+same-length c = search needs
 
 returns : tie.Need-returns Inv-loop μ-loop
 returns c = filled-end _ _ _ _ (c .before .before .args .n) (c .before .loop .inv .1) (omega arith)
@@ -51,8 +54,9 @@ begin-spec =
     mul-reached
     shared-slice-read-reached
     mul-reached-2
-    element-write-reached
+    slice-write-reached
     add-v
     loop-less
     loop-again
+    same-length
     returns)

@@ -1,129 +1,47 @@
--- Row after row stands where the readers of its inputs have reached (`Walked`); the first that does not decides, and then the ends do. Assumes nothing.
-use Prim.Native.Nat.{_-_, _≤_}
+-- The rows are of zeros, and have a place for each variable. Assumes nothing.
 use native.Mathlib.Omega.{arith}
-use mathlib.Core.Path.{sym, _∙_}
-use lib.ListN.{take}
-use lib.Seq.{length-take-le}
 use borrow.Author.Needs.{needs}
-use borrow.Author.Tests.{not-true, not-false}
-use Rattle.paper.proofs.Scan.{part-same}
 use Rattle.order.proofs.Sweeps.{clean-new}
-use Rattle.readers.specs.Index.{entries}
-use Rattle.readers.proofs.Parts.{part-inside}
-use Rattle.readers.proofs.Walk.{Walked, walked-start, walked-untried, walked-next, walked-stop, walked-end}
 use Rattle.readers.proofs.right.readers_right.Statement.{statement}
 use Rattle.readers.proofs.right.readers_right.Tie as tie
 
-abbrev Inv-loop : tie.InvT-loop
-Inv-loop n m e firsts counts vars starts places reached₀ last₀ r₀ reached last r = (r ≤ m) × Walked (entries n m e firsts counts vars) starts (take e places) r reached last
+slice-aggregate-walk-right : tie.Need-slice-aggregate-walk-right
+slice-aggregate-walk-right c = search needs
 
-abbrev μ-loop : tie.MeasureT-loop
-μ-loop n m e firsts counts vars starts places reached₀ last₀ r₀ reached last r = m - r
+slice-aggregate-walk-right-2 : tie.Need-slice-aggregate-walk-right-2
+slice-aggregate-walk-right-2 c = search needs
 
-begin-requires : tie.Need-begin-requires Inv-loop μ-loop
-begin-requires c κs = search needs
+walk-right-requires : tie.Need-walk-right-requires
+walk-right-requires c κs =
+    let s = c .before .before .before .before .before .before .before .before in
+    (s .pre .0, (s .pre .1, (clean-new (s .args .n) 256 (omega arith), clean-new (s .args .n) 256 (omega arith))))
 
-loop-holds : tie.Need-loop-holds Inv-loop μ-loop
-loop-holds c =
-    let s = c .before .before .before .before .before .before .before in let a = s .args in
-    (omega arith, walked-start _ (s .pre .0) (a .starts .now) (a .places .now) (s .pre .1 .1) _ _ _ (clean-new 4096 4096 (omega arith)) (clean-new 4096 4096 (omega arith)) (c .begin .ensures))
+returns : tie.Need-returns
+returns c = search needs
 
-mul-wide : tie.Need-mul-wide Inv-loop μ-loop
-mul-wide c = search needs
+slice-aggregate-walk-right-3 : tie.Need-slice-aggregate-walk-right-3
+slice-aggregate-walk-right-3 c = search needs
 
-shared-slice-read-wide : tie.Need-shared-slice-read-wide Inv-loop μ-loop
-shared-slice-read-wide c = search needs
+slice-aggregate-walk-right-4 : tie.Need-slice-aggregate-walk-right-4
+slice-aggregate-walk-right-4 c = search needs
 
-wide-requires : tie.Need-wide-requires Inv-loop μ-loop
-wide-requires c κs = search needs
+walk-right-requires-2 : tie.Need-walk-right-requires-2
+walk-right-requires-2 c κs =
+    let s = c .before .before .before .before .before .before .before .before in let few = s .pre .0 .few in
+    (s .pre .0, (s .pre .1, (clean-new (s .args .n) 4096 few, clean-new (s .args .n) 4096 few)))
 
-mul-wide-2 : tie.Need-mul-wide-2 Inv-loop μ-loop
-mul-wide-2 c = search needs
-
-shared-slice-read-wide-2 : tie.Need-shared-slice-read-wide-2 Inv-loop μ-loop
-shared-slice-read-wide-2 c = search needs
-
-wide-requires-2 : tie.Need-wide-requires-2 Inv-loop μ-loop
-wide-requires-2 c κs = search needs
-
-add-row-right : tie.Need-add-row-right Inv-loop μ-loop
-add-row-right c = search needs
-
-mul-row-right : tie.Need-mul-row-right Inv-loop μ-loop
-mul-row-right c = search needs
-
-sub-row-right : tie.Need-sub-row-right Inv-loop μ-loop
-sub-row-right c = search needs
-
-part-row-right-start : tie.Need-part-row-right-start Inv-loop μ-loop
-part-row-right-start c = search needs
-
-part-row-right-end : tie.Need-part-row-right-end Inv-loop μ-loop
-part-row-right-end c =
-    let s = c .before .before .before .before .before .before .before .before .before .before .before .before .before in let wide = c .before .before .wide in
-    omega (arith, part-inside _ (s .pre .0) (c .before .before .before .before .before .loop .r) (omega arith), s .pre .0 .vars, wide .ensures .0, c .wide2 .ensures .0)
-
-slice-aggregate-row-right : tie.Need-slice-aggregate-row-right Inv-loop μ-loop
-slice-aggregate-row-right c = let s = c .before .before .before .before .before .before .before .before .before .before .before .before .before .before .before in sym (length-take-le (s .args .e) (s .args .places .now) (s .pre .1 .1))
-
-row-right-requires : tie.Need-row-right-requires Inv-loop μ-loop
-row-right-requires c κs =
-    let s = c .before .before .before .before .before .before .before .before .before .before .before .before .before .before .before .before .before in let a = s .args in let l = c .before .before .before .before .before .before .before .before .before .loop in
-    walked-untried _ (s .pre .0) (a .starts .now) (a .places .now) (s .pre .1 .1) _ _ _ (l .inv .1) (omega arith) _
-    (part-same (a .vars .now) _ _ _ _ (c .before .before .before .before .before .before .wide .ensures .0) (c .before .before .before .before .wide2 .ensures .0))
-
-returns : tie.Need-returns Inv-loop μ-loop
-returns c =
-    let s = c .before .before .before .before .before .before .before .before .before .before .before .before .before .before .before .before .before .before .before in let a = s .args in let l = c .before .before .before .before .before .before .before .before .before .before .before .loop in
-    walked-stop _ (s .pre .0) (a .starts .now) (a .places .now) (s .pre .1 .1) _ _ _ (l .inv .1) (omega arith) _ _ _
-    (part-same (a .vars .now) _ _ _ _ (c .before .before .before .before .before .before .before .before .wide .ensures .0) (c .before .before .before .before .before .before .wide2 .ensures .0)) (c .before .row-right .ensures) (not-true _ (c .if1 .taken))
-
-add-r : tie.Need-add-r Inv-loop μ-loop
-add-r c = search needs
-
-loop-less : tie.Need-loop-less Inv-loop μ-loop
-loop-less c = search needs
-
-loop-again : tie.Need-loop-again Inv-loop μ-loop
-loop-again c =
-    let s = c .before .before .before .before .before .before .before .before .before .before .before .before .before .before .before .before .before .before .before in let a = s .args in let l = c .before .before .before .before .before .before .before .before .before .before .before .loop in (
-      omega arith,
-      walked-next _ (s .pre .0) (a .starts .now) (a .places .now) (s .pre .1 .1) _ _ _ (l .inv .1) (omega arith) _ _ _
-          (part-same (a .vars .now) _ _ _ _ (c .before .before .before .before .before .before .before .before .wide .ensures .0) (c .before .before .before .before .before .before .wide2 .ensures .0)) (c .before .row-right .ensures) (not-false _ (c .if1 .left)),
-    )
-
-ends-right-requires : tie.Need-ends-right-requires Inv-loop μ-loop
-ends-right-requires c κs = search needs
-
-returns-2 : tie.Need-returns-2 Inv-loop μ-loop
-returns-2 c =
-    let s = c .before .before .before .before .before .before .before .before .before .before .before in let a = s .args in let l = c .before .before .before .loop in
-    c .ends-right .ensures ∙ walked-end _ (s .pre .0) (a .starts .now) (a .places .now) (s .pre .1 .1) _ _ _ (l .inv .1) (omega arith)
+returns-2 : tie.Need-returns-2
+returns-2 c = search needs
 
 pub readers-right-spec : {M : Type 1} → statement M
 readers-right-spec =
     tie.close
     (tie.spec
-    Inv-loop
-    μ-loop
-    begin-requires
-    loop-holds
-    mul-wide
-    shared-slice-read-wide
-    wide-requires
-    mul-wide-2
-    shared-slice-read-wide-2
-    wide-requires-2
-    add-row-right
-    mul-row-right
-    sub-row-right
-    part-row-right-start
-    part-row-right-end
-    slice-aggregate-row-right
-    row-right-requires
+    slice-aggregate-walk-right
+    slice-aggregate-walk-right-2
+    walk-right-requires
     returns
-    add-r
-    loop-less
-    loop-again
-    ends-right-requires
+    slice-aggregate-walk-right-3
+    slice-aggregate-walk-right-4
+    walk-right-requires-2
     returns-2)

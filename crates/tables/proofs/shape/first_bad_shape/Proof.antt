@@ -1,204 +1,41 @@
--- The loop has passed every row before this one (`Scan`), and `before` is the exact sum of their counts; what is known of all
--- rows and all entries holds for this one and its part (`rows-known`, `inputs-known`). Assumes nothing.
-use Prim.Native.Nat.{ℕ, _+_, _-_, _≤_}
-use native.Mathlib.Omega.{arith}
-use mathlib.Core.Bool.{Bool, true, _&&_, _||_}
-use mathlib.Core.Path.{_≡_, refl, sym, ap, _∙_}
-use lib.Dec.{ltb}
-use lib.ListN.{take}
+-- Where nothing is wrong with all rows and entries together nothing is with any (`all-shapes`), and else they are asked row by row. Assumes nothing.
 use borrow.Author.Needs.{needs}
-use borrow.Author.Tests.{not-true, not-false}
-use Rattle.paper.specs.Lists.{all, nat, total}
-use Rattle.paper.specs.Tables.{Tables}
-use Rattle.paper.specs.Checks.{arity, shapeGood}
-use Rattle.paper.proofs.Scan.{Scan, scan-start, scan-next, scan-found, scan-all, and-on, and-off, total-next}
-use Rattle.tables.specs.Rows.{shapeRows}
-use Rattle.tables.proofs.Parts.{cut}
-use Rattle.tables.proofs.Shapes.{rows-known, inputs-known, placed, placed-facts, placed-shape}
+use Rattle.tables.proofs.Placing.{all-shapes}
 use Rattle.tables.proofs.shape.first_bad_shape.Statement.{statement}
 use Rattle.tables.proofs.shape.first_bad_shape.Tie as tie
 
-abbrev Inv-loop : tie.InvT-loop
-Inv-loop n m e kinds makes firsts counts vars all-rows all-inputs before₀ row₀ before row =
-    Scan (shapeGood (shapeRows n e kinds makes firsts counts vars)) m row × (before ≡ total (take row counts))
-
-abbrev μ-loop : tie.MeasureT-loop
-μ-loop n m e kinds makes firsts counts vars all-rows all-inputs before₀ row₀ before row = m - row
-
-all-known-requires : tie.Need-all-known-requires Inv-loop μ-loop
+all-known-requires : tie.Need-all-known-requires
 all-known-requires c κs = search needs
 
-counts-good-requires : tie.Need-counts-good-requires Inv-loop μ-loop
+counts-good-requires : tie.Need-counts-good-requires
 counts-good-requires c κs = search needs
 
-all-known-requires-2 : tie.Need-all-known-requires-2 Inv-loop μ-loop
+all-known-requires-2 : tie.Need-all-known-requires-2
 all-known-requires-2 c κs = search needs
 
-loop-holds : tie.Need-loop-holds Inv-loop μ-loop
-loop-holds c = (scan-start _ _, refl)
+parts-good-requires : tie.Need-parts-good-requires
+parts-good-requires c κs = search needs
 
-mul-wide : tie.Need-mul-wide Inv-loop μ-loop
-mul-wide c = search needs
+returns : tie.Need-returns
+returns c =
+    let s = c .before .before .before .before .before .before .before .before .before .before in let a = s .args in
+    all-shapes (a .n) (a .m) (a .e) (a .kinds .now) (a .makes .now) (a .firsts .now) (a .counts .now) (a .vars .now) (s .pre .1) (s .pre .3)
+    (c .before .before .before .before .all-known .ensures) (c .before .before .before .counts-good .ensures) (c .before .before .all-known2 .ensures) (c .before .parts-good .ensures) (c .if1 .taken)
 
-shared-slice-read-wide : tie.Need-shared-slice-read-wide Inv-loop μ-loop
-shared-slice-read-wide c = search needs
+bad-shape-by-row-requires : tie.Need-bad-shape-by-row-requires
+bad-shape-by-row-requires c κs = search needs
 
-wide-requires : tie.Need-wide-requires Inv-loop μ-loop
-wide-requires c κs = search needs
-
-mul-wide-2 : tie.Need-mul-wide-2 Inv-loop μ-loop
-mul-wide-2 c = search needs
-
-shared-slice-read-wide-2 : tie.Need-shared-slice-read-wide-2 Inv-loop μ-loop
-shared-slice-read-wide-2 c = search needs
-
-wide-requires-2 : tie.Need-wide-requires-2 Inv-loop μ-loop
-wide-requires-2 c κs = search needs
-
-add-end : tie.Need-add-end Inv-loop μ-loop
-add-end c = search needs
-
-mul-row-good : tie.Need-mul-row-good Inv-loop μ-loop
-mul-row-good c = search needs
-
-shared-slice-read-row-good : tie.Need-shared-slice-read-row-good Inv-loop μ-loop
-shared-slice-read-row-good c = search needs
-
-mul-row-good-2 : tie.Need-mul-row-good-2 Inv-loop μ-loop
-mul-row-good-2 c = search needs
-
-shared-slice-read-row-good-2 : tie.Need-shared-slice-read-row-good-2 Inv-loop μ-loop
-shared-slice-read-row-good-2 c = search needs
-
-mul-row-good-3 : tie.Need-mul-row-good-3 Inv-loop μ-loop
-mul-row-good-3 c = search needs
-
-shared-slice-read-row-good-3 : tie.Need-shared-slice-read-row-good-3 Inv-loop μ-loop
-shared-slice-read-row-good-3 c = search needs
-
-row-good-requires : tie.Need-row-good-requires Inv-loop μ-loop
-row-good-requires c κs = search needs
-
--- ── a turn of the loop ──
-abbrev turn : tie.After-row-good Inv-loop μ-loop → tie.At-loop Inv-loop μ-loop
-turn c = c .before .before .before .before .before .before .before .before .before
-
-abbrev start : tie.After-row-good Inv-loop μ-loop → tie.Start Inv-loop μ-loop
-start c = turn c .before .before .before .before .before .before .before .before .before
-
-abbrev rows : tie.After-row-good Inv-loop μ-loop → Tables
-rows c =
-    let a = start c .args in
-    shapeRows (a .n) (a .e) (a .kinds .now) (a .makes .now) (a .firsts .now) (a .counts .now) (a .vars .now)
-
-abbrev first : tie.After-row-good Inv-loop μ-loop → ℕ
-first c = c .before .before .before .before .before .before .wide .result
-
-abbrev count : tie.After-row-good Inv-loop μ-loop → ℕ
-count c = c .before .before .before .before .wide2 .result
-
-abbrev test : tie.After-row-good Inv-loop μ-loop → Bool
-test c = placed (rows c) (c .row-good .result) (first c) (count c) (turn c .loop .before)
-
--- variable and count
-own-good : (c : tie.After-row-good Inv-loop μ-loop)
-    → let t = rows c in let r = turn c .loop .row in c .row-good .result ≡ (ltb (nat (t .makes) r) (t .n) && arity (nat (t .kinds) r) (nat (t .counts) r))
-own-good c =
-    let t = rows c in let l = turn c in let long = start c .pre .1 in let low = c .before .before .before .before .before .before .before .before .loop-test in
-    rows-known (t .n) (start c .args .m) (l .loop .row) (t .kinds) (t .makes) (t .counts) _ _ _ long (omega arith) (l .before .before .before .all-known .ensures)
-    (l .before .before .counts-good .ensures) (c .row-good .ensures)
-
--- the test, and then the inputs
-all-good : (c : tie.After-row-good Inv-loop μ-loop)
-    → (test c && all (λ v. ltb v (rows c .n)) (cut (first c) (count c) (rows c .vars))) ≡ shapeGood (rows c) (turn c .loop .row)
-all-good c =
-    placed-shape (rows c) (turn c .loop .row) _ _ _ _ (own-good c) (c .before .before .before .before .before .before .wide .ensures .0) (c .before .before .before .before .wide2 .ensures .0) (turn c .loop .inv .1)
-
-returns : tie.Need-returns Inv-loop μ-loop
-returns c = scan-found _ _ _ (turn (c .before) .loop .inv .0) (omega arith) (sym (and-off (test (c .before)) _ _ (not-true _ (c .if1 .taken)) (all-good (c .before))))
-
-mul-inputs-good : tie.Need-mul-inputs-good Inv-loop μ-loop
-mul-inputs-good c = search needs
-
-sub-inputs-good : tie.Need-sub-inputs-good Inv-loop μ-loop
-sub-inputs-good c = search needs
-
-part-inputs-good-start : tie.Need-part-inputs-good-start Inv-loop μ-loop
-part-inputs-good-start c = search needs
-
--- ── past the test ──
-passed : (c : tie.Else1 Inv-loop μ-loop) → test (c .before) ≡ true
-passed c = not-false _ (c .if1 .left)
-
-stands : (c : tie.Else1 Inv-loop μ-loop) → let t = c .before in (first t ≡ turn t .loop .before) × (first t + count t ≤ rows t .e)
-stands c = placed-facts (rows (c .before)) (c .before .row-good .result) _ _ _ (passed c)
-
-part-inputs-good-end : tie.Need-part-inputs-good-end Inv-loop μ-loop
-part-inputs-good-end c = let long = start (c .before) .pre .4 in let inside = stands c .1 in omega arith
-
-inputs-good-requires : tie.Need-inputs-good-requires Inv-loop μ-loop
-inputs-good-requires c κs = search needs
-
--- the inputs are below n, or one is not
-inputs : (c : tie.After-inputs-good Inv-loop μ-loop) → let t = c .before .before .before in c .inputs-good .result ≡ shapeGood (rows t) (turn t .loop .row)
-inputs c =
-    let t = c .before .before .before in let n = rows t .n in
-    c .inputs-good .ensures ∙ ap (_|| all (λ v. ltb v n) (cut (first t) (count t) (rows t .vars))) (turn t .before .all-known2 .ensures)
-    ∙ inputs-known n (rows t .e) (first t) (count t) (rows t .vars) (stands (c .before .before) .1) ∙ and-on (test t) _ _ (passed (c .before .before)) (all-good t)
-
-returns-2 : tie.Need-returns-2 Inv-loop μ-loop
-returns-2 c =
-    let l = turn (c .before .before .before .before) .loop in scan-found _ _ _ (l .inv .0) (omega arith) (sym (inputs (c .before)) ∙ not-true _ (c .if2 .taken))
-
-add-row : tie.Need-add-row Inv-loop μ-loop
-add-row c = search needs
-
-loop-less : tie.Need-loop-less Inv-loop μ-loop
-loop-less c = search needs
-
-loop-again : tie.Need-loop-again Inv-loop μ-loop
-loop-again c =
-    let t = c .before .before .before .before in let l = turn t .loop in
-    let at = stands (c .before .before .before) .0 in let before = l .inv .1 in let own = t .before .before .before .before .wide2 .ensures .0 in let long = start t .pre .3 in (
-      scan-next _ _ _ (l .inv .0) (omega arith) (sym (inputs (c .before)) ∙ not-false _ (c .if2 .left)),
-      omega (arith, total-next (rows t .counts) (l .row) (omega arith)),
-    )
-
-returns-3 : tie.Need-returns-3 Inv-loop μ-loop
-returns-3 c = scan-all _ _ _ (c .before .loop .inv .0) (omega arith)
+returns-2 : tie.Need-returns-2
+returns-2 c = search needs
 
 pub first-bad-shape-spec : {M : Type 1} → statement M
 first-bad-shape-spec =
     tie.close
     (tie.spec
-    Inv-loop
-    μ-loop
     all-known-requires
     counts-good-requires
     all-known-requires-2
-    loop-holds
-    mul-wide
-    shared-slice-read-wide
-    wide-requires
-    mul-wide-2
-    shared-slice-read-wide-2
-    wide-requires-2
-    add-end
-    mul-row-good
-    shared-slice-read-row-good
-    mul-row-good-2
-    shared-slice-read-row-good-2
-    mul-row-good-3
-    shared-slice-read-row-good-3
-    row-good-requires
+    parts-good-requires
     returns
-    mul-inputs-good
-    sub-inputs-good
-    part-inputs-good-start
-    part-inputs-good-end
-    inputs-good-requires
-    returns-2
-    add-row
-    loop-less
-    loop-again
-    returns-3)
+    bad-shape-by-row-requires
+    returns-2)

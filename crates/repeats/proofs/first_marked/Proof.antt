@@ -8,8 +8,8 @@ use Rattle.paper.specs.Checks.{madeOnce}
 use Rattle.paper.proofs.Scan.{Scan, scan-start, scan-next, scan-found, scan-all}
 use Rattle.repeats.specs.Named.{makesRows}
 use Rattle.repeats.proofs.Seen.{Seen, seen-start, seen-next, seen-once}
-use Rattle.repeats.proofs.first_again.Statement.{statement}
-use Rattle.repeats.proofs.first_again.Tie as tie
+use Rattle.repeats.proofs.first_marked.Statement.{statement}
+use Rattle.repeats.proofs.first_marked.Tie as tie
 
 abbrev Inv-loop : tie.InvT-loop
 Inv-loop m vars seen₀ i₀ seen i = Scan (madeOnce (makesRows vars)) m i × Seen vars seen i
@@ -61,8 +61,8 @@ loop-again c =
 returns-2 : tie.Need-returns-2 Inv-loop μ-loop
 returns-2 c = scan-all _ _ _ (c .before .loop .inv .0) (omega arith)
 
-pub first-again-spec : {M : Type 1} → statement M
-first-again-spec =
+pub first-marked-spec : {M : Type 1} → statement M
+first-marked-spec =
     tie.close
     (tie.spec
     Inv-loop
