@@ -71,8 +71,15 @@
  * no longer lies within narrower ones is refused. A model file of version 1 has no bounds: lend full ones with what was
  * read from it. One of version 2 has its own; build judges them, as it judges the tables.
  *
+ * CLOSED CHAINS. A link leads from a made variable to each input of its row. A closed chain of links is permitted if it
+ * passes a candidate of some ELEMENT and the index of none; it may pass a variable more than once. A variable is determined
+ * if working it out needs neither itself nor one that is not determined: all inputs are needed, but of ELEMENT only the
+ * index and the candidate that it chooses. Build, trial, keep and taking back judge this afresh, from the values that the
+ * search variables have after the call, and refuse it if some variable is not determined. Variables that lead to each
+ * other have one topological number: 1 plus the greatest among the inputs of all of them that are none of them.
+ *
  * REFUSALS. Number 0 is accepted. Any other number is a refusal: the call has changed no byte that it was lent, and
- * place is the smallest row, variable, pair, asked index or byte that offends. Numbers are the specification's, 1 to 19:
+ * place is the smallest row, variable, pair, asked index or byte that offends. Numbers are the specification's, 1 to 21:
  *    1 a count outside its bound or a short buffer     8 numbers, order or readers that build does not give
  *    2 no such kind                                    9 no such route
  *    3 variable, input count or part of a row         10 a pair names a made variable or none
@@ -81,15 +88,20 @@
  *      order, or not full at a variable that some     17 a new value lies outside its variable's bounds
  *      row makes, place the variable                  13 an asked variable is not there
  *    5 variable made twice                            14 file header, place is the byte
- *    6 variable depends on itself                     15 nothing left to take back, place 0
+ *    6 a closed chain that is not permitted, place    15 nothing left to take back, place 0
+ *      the least variable on one
  *    7 a search variable's value is blank or outside its bounds, or a made variable's start value is not 0
  *   16 the log is unfit, place 0: it holds more moves than 64 or than the record's number kept, a move of more than 64
  *      pairs, a made variable, one not below n, one twice in a move, a blank, or a value outside its variable's bounds
  *   18 going back to version 1 would lose bounds, place the least variable whose bounds are not full
  *   19 the record's blanks is not how many of the n stored values are blank, place 0: lend the record and the stored
  *      values that the calls left, together
- * Checks run in ascending number, but 8 and then 19 come before 7, 17 right after 12, and 16 before 15; of the calls on
- * files 14 comes first, then 18, then 1.
+ *   20 a variable is not determined: by the choices that the search variables' values make after the call, working it
+ *      out leads round a closed chain; place the least such variable
+ *   21 in a model with a closed chain a stored value is not the one worked out afresh from the stored values of the search
+ *      variables, or that is not determined; place the least such variable
+ * Checks run in ascending number, but 8 and then 19 come before 7, 17 right after 12, 16 before 15, and 21 before 20; of
+ * the calls on files 14 comes first, then 18, then 1.
  *
  * STACK. On the deepest models, chains of 4,095 rows, a program that makes this call and no other needs a stack of
  *     lukhandro_build                          480 KiB
@@ -158,7 +170,7 @@ typedef struct {
 } lukhandro_move_outcome;
 
 /* Fills numbers, order, stored, the readers and reasons from tables and start values, and empties the log. Refusals 1 to
- * 7. */
+ * 7, and then 20. */
 lukhandro_outcome lukhandro_build(
     lukhandro_session *session, size_t n, size_t m, size_t e,
     const uint16_t *kinds, size_t kinds_length, const uint16_t *makes, size_t makes_length,
@@ -173,7 +185,7 @@ lukhandro_outcome lukhandro_build(
 
 /* Tries a move by a route (1 input to output, 2 output to input, 3 mark-guided) on what the calls left, and fills
  * results, trial, flags and why; stored values and their reasons stay. Refusals 1 to 13 without 6, and 17 and 19; 8 and
- * then 19 before 7, and 17 right after 12. */
+ * then 19 before 7, and 17 right after 12; then 21 and 20. */
 lukhandro_outcome lukhandro_trial(
     lukhandro_session *session, size_t n, size_t m, size_t e,
     const uint16_t *kinds, size_t kinds_length, const uint16_t *makes, size_t makes_length,
@@ -191,7 +203,7 @@ lukhandro_outcome lukhandro_trial(
     uint8_t *flags, size_t flags_length, uint8_t *why, size_t why_length);
 
 /* Keeps a move by route 1: changes stored and reasons, fills flags, and notes the move in the log. Refusals 1 to 12 without
- * 6 and 9, 8 and then 19 before 7, then 17 and 16. */
+ * 6 and 9, 8 and then 19 before 7, then 17, 16, 21 and 20. */
 lukhandro_outcome lukhandro_keep(
     lukhandro_session *session, size_t n, size_t m, size_t e,
     const uint16_t *kinds, size_t kinds_length, const uint16_t *makes, size_t makes_length,
@@ -210,7 +222,7 @@ lukhandro_outcome lukhandro_keep(
 /* Takes the latest kept move back by route 1: its variables get the values that they had before it. Changes stored and
  * reasons, fills flags, and takes the move off the log (it writes log_sizes[0]); what keep then notes takes its room. Over
  * values, reasons and a log that the calls left, stored and reasons are exactly what they were before that move. Refusals 1
- * to 5, 8, 19, 7, 16 and 15. */
+ * to 5, 8, 19, 7, 16, 15, 21 and 20. */
 lukhandro_outcome lukhandro_take_back(
     lukhandro_session *session, size_t n, size_t m, size_t e,
     const uint16_t *kinds, size_t kinds_length, const uint16_t *makes, size_t makes_length,
@@ -250,7 +262,8 @@ lukhandro_outcome lukhandro_write(
  *   most 16,384 entries. Of the rows kept, those that make a variable which depends on itself, or on one that does, are
  *   dropped; the parts of the others then follow one another.
  *   A start value that is missing or cut, blank, or not 0 at a variable that such a row makes, becomes 0.
- * A file that read and build accept comes back the same, with nothing listed. Refusal 14: fewer than 24 bytes, place how
+ * A file without a closed chain that read and build accept comes back the same, with nothing listed; here every closed
+ * chain counts, one that build permits too. Refusal 14: fewer than 24 bytes, place how
  * many; another version than 1, place 0; n, m or e outside its bound, place 2, 4 or 6. Then 1, place 0: file or list
  * shorter than what goes into it. */
 lukhandro_salvage_outcome lukhandro_salvage(

@@ -67,7 +67,7 @@ def unpacked(data):
     return starts, lines, entries
 
 
-# ── checks 2 to 7: the number and the place of the first that fails, or None ──
+# ── checks 2 to 7 and 20: the number and the place of the first that fails, or None ──
 def suits(kind, count):
     if kind == ELEMENT:
         return 2 <= count <= 256
@@ -121,7 +121,7 @@ def bad_bounds(n, lines, bounds):
 
 
 def refusal(starts, lines, entries, bounds=None):
-    """Checks 2 to 7; without bounds, over full ones."""
+    """Checks 2 to 7 and 20; without bounds, over full ones."""
     n, bad = len(starts), unsound(len(starts), lines, entries)
     bounds = bounds or full(n)
     if bad:
@@ -134,18 +134,20 @@ def refusal(starts, lines, entries, bounds=None):
         if line[1] in seen:
             return 5, r
         seen.add(line[1])
-    known = numbers(n, lines, entries)
-    for v in range(n):
-        if known[v] is None:
+    if chained(n, lines, entries):
+        v = barred(n, lines, entries)
+        if v is not None:
             return 6, v
     for v in range(n):
         if starts[v] != 0 if v in seen else not allowed(bounds, v, starts[v]):
             return 7, v
-    return None
+    v = undetermined(starts, lines, entries)
+    return None if v is None else (20, v)
 
 
-def numbers(n, lines, entries):
-    """Topological numbers, round by round; None where there can be none."""
+# ── numbers, and closed chains ──
+def first_numbers(n, lines, entries):
+    """Topological numbers, round by round, with every closed chain counted as circular; None where there can be none."""
     made = {line[1] for line in lines}
     known = [None if v in made else 0 for v in range(n)]
     left, more = list(lines), True
@@ -159,6 +161,80 @@ def numbers(n, lines, entries):
                 known[line[1]] = 1 + max(inputs)
         left, more = waiting, len(waiting) < len(left)
     return known
+
+
+def chained(n, lines, entries):
+    """There is a closed chain of links, each from a made variable to an input of its row."""
+    return None in first_numbers(n, lines, entries)
+
+
+def led_to(n, lines, entries):
+    """The variables that each variable leads to by one link or more, as bits of a number: all that its inputs lead to, until nothing is new."""
+    reach, more = [0] * n, True
+    while more:
+        more = False
+        for _, makes, _, first, count in lines:
+            new = reach[makes]
+            for v, _ in entries[first:first + count]:
+                new |= 1 << v | reach[v]
+            more, reach[makes] = more or new != reach[makes], new
+    return reach
+
+
+def barred(n, lines, entries):
+    """The least variable on a closed chain that is not permitted, or None: one that passes an index of ELEMENT, or no candidate. A chain may pass a
+    variable more than once, so it is enough that a variable leads to an ELEMENT, whose index leads to the variable."""
+    reach = [bits | 1 << v for v, bits in enumerate(led_to(n, lines, entries))]  # a variable is where it starts, too
+    without = led_to(n, [line for line in lines if line[0] != ELEMENT], entries)
+    indices = [(makes, entries[first][0]) for kind, makes, _, first, _ in lines if kind == ELEMENT]
+    for v in range(n):
+        if without[v] >> v & 1 or any(reach[v] >> makes & 1 and reach[index] >> v & 1 for makes, index in indices):
+            return v
+    return None
+
+
+def numbers(n, lines, entries):
+    """Topological numbers of a model whose closed chains are permitted: variables that lead to each other have one, 1 plus the greatest among the inputs of
+    all of them that are not of them."""
+    known = first_numbers(n, lines, entries)
+    if None not in known:
+        return known
+    reach, inputs = led_to(n, lines, entries), {line[1]: [v for v, _ in entries[line[3]:line[3] + line[4]]] for line in lines}
+    together = lambda v: {v} | {u for u in range(n) if reach[v] >> u & 1 and reach[u] >> v & 1}
+    while None in known:
+        for v in [v for v in range(n) if known[v] is None]:
+            group = together(v)
+            outside = [known[u] for member in group for u in inputs[member] if u not in group]
+            if None not in outside:
+                known[v] = 1 + max(outside, default=0)
+    return known
+
+
+def worked_out(search, lines, entries):
+    """Every value as far as it is determined by the search variables' values, None where it is not: round by round whatever has all that it needs, of ELEMENT the index
+    and the chosen candidate."""
+    values = list(search)
+    for line in lines:
+        values[line[1]] = None
+    more = True
+    while more:
+        more = False
+        for kind, makes, param, first, count in lines:
+            part = entries[first:first + count]
+            xs = [values[v] for v, _ in part]
+            if kind == ELEMENT and xs[0] is not None:
+                xs = [xs[0]] + [x if i == xs[0] else BLANK for i, x in enumerate(xs[1:])]
+            if values[makes] is None and None not in xs:
+                values[makes], more = formula(kind, param, [c for _, c in part], xs), True
+    return values
+
+
+def undetermined(search, lines, entries):
+    """The least variable that is not determined, or None. Without a closed chain all are."""
+    if not chained(len(search), lines, entries):
+        return None
+    values = worked_out(search, lines, entries)
+    return values.index(None) if None in values else None
 
 
 # ── values ──
@@ -234,6 +310,8 @@ def reasons_of(lines, entries, values):
 def built(starts, lines, entries):
     """Numbers and values of a model that is not refused."""
     known, values = numbers(len(starts), lines, entries), list(starts)
+    if chained(len(starts), lines, entries):
+        return known, worked_out(starts, lines, entries)
     for kind, makes, param, first, count in sorted(lines, key=lambda line: known[line[1]]):
         part = entries[first:first + count]
         values[makes] = formula(kind, param, [c for _, c in part], [values[v] for v, _ in part])
@@ -299,9 +377,10 @@ def table_refusal(n, lines, entries, bounds):
 
 def rightly_numbered(lent):
     """The lent numbers and order are those that build gives."""
-    known = numbers(lent.n, lent.lines, lent.entries)
-    if None in known:
+    model = lent.n, lent.lines, lent.entries
+    if chained(*model) and barred(*model) is not None:
         return False
+    known = numbers(*model)
     return lent.numbers[:lent.n] == known and lent.order[:lent.m] == in_order(known, lent.lines)
 
 
@@ -358,6 +437,19 @@ def lent_refusal(lent, record, pairs, move_vars, move_values, asked=0, asked_var
     return None
 
 
+def round_refusal(lent, move):
+    """Checks 21 and 20 of a move (a dictionary), once all others have passed."""
+    if not chained(lent.n, lent.lines, lent.entries):
+        return None
+    old = lent.stored[:lent.n]
+    fresh = worked_out(old, lent.lines, lent.entries)
+    for v in range(lent.n):
+        if fresh[v] != old[v]:
+            return 21, v
+    v = undetermined([move.get(v, old[v]) for v in range(lent.n)], lent.lines, lent.entries)
+    return None if v is None else (20, v)
+
+
 def worth(lent, v, line_of, value_of):
     """The formula of the row that makes v, over the values that value_of gives."""
     kind, _, param, first, count = line_of[v]
@@ -366,10 +458,13 @@ def worth(lent, v, line_of, value_of):
 
 
 def routed(lent, route, move, asked):
-    """The new values of a move (a dictionary) by a route, and the variables that the route evaluates."""
+    """The new values of a move (a dictionary) by a route, and the variables that the route evaluates. With a closed chain the new values are the fresh ones."""
     old, line_of = lent.stored, {line[1]: line for line in lent.lines}
     inputs = {v: [u for u, _ in lent.entries[line[3]:line[3] + line[4]]] for v, line in line_of.items()}
     first = [move.get(v, old[v]) for v in range(lent.n)]
+    fresh = worked_out(first, lent.lines, lent.entries) if chained(lent.n, lent.lines, lent.entries) else None
+    if fresh and route == 1:
+        return fresh, {v for v in line_of if any(fresh[u] != old[u] for u in inputs[v])}
     if route == 1:
         row, evaluated = list(first), set()
         for v in sorted(line_of, key=lambda v: lent.numbers[v]):
@@ -385,7 +480,7 @@ def routed(lent, route, move, asked):
         worked &= marked
     row = list(first)  # every value that this route could come to, needed or not
     for v in sorted(worked, key=lambda v: lent.numbers[v]):
-        row[v] = worth(lent, v, line_of, lambda u: row[u])
+        row[v] = fresh[v] if fresh else worth(lent, v, line_of, lambda u: row[u])
     needed, waiting = set(), list(asked)
     while waiting:
         v = waiting.pop()
@@ -413,9 +508,10 @@ def tried(lent, record, pairs, move_vars, move_values, asked, asked_vars, route,
     """What a trial leaves: answer (number, place, evaluations), record (moves kept, evaluations, blanks), results, trial row, flags."""
     bad = lent_refusal(lent, record, pairs, move_vars, move_values, asked, asked_vars, route,
                        [(len(results), asked), (len(trial), lent.n), (len(flags), lent.n)])
+    move, wanted = dict(zip(move_vars[:pairs], move_values[:pairs])), asked_vars[:asked]
+    bad = bad or round_refusal(lent, move)
     if bad:
         return bad + (0,), record, results, trial, flags
-    move, wanted = dict(zip(move_vars[:pairs], move_values[:pairs])), asked_vars[:asked]
     row, evaluated = routed(lent, route, move, wanted)
     count, old = len(evaluated), lent.stored
     left = [row[v] if v in move or v in evaluated else old[v] for v in range(lent.n)]
@@ -475,10 +571,12 @@ def kept_move(lent, record, pairs, move_vars, move_values, flags, log):
     bad = lent_refusal(lent, record, pairs, move_vars, move_values, rooms=[(len(flags), lent.n)] + log.rooms())
     if not bad and log.unfit(lent, record[0]):
         bad = 16, 0
+    move_vars = move_vars[:pairs]
+    move = dict(zip(move_vars, move_values))
+    bad = bad or round_refusal(lent, move)
     if bad:
         return bad + (0,), record, lent.stored, flags, log
-    move_vars = move_vars[:pairs]
-    return changed(lent, min(record[0] + 1, 4294967295), dict(zip(move_vars, move_values)), flags, log.noted(lent.stored, move_vars))
+    return changed(lent, min(record[0] + 1, 4294967295), move, flags, log.noted(lent.stored, move_vars))
 
 
 def taken_back(lent, record, flags, log):
@@ -488,10 +586,12 @@ def taken_back(lent, record, flags, log):
         bad = 16, 0
     if not bad and log.sizes[0] == 0:
         bad = 15, 0
+    move = {} if bad else dict(zip(*log.move(log.sizes[0] - 1)))
+    bad = bad or round_refusal(lent, move)
     if bad:
         return bad + (0,), record, lent.stored, flags, log
     kept = record[0] if record[0] == 4294967295 else record[0] - 1
-    return changed(lent, kept, dict(zip(*log.move(log.sizes[0] - 1))), flags, log.dropped())
+    return changed(lent, kept, move, flags, log.dropped())
 
 
 # ── a batch of moves in figures ──
@@ -504,7 +604,7 @@ def moves_of(move_pairs, move_vars, move_values):
 def figured(lent, record, moves, move_pairs, move_vars, move_values, asked, by_number):
     """The figures of a batch over a record, None if it is refused, and the row of counts by number that is left. The figures are blank results; least, greatest and
     sum of those that have a value; evaluations by each route."""
-    if moves > 1000 or len(move_pairs) < moves or len(by_number) < 20:
+    if moves > 1000 or len(move_pairs) < moves or len(by_number) < 22:
         return None, by_number
     answers, results = [], []
     for move in moves_of(move_pairs[:moves], move_vars, move_values):
@@ -514,7 +614,7 @@ def figured(lent, record, moves, move_pairs, move_vars, move_values, asked, by_n
     values, numbers = [x for x in results if x != BLANK], [first[0] for first, *_ in answers]
     figures = (len(results) - len(values), min(values, default=BLANK), max(values, default=BLANK), sum(values),
                *[sum(by_route[i][2] for by_route in answers) for i in range(3)])
-    return figures, filled([numbers.count(k) for k in range(20)], by_number)
+    return figures, filled([numbers.count(k) for k in range(22)], by_number)
 
 
 # ── what `values` and `reasons` print ──

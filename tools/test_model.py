@@ -1,5 +1,5 @@
 #!/usr/bin/env python3
-"""test_model: the reasons of model.py, one by one, and over random inputs."""
+"""test_model: the reasons of model.py, one by one, and over random inputs; its closed chains, by listing every chain and by following choices a number of steps."""
 import os
 import random
 import sys
@@ -45,6 +45,91 @@ class Reasons(unittest.TestCase):
         lines = [(0, 0, 25200), (1, 0, 28800), (2, 0, 0), (3, 1, 'blank:3'), (4, 1, 'blank:3'), (5, 2, 'blank:4')]
         self.assertEqual(printed_with_reasons(file_of([25200, 28800, 0, 0, 0, 0], rows)), ''.join('%d %d %s\n' % line for line in lines))
         self.assertEqual(printed_with_reasons(file_of(starts, rows)), printed(file_of(starts, rows)))
+
+
+def listed_bar(n, lines, entries):
+    """The least variable on a closed chain that is not permitted: every chain of up to 2n links is listed, with the kinds of its links."""
+    links = {makes: [(v, 'plain' if kind != ELEMENT else 'candidate' if i else 'index') for i, (v, _) in enumerate(entries[first:first + count])]
+             for kind, makes, _, first, count in lines}
+    for v in range(n):
+        chains = {(v, frozenset())}
+        for _ in range(2 * n):
+            chains = {(end, passed | {kind}) for at, passed in chains for end, kind in links.get(at, ())}
+            if any(end == v and ('index' in passed or 'candidate' not in passed) for end, passed in chains):
+                return v
+    return None
+
+
+def followed(v, search, lines, entries, steps):
+    """The value of a variable by following the choices, None if more than so many steps lead on from it."""
+    line = next((line for line in lines if line[1] == v), None)
+    if line is None:
+        return search[v]
+    if steps == 0:
+        return None
+    kind, _, param, first, count = line
+    part, xs = entries[first:first + count], []
+    for i, (u, _) in enumerate(part):
+        needed = kind != ELEMENT or i == 0 or i - 1 == xs[0]
+        xs.append(followed(u, search, lines, entries, steps - 1) if needed else BLANK)
+        if xs[-1] is None:
+            return None
+    return formula(kind, param, [c for _, c in part], xs)
+
+
+def some_chain(rng):
+    """A random model with a closed chain, permitted or not."""
+    while True:
+        n = rng.randint(2, 6)
+        made = rng.sample(range(n), rng.randint(1, n - 1))
+        search = [v for v in range(n) if v not in made]
+        rows = []
+        for v in made:
+            anything = [rng.randrange(n) for _ in range(rng.randint(1, 3))]
+            rows.append(Row(ELEMENT, v, [rng.choice(search)] + anything) if rng.random() < 0.6 else Row(rng.choice((MAX, ELEMENT)), v, [rng.randrange(n)] + anything[:2])
+                        if rng.random() < 0.5 else Row(LINEAR, v, [rng.randrange(n)], None, 1))
+        if chained(n, *tables(rows)):
+            return [rng.randint(-1, 3) if v in search else 0 for v in range(n)], rows
+
+
+class Chains(unittest.TestCase):
+    def test_bars(self):
+        """What bars a chain is found as by listing all of them; what is permitted has numbers that its links bear out."""
+        rng, barring = random.Random(110), 0
+        for _ in range(3000):
+            starts, rows = some_chain(rng)
+            n, (lines, entries) = len(starts), tables(rows)
+            place = barred(n, lines, entries)
+            self.assertEqual(place, listed_bar(n, lines, entries))
+            barring += place is not None
+            if place is None:
+                known, reach = numbers(n, lines, entries), led_to(n, lines, entries)
+                for v, bits in enumerate(reach):
+                    group = [u for u in range(n) if u == v or bits >> u & 1 and reach[u] >> v & 1]
+                    outside = [known[u] for row in rows if row.makes in group for u in row.inputs if u not in group]
+                    self.assertEqual(known[v], 1 + max(outside) if outside else 0)
+        self.assertTrue(500 < barring < 2500, barring)
+
+    def test_choices(self):
+        """What is determined, and its value, is found as by following the choices step by step."""
+        rng, left = random.Random(111), 0
+        for _ in range(3000):
+            starts, rows = some_chain(rng)
+            n, (lines, entries) = len(starts), tables(rows)
+            if barred(n, lines, entries) is None:
+                values = worked_out(starts, lines, entries)
+                self.assertEqual(values, [followed(v, starts, lines, entries, n) for v in range(n)])
+                self.assertEqual(undetermined(starts, lines, entries), values.index(None) if None in values else None)
+                left += None in values
+        self.assertTrue(left > 200, left)
+
+    def test_trips(self):
+        """Document 01's run on ELEMENT that closes a chain through a candidate."""
+        rows = [Row(ELEMENT, 2, [0, 1, 3]), Row(LINEAR, 3, [2])]
+        text = lambda index: printed(file_of([index, 7, 0, 0], rows))
+        self.assertEqual(text(0), '0 0 0\n1 0 7\n2 1 7\n3 1 7\n')
+        self.assertEqual(text(1), 'refused 20 2\n')
+        self.assertEqual(text(2), '0 0 2\n1 0 7\n2 1 -\n3 1 -\n')
 
 
 if __name__ == '__main__':

@@ -14,8 +14,9 @@ use borrow.Author.Tests.{leb-true, lt-ltb}
 use Rattle.integers.specs.Integers.{eqZ}
 use Rattle.paper.specs.Lists.{all, nat, over}
 use Rattle.paper.specs.Formula.{blank}
-use Rattle.paper.specs.Net.{Values}
-use Rattle.paper.specs.Checks.{accepted, Move}
+use Rattle.paper.specs.Net.{Values, moved}
+use Rattle.paper.specs.Checks.{accepted, Move, movePairs}
+use Rattle.paper.specs.Chains.{determined, storedFresh}
 use Rattle.paper.specs.Log.{Log, logIn, laidAt, logged, back, roomMade, noted, dropped}
 use Rattle.paper.specs.Calls.{Session, blanksAmong, Accepted, Model, storedValues, Tried, trialFits, trialVerdict, trial, Kept, keptCount, keptBlanks, KeepLeft, keepFits, keepVerdict, keep, latest, takeFits, takeVerdict, takeBack}
 use Rattle.paper.proofs.Lists.{each}
@@ -35,10 +36,17 @@ all-low n zero l h low = refl
 all-low n (suc k) [] h low = absurd (omega arith)
 all-low n (suc k) (x ∷ l) h low = ap₂ _&&_ (lt-ltb x n (low 0 (omega arith))) (all-low n k l (omega arith) (λ i m. low (suc i) (omega arith)))
 
--- what is known of the model and the move, and flags that are lent
-keeping : (w : Model) (c : Kept) → ModelKnown w → MoveKnown (w .tables) (w .bounds) (c .move) → w .tables .n ≤ length (c .flags) → Keeping (w .tables) (w .order) (w .index) (w .stored) c
-keeping w c k v h = let (starts, places) = index-long (w .tables) (w .index) (k .index-fits) in record {
-  along = record { sound = k .sound; chains = k .chains; long = k .order-long; order-is = k .order-is };
+-- what is known of the model and the move, checks 21 and 20, and flags that are lent
+keeping : (w : Model) (c : Kept) → ModelKnown w → MoveKnown (w .tables) (w .bounds) (c .move) → ((v : ℕ) → v < w .tables .n → storedFresh (w .tables) (storedValues w) v ≡ true)
+    → ((v : ℕ) → determined (w .tables) (moved (movePairs (c .move)) (storedValues w)) v ≡ true) → w .tables .n ≤ length (c .flags)
+    → Keeping (w .tables) (w .numbers) (w .order) (w .index) (w .stored) c
+keeping w c k v fresh det h = let (starts, places) = index-long (w .tables) (w .index) (k .index-fits) in record {
+  sound = k .sound;
+  grouped = record { permitted = k .permitted; shared = record { long = k .numbers-long; at = k .numbers-are } };
+  in-order = k .order-long;
+  order-is = k .order-is;
+  fresh = fresh;
+  determined = det;
   indexed = indexed-known (w .tables) (laid-of (w .tables) (k .sound)) (w .index .starts) (w .index .places) starts places (k .index-is);
   in-stored = k .stored-long;
   in-flags = h;
@@ -75,11 +83,11 @@ module _ (s : Session) (g : Log) (w : Model) where
   unfolding takeVerdict
   take-by-kept flags = refl
 
-  pub keeping-of : (c : Kept) → keepVerdict s g w c ≡ accepted → Keeping (w .tables) (w .order) (w .index) (w .stored) c
+  pub keeping-of : (c : Kept) → keepVerdict s g w c ≡ accepted → Keeping (w .tables) (w .numbers) (w .order) (w .index) (w .stored) c
   unfolding keepVerdict
   keeping-of c e =
       let k = keep-known s g w c e in let fits = each _ (require-held 1 0 (keepFits g w c) _ e) in
-      keeping w c (k .model) (k .move) (leb-true _ _ (fits .1 .1 .0))
+      keeping w c (k .model) (k .move) (k .fresh) (k .determined) (leb-true _ _ (fits .1 .1 .0))
 
   -- what noting the move asks for
   pub named-of : (c : Kept) → keepVerdict s g w c ≡ accepted → Named (w .stored) (c .move .pairs) (c .move .vars)
@@ -93,23 +101,23 @@ module _ (s : Session) (g : Log) (w : Model) where
         let sizes = leb-true 65 (length (g .sizes)) (fits .0) in let vars = leb-true 4096 (length (g .vars)) (fits .1 .0) in let values = leb-true 4096 (length (g .values)) (fits .1 .1 .0) in
         record { few = omega arith; in-sizes = omega arith; in-vars = omega arith; in-values = omega arith }
 
-    pub taking-of : (c : Kept) → c ≡ latest g flags → Keeping (w .tables) (w .order) (w .index) (w .stored) c
+    pub taking-of : (c : Kept) → c ≡ latest g flags → Keeping (w .tables) (w .numbers) (w .order) (w .index) (w .stored) c
     unfolding takeVerdict
     taking-of c is =
         let k = take-known s g w flags e in let fits = each _ (require-held 1 0 (takeFits g w flags) _ e) in
-        subst (Keeping (w .tables) (w .order) (w .index) (w .stored)) (sym is) (keeping w (latest g flags) (k .model) (latest-known s g w flags k) (leb-true _ _ (fits .1 .0)))
+        subst (Keeping (w .tables) (w .numbers) (w .order) (w .index) (w .stored)) (sym is) (keeping w (latest g flags) (k .model) (latest-known s g w flags k) (k .fresh) (k .determined) (leb-true _ _ (fits .1 .0)))
 
 -- of the record only the number of blanks plays a part
 pub trial-by-blanks : (s : Session) (w : Model) (c : Tried) → trialVerdict s w c ≡ trialVerdict (record { kept = 0; evaluations = 0; blanks = s .blanks }) w c
 unfolding trialVerdict
 trial-by-blanks s w c = refl
 
-pub trying-of : (s : Session) (w : Model) (c : Tried) → trialVerdict s w c ≡ accepted → Trying (w .tables) (w .order) (w .index) (w .stored) c
+pub trying-of : (s : Session) (w : Model) (c : Tried) → trialVerdict s w c ≡ accepted → Trying (w .tables) (w .numbers) (w .order) (w .index) (w .stored) c
 unfolding trialVerdict
 trying-of s w c e =
     let k = trial-known s w c e in let fits = each _ (require-held 1 0 (trialFits w c) _ e) .1 .1 .1 in let long = leb-true (c .asked) (length (c .askedVars)) (fits .0) in
     record {
-      keeping = keeping w (record { move = c .move; flags = c .flags }) (k .model) (k .move) (leb-true _ _ (fits .1 .1 .1 .0));
+      keeping = keeping w (record { move = c .move; flags = c .flags }) (k .model) (k .move) (k .fresh) (k .determined) (leb-true _ _ (fits .1 .1 .1 .0));
       in-trial = leb-true _ _ (fits .1 .1 .0);
       in-asked = long;
       in-results = leb-true _ _ (fits .1 .0);

@@ -1,6 +1,6 @@
--- The model of one window: checks 1 to 6 of build are passed by computing, 7 by what is not blank, and variable 3 is DEPARTURES of the three
+-- The model of one window: checks 1 to 6 and 20 of build are passed by computing, 7 by what is not blank, and variable 3 is DEPARTURES of the three
 -- numbers. Assumes nothing.
-use Prim.Native.Nat.{ℕ, _<_, _^_}
+use Prim.Native.Nat.{_<_, _^_}
 use native.Mathlib.Omega.{arith}
 use mathlib.Core.Bool.{Bool, true, false, cond, not, _&&_, _||_}
 use mathlib.Core.List.{[], _∷_}
@@ -14,9 +14,10 @@ use mir.Syntax.{w32}
 use mir.Val.{SFits, hbits}
 use Rattle.integers.specs.Integers.{eqZ}
 use Rattle.paper.specs.Lists.{every}
-use Rattle.paper.specs.Formula.{blank, departures, strict, formula}
+use Rattle.paper.specs.Formula.{blank, departures, strict, formula, looked}
 use Rattle.paper.specs.Net.{runs}
 use Rattle.paper.specs.Tables.{rowOf, lent, indexIn}
+use Rattle.paper.specs.Chains.{determined}
 use Rattle.paper.specs.Checks.{Verdict, accepted, refused, check, leaves, boundsIn, lowest, highest}
 use Rattle.paper.specs.Calls.{BuildLent, buildVerdict, buildLeaves, build}
 
@@ -52,7 +53,7 @@ module _ (s e h : ℤ) where
   seven a b c = sevenBy (not a) (not b) (not c)
 
   allowed : buildVerdict oneWindow ≡ sevenBy (not (eqZ s blank) && (leZ lowest s && leZ s highest)) (not (eqZ e blank) && (leZ lowest e && leZ e highest)) (not (eqZ h blank) && (leZ lowest h && leZ h highest))
-  unfolding every runs rowOf buildVerdict
+  unfolding every runs rowOf looked determined buildVerdict
   allowed = refl
 
   judged : SFits w32 s → SFits w32 e → SFits w32 h → buildVerdict oneWindow ≡ seven (eqZ s blank) (eqZ e blank) (eqZ h blank)

@@ -6,10 +6,9 @@ use Rattle.paper.specs.Checks.{accepted}
 use Rattle.paper.specs.Calls.{BuildLent, buildVerdict}
 use Rattle.tables.specs.Answers.{answerOf}
 use Rattle.tables.specs.declared.Answer.{Answer}
-use Rattle.order.specs.Formed.{bare}
-use Rattle.order.specs.Numbering.{Numbered}
+use Rattle.permits.specs.Links.{kinded, Shared}
 
 -- the answer is build's verdict, and if that is acceptance the row holds the numbers
 pub record BuildJudged (l : BuildLent) (state : List ℕ) (r : Answer) : Type 0 where
   pub verdict : r ≡ answerOf 0 (buildVerdict l)
-  pub numbered : buildVerdict l ≡ accepted → let t = l .tables in Numbered (bare (t .n) (t .m) (t .makes) (t .firsts) (t .counts) (t .vars)) state
+  pub shared : buildVerdict l ≡ accepted → let t = l .tables in Shared (kinded (t .n) (t .m) (t .kinds) (t .makes) (t .firsts) (t .counts) (t .vars)) state

@@ -4,12 +4,13 @@ ghost use Rattle.fits.specs.Lent.{noRecord, toBuild};
 ghost use Rattle.builds.specs.Judged.{BuildJudged};
 use fits::build_fits;
 use moves::first_bad_value;
-use order::find_numbers;
+use numbering::first_undetermined;
+use numbering::number_all;
 use sound::table_checks;
 use tables::Answer;
 use tables::refused;
 
-// Checks 1 to 7 of build; if all are passed, `state` holds two more than each variable's number.
+// Checks 1 to 7 of build, and 20; if all are passed, `state` holds the number of every variable.
 pub fn judge_build(
     n: usize,
     m: usize,
@@ -77,13 +78,31 @@ pub fn judge_build(
     let Answer::Accepted { .. } = checked else {
         return checked;
     };
-    let endless = find_numbers(n, m, makes, firsts, counts, vars, &by, state);
-    if endless < n {
-        return refused(6, endless);
+    let barred = number_all(n, m, kinds, makes, firsts, counts, vars, &by, state);
+    if barred < n {
+        return refused(6, barred);
     }
     let bad = first_bad_value(true, n, &by, lows, highs, starts);
     if bad < n {
         return refused(7, bad);
+    }
+    let loose = first_undetermined(
+        n,
+        m,
+        e,
+        kinds,
+        makes,
+        params,
+        firsts,
+        counts,
+        vars,
+        coefs,
+        &by,
+        state,
+        starts,
+    );
+    if loose < n {
+        return refused(20, loose);
     }
     checked
 }

@@ -3,14 +3,13 @@ ghost use mathlib.Core.List.{[]};
 ghost use mathlib.Core.Bool.{true};
 ghost use mathlib.Core.Path.{_≡_};
 ghost use Prim.Native.Nat.{_≤_};
-ghost use lib.Dec.{ltb};
 ghost use lib.ListN.{length};
-ghost use Rattle.paper.specs.Checks.{accepted, boundsIn, require};
-ghost use Rattle.paper.specs.Log.{logIn, logged, logFits};
+ghost use Rattle.paper.specs.Checks.{accepted, boundsIn};
+ghost use Rattle.paper.specs.Log.{logIn, logFits};
 ghost use Rattle.tables.specs.Answers.{answerOf};
-ghost use Rattle.moves.specs.Moves.{OfMakers, moveOf, pairChecks};
+ghost use Rattle.moves.specs.Moves.{OfMakers, moveOf};
 ghost use Rattle.fits.specs.Lent.{toTry};
-ghost use Rattle.chains.specs.Chains.{askChecks, logChecks};
+ghost use Rattle.chains.specs.Chains.{askChecks, keepChecks, takeChecks};
 use logs::log_good;
 use moves::move_checks;
 use tables::Answer;
@@ -32,7 +31,7 @@ pub fn ask_checks(
 ) -> Answer
     requires { ⌜ (n ≤ length (now by)) × (pairs ≤ 64) × (pairs ≤ length (now «move_vars»)) × (pairs ≤ length (now «move_values»)) ⌝ }
     requires { ⌜ (asked ≤ 32) × (asked ≤ length (now «asked_vars»)) ⌝ }
-    ensures { λ r. ⌜ OfMakers n (now (by .entry)) (λ t. r ≡ answerOf 0 (askChecks (toTry pairs (now («move_vars» .entry)) (now («move_values» .entry)) asked (now («asked_vars» .entry)) route [] [] []) t (boundsIn (now (lows .entry)) (now (highs .entry))))) ⌝ }
+    ensures { λ r. ⌜ OfMakers n (now (by .entry)) (λ t. r ≡ answerOf 0 (askChecks (toTry pairs (now («move_vars» .entry)) (now («move_values» .entry)) asked (now («asked_vars» .entry)) route [] [] []) t (boundsIn (now (lows .entry)) (now (highs .entry))) accepted)) ⌝ }
 {
     if !((1 <= route) & (route <= 3)) {
         return refused(9, 0);
@@ -64,7 +63,7 @@ pub fn keep_checks(
 ) -> Answer
     requires { ⌜ (n ≤ length (now by)) × (pairs ≤ 64) × (pairs ≤ length (now «move_vars»)) × (pairs ≤ length (now «move_values»)) ⌝ }
     requires { ⌜ logFits (logIn (now «log_sizes») (now «log_vars») (now «log_values»)) ≡ true ⌝ }
-    ensures { λ r. ⌜ OfMakers n (now (by .entry)) (λ t. r ≡ answerOf 0 (pairChecks (moveOf pairs (now («move_vars» .entry)) (now («move_values» .entry))) (boundsIn (now (lows .entry)) (now (highs .entry))) t (logChecks (logIn (now («log_sizes» .entry)) (now («log_vars» .entry)) (now («log_values» .entry))) t (boundsIn (now (lows .entry)) (now (highs .entry))) kept accepted))) ⌝ }
+    ensures { λ r. ⌜ OfMakers n (now (by .entry)) (λ t. r ≡ answerOf 0 (keepChecks (logIn (now («log_sizes» .entry)) (now («log_vars» .entry)) (now («log_values» .entry))) (moveOf pairs (now («move_vars» .entry)) (now («move_values» .entry))) kept t (boundsIn (now (lows .entry)) (now (highs .entry))) accepted)) ⌝ }
 {
     let moved = move_checks(n, by, lows, highs, pairs, move_vars, move_values);
     let Answer::Accepted { .. } = moved else {
@@ -89,7 +88,7 @@ pub fn take_checks(
 ) -> Answer
     requires { ⌜ n ≤ length (now by) ⌝ }
     requires { ⌜ logFits (logIn (now «log_sizes») (now «log_vars») (now «log_values»)) ≡ true ⌝ }
-    ensures { λ r. ⌜ OfMakers n (now (by .entry)) (λ t. r ≡ answerOf 0 (logChecks (logIn (now («log_sizes» .entry)) (now («log_vars» .entry)) (now («log_values» .entry))) t (boundsIn (now (lows .entry)) (now (highs .entry))) kept (require 15 0 (ltb 0 (logged (logIn (now («log_sizes» .entry)) (now («log_vars» .entry)) (now («log_values» .entry))))) accepted))) ⌝ }
+    ensures { λ r. ⌜ OfMakers n (now (by .entry)) (λ t. r ≡ answerOf 0 (takeChecks (logIn (now («log_sizes» .entry)) (now («log_vars» .entry)) (now («log_values» .entry))) kept t (boundsIn (now (lows .entry)) (now (highs .entry))) accepted)) ⌝ }
 {
     if !log_good(n, by, lows, highs, kept, log_sizes, log_vars, log_values) {
         return refused(16, 0);

@@ -3,5 +3,6 @@ mod begin;
 mod copy;
 
 pub use begin::begin_route;
+pub use begin::put_move;
 pub use copy::copy_asked;
 pub use copy::copy_values;

@@ -1,5 +1,5 @@
--- Wrong calls that were tried against the statements, each shown to be no outcome that they allow; and that two planners' moves have no variable
--- in common is needed. Assumes nothing.
+-- Wrong calls that were tried against the statements, each shown to be no outcome that they allow; and what the statements on two planners ask for is
+-- needed: that their moves have no variable in common, and, where a chain closes, that each is accepted after the other. Assumes nothing.
 use Prim.Native.Nat.{ℕ, _<_}
 use mathlib.Core.List.{List, [], _∷_}
 use native.Mathlib.Omega.{arith}
@@ -10,12 +10,13 @@ use lib.Seq.{getD-take}
 use Rattle.paper.specs.Lists.{nat, every, over}
 use Rattle.paper.specs.Formula.{formula, looked}
 use Rattle.paper.specs.Net.{Values, runs}
-use Rattle.paper.specs.Tables.{rowOf}
+use Rattle.paper.specs.Tables.{Tables, lent, rowOf}
+use Rattle.paper.specs.Chains.{groupNumber, determined}
 use Rattle.paper.specs.Checks.{accepted}
 use Rattle.paper.specs.Log.{logIn, logged}
-use Rattle.paper.specs.Calls.{Accepted, numberOf, BuildLent, BuildLeft, buildVerdict, build, Model, Tried, TrialLeft, trialVerdict, trial, Kept, KeepLeft, keepVerdict, storedValues, keepLeaves, keep, latest, takeVerdict, takeBack}
+use Rattle.paper.specs.Calls.{Accepted, Refused, numberOf, BuildLent, BuildLeft, buildVerdict, build, Model, Tried, TrialLeft, trialVerdict, trial, Kept, KeepLeft, keepVerdict, storedValues, keepLeaves, keep, latest, takeVerdict, takeBack}
 use Rattle.paper.specs.Demands.{Call, State, modelOf, old, renewed, restored}
-use Rattle.paper.specs.Runs.{building, modelA, startA, zeros, zerosZ, full}
+use Rattle.paper.specs.Runs.{building, modelA, startA, zeros, zerosZ, ones}
 use Rattle.paper.proofs.Buffers.{over-at}
 use Rattle.paper.proofs.Known.{KeepKnown, keep-known, take-known}
 use Rattle.paper.proofs.Outcomes.{keep-judged, take-judged}
@@ -26,84 +27,113 @@ use Rattle.demands.specs.Demands.{RunRight}
 use Rattle.demands.proofs.Three.{demand3}
 use Rattle.demands.proofs.Logs.{noted-value}
 
+-- ── keeps and a taking back after a build ──
+abbrev rows : List ℕ × List ℤ
+rows = (zeros 4096, zerosZ 4096)
+
+-- a move of one variable, with room for the flags of 6
+abbrev moveTo : ℕ → ℕ → Kept
+moveTo v k = record { move = record { pairs = 1; vars = v ∷ []; values = pos k ∷ [] }; flags = zeros 6 }
+
+module _ (b : BuildLent) where
+  -- the model after build, and with other stored values
+  abbrev modelWith : BuildLeft → List ℤ → Model
+  modelWith x stored = record { tables = b .tables; bounds = b .bounds; numbers = x .numbers; order = x .order; stored = stored; index = x .index }
+
+  -- a keep after build, and a keep or a taking back after that
+  abbrev keptFirst : BuildLeft → Kept → KeepLeft
+  keptFirst x c = keep (x .session) (logIn (x .logSizes) (rows .0) (rows .1)) (modelWith x (x .stored)) c
+
+  abbrev keptNext : BuildLeft → KeepLeft → Kept → KeepLeft
+  keptNext x y c = keep (y .session) (y .log) (modelWith x (y .stored)) c
+
+  abbrev takenNext : BuildLeft → KeepLeft → List ℕ → KeepLeft
+  takenNext x y flags = takeBack (y .session) (y .log) (modelWith x (y .stored)) flags
+
+module _ {b : BuildLent} (start : BuildOutcome b) where
+  abbrev begun : State
+  begun = afterBuild (start .done) (start .stored) (logIn (start .logSizes) (rows .0) (rows .1))
+
+  abbrev Kept-first : Kept → Type 0
+  Kept-first c = Keeping start rows begun (c .move) (c .flags)
+
+  abbrev handed : {c : Kept} → Kept-first c → State
+  handed o = handsOn start rows begun o
+
+  abbrev Kept-next : {c : Kept} → Kept-first c → Kept → Type 0
+  Kept-next o c = Keeping start rows (handed o) (c .move) (c .flags)
+
+  abbrev Taken-next : {c : Kept} → Kept-first c → List ℕ → Type 0
+  Taken-next o flags = TakeOutcome (handed o .session) (handed o .log) (modelOf (handed o) (ownOf start rows)) flags
+
+  first-is : (c : Kept) (o : Kept-first c) → leftKept o ≡ keptFirst b (build b) c
+  first-is c o = o .stated ∙ ap (λ (x : BuildLeft). keptFirst b x c) (start .stated)
+
+  next-is : (c c′ : Kept) (o : Kept-first c) (q : Kept-next o c′) → leftKept q ≡ keptNext b (build b) (keptFirst b (build b) c) c′
+  next-is c c′ o q = q .stated ∙ ap₂ (λ (x : BuildLeft) (y : KeepLeft). keptNext b x y c′) (start .stated) (first-is c o)
+
+  taken-is : (c : Kept) (o : Kept-first c) (flags : List ℕ) (q : Taken-next o flags) → leftTaken q ≡ takenNext b (build b) (keptFirst b (build b) c) flags
+  taken-is c o flags q = q .stated ∙ ap₂ (λ (x : BuildLeft) (y : KeepLeft). takenNext b x y flags) (start .stated) (first-is c o)
+
 -- ── a build, trial, keep or taking back that refuses everything, and a count fixed at m ──
 -- model A has 3 rows and is accepted; a move of the end to 28500 is accepted too, and 2 rows are evaluated, and again when it is taken back
 abbrev A : BuildLent
 A = building modelA startA
 
-abbrev roomA : List ℕ × List ℤ
-roomA = (zeros 4096, zerosZ 4096)
-
 abbrev endTo : ℕ → Kept
-endTo k = record { move = record { pairs = 1; vars = 1 ∷ []; values = pos k ∷ [] }; flags = zeros 6 }
+endTo k = moveTo 1 k
 
 abbrev askFive : Tried
 askFive = record { move = endTo 28500 .move; asked = 1; askedVars = 5 ∷ []; route = 3; results = zerosZ 1; trial = zerosZ 6; flags = zeros 6 }
 
--- the model after build, and with other stored values
-abbrev modelWith : BuildLeft → List ℤ → Model
-modelWith x stored = record { tables = modelA; bounds = full 6; numbers = x .numbers; order = x .order; stored = stored; index = x .index }
-
--- a keep after build, and a keep or a taking back after that
-abbrev keptFirst : BuildLeft → Kept → KeepLeft
-keptFirst x c = keep (x .session) (logIn (x .logSizes) (roomA .0) (roomA .1)) (modelWith x (x .stored)) c
-
-abbrev keptNext : BuildLeft → KeepLeft → Kept → KeepLeft
-keptNext x y c = keep (y .session) (y .log) (modelWith x (y .stored)) c
-
-abbrev takenNext : BuildLeft → KeepLeft → List ℕ → KeepLeft
-takenNext x y flags = takeBack (y .session) (y .log) (modelWith x (y .stored)) flags
-
 module _ (start : BuildOutcome A) where
-  abbrev begun : State
-  begun = afterBuild (start .done) (start .stored) (logIn (start .logSizes) (roomA .0) (roomA .1))
-
-  abbrev Kept-first : Kept → Type 0
-  Kept-first c = Keeping start roomA begun (c .move) (c .flags)
-
-  abbrev handed : {c : Kept} → Kept-first c → State
-  handed o = handsOn start roomA begun o
-
-  abbrev Kept-next : {c : Kept} → Kept-first c → Kept → Type 0
-  Kept-next o c = Keeping start roomA (handed o) (c .move) (c .flags)
-
-  abbrev Taken-next : {c : Kept} → Kept-first c → List ℕ → Type 0
-  Taken-next o flags = TakeOutcome (handed o .session) (handed o .log) (modelOf (handed o) (ownOf start roomA)) flags
-
-  first-is : (c : Kept) (o : Kept-first c) → leftKept o ≡ keptFirst (build A) c
-  first-is c o = o .stated ∙ ap (λ (x : BuildLeft). keptFirst x c) (start .stated)
-
-  next-is : (c c′ : Kept) (o : Kept-first c) (q : Kept-next o c′) → leftKept q ≡ keptNext (build A) (keptFirst (build A) c) c′
-  next-is c c′ o q = q .stated ∙ ap₂ (λ (x : BuildLeft) (y : KeepLeft). keptNext x y c′) (start .stated) (first-is c o)
-
-  taken-is : (c : Kept) (o : Kept-first c) (flags : List ℕ) (q : Taken-next o flags) → leftTaken q ≡ takenNext (build A) (keptFirst (build A) c) flags
-  taken-is c o flags q = q .stated ∙ ap₂ (λ (x : BuildLeft) (y : KeepLeft). takenNext x y flags) (start .stated) (first-is c o)
-
   pub build-of-A : leftBuilt start .answer ≡ Accepted 3
-  unfolding every formula looked runs rowOf buildVerdict build
+  unfolding every formula looked runs rowOf determined groupNumber buildVerdict build
   build-of-A = ap (λ (x : BuildLeft). x .answer) (start .stated)
 
-  pub trial-of-A : (o : TrialOutcome (leftBuilt start .session) (modelWith (leftBuilt start) (start .stored)) askFive) → leftTried o .answer ≡ Accepted 2
-  unfolding every formula looked runs rowOf buildVerdict build trialVerdict trial
-  trial-of-A o = ap (λ (x : TrialLeft). x .answer) (o .stated ∙ ap (λ (x : BuildLeft). trial (x .session) (modelWith x (x .stored)) askFive) (start .stated))
+  pub trial-of-A : (o : TrialOutcome (leftBuilt start .session) (modelWith A (leftBuilt start) (start .stored)) askFive) → leftTried o .answer ≡ Accepted 2
+  unfolding every formula looked runs rowOf determined groupNumber buildVerdict build trialVerdict trial
+  trial-of-A o = ap (λ (x : TrialLeft). x .answer) (o .stated ∙ ap (λ (x : BuildLeft). trial (x .session) (modelWith A x (x .stored)) askFive) (start .stated))
 
-  pub keep-of-A : (o : Kept-first (endTo 28500)) → leftKept o .answer ≡ Accepted 2
-  unfolding every formula looked runs rowOf buildVerdict build keepVerdict keep
-  keep-of-A o = ap (λ (x : KeepLeft). x .answer) (first-is (endTo 28500) o)
+  pub keep-of-A : (o : Kept-first start (endTo 28500)) → leftKept o .answer ≡ Accepted 2
+  unfolding every formula looked runs rowOf determined groupNumber buildVerdict build keepVerdict keep
+  keep-of-A o = ap (λ (x : KeepLeft). x .answer) (first-is start (endTo 28500) o)
 
-  pub take-of-A : (o : Kept-first (endTo 28500)) (q : Taken-next o (zeros 6)) → leftTaken q .answer ≡ Accepted 2
-  unfolding every formula looked runs rowOf buildVerdict build keepVerdict keep takeVerdict takeBack
-  take-of-A o q = ap (λ (x : KeepLeft). x .answer) (taken-is (endTo 28500) o (zeros 6) q)
+  pub take-of-A : (o : Kept-first start (endTo 28500)) (q : Taken-next start o (zeros 6)) → leftTaken q .answer ≡ Accepted 2
+  unfolding every formula looked runs rowOf determined groupNumber buildVerdict build keepVerdict keep takeVerdict takeBack
+  take-of-A o q = ap (λ (x : KeepLeft). x .answer) (taken-is start (endTo 28500) o (zeros 6) q)
 
   -- ── two moves of one variable: who keeps first does matter ──
   -- the end to 28500 and the end to 28801
-  pub variable-in-common : (o : Kept-first (endTo 28500)) (p : Kept-first (endTo 28801)) (q : Kept-next o (endTo 28801)) (r : Kept-next p (endTo 28500)) → q .stored ≡ r .stored → ⊥
-  unfolding every formula looked runs rowOf buildVerdict build keepVerdict keep
+  pub variable-in-common : (o : Kept-first start (endTo 28500)) (p : Kept-first start (endTo 28801)) (q : Kept-next start o (endTo 28801)) (r : Kept-next start p (endTo 28500)) → q .stored ≡ r .stored → ⊥
+  unfolding every formula looked runs rowOf determined groupNumber buildVerdict build keepVerdict keep
   variable-in-common o p q r same =
       let end : _≡_ {A = ℕ} 28801 28500 =
       ap (λ (row : List ℤ). natAbs (getD row 1 (pos 0)))
-      (sym (ap (λ (x : KeepLeft). x .stored) (next-is (endTo 28500) (endTo 28801) o q)) ∙ same ∙ ap (λ (x : KeepLeft). x .stored) (next-is (endTo 28801) (endTo 28500) p r)) in
+      (sym (ap (λ (x : KeepLeft). x .stored) (next-is start (endTo 28500) (endTo 28801) o q)) ∙ same ∙ ap (λ (x : KeepLeft). x .stored) (next-is start (endTo 28801) (endTo 28500) p r)) in
       omega arith
+
+-- ── two moves with no variable in common, where a chain closes: each is accepted, and neither after the other ──
+-- variables 3 and 4 are ELEMENT, by the indices 0 and 1, of variable 2 and of each other; at first both are 2
+abbrev eachOther : Tables
+eachOther = lent 5 2 6 (4 ∷ 4 ∷ []) (3 ∷ 4 ∷ []) (zerosZ 2) (0 ∷ 3 ∷ []) (3 ∷ 3 ∷ []) (0 ∷ 2 ∷ 4 ∷ 1 ∷ 2 ∷ 3 ∷ []) (ones 6)
+
+abbrev B : BuildLent
+B = building eachOther (pos 0 ∷ pos 0 ∷ pos 7 ∷ [])
+
+module _ (start : BuildOutcome B) where
+  pub first-of-B : (o : Kept-first start (moveTo 0 1)) → leftKept o .answer ≡ Accepted 1
+  unfolding every formula looked runs rowOf determined groupNumber buildVerdict build keepVerdict keep
+  first-of-B o = ap (λ (x : KeepLeft). x .answer) (first-is start (moveTo 0 1) o)
+
+  pub second-of-B : (o : Kept-first start (moveTo 1 1)) → leftKept o .answer ≡ Accepted 1
+  unfolding every formula looked runs rowOf determined groupNumber buildVerdict build keepVerdict keep
+  second-of-B o = ap (λ (x : KeepLeft). x .answer) (first-is start (moveTo 1 1) o)
+
+  -- 3 then needs 4, and 4 needs 3
+  pub both-of-B : (o : Kept-first start (moveTo 0 1)) (q : Kept-next start o (moveTo 1 1)) → leftKept q .answer ≡ Refused 20 3
+  unfolding every formula looked runs rowOf determined groupNumber buildVerdict build keepVerdict keep
+  both-of-B o q = ap (λ (x : KeepLeft). x .answer) (next-is start (moveTo 0 1) (moveTo 1 1) o q)
 
 -- ── after any run ──
 module _ {b : BuildLent} (start : BuildOutcome b) (room : List ℕ × List ℤ) (ok : numberOf (leftBuilt start .answer) ≡ 0) (cs : List Call) (now : State) (r : Run start room cs now) where

@@ -27,17 +27,17 @@ use Rattle.demands.proofs.Versions.{some-number, writtenBy, written-is,
 use Rattle.demands.proofs.Judged.{judged, judged-then, lineNumber, works, call-works}
 
 -- ── which numbers each call gives, in which order ──
-pub build-numbers : (l : BuildLent) → map lineNumber (buildTable l) ≡ 1 ∷ 2 ∷ 3 ∷ 3 ∷ 4 ∷ 4 ∷ 5 ∷ 6 ∷ 7 ∷ []
+pub build-numbers : (l : BuildLent) → map lineNumber (buildTable l) ≡ 1 ∷ 2 ∷ 3 ∷ 3 ∷ 4 ∷ 4 ∷ 5 ∷ 6 ∷ 7 ∷ 20 ∷ []
 build-numbers l = refl
 
-pub trial-numbers : (s : Session) (w : Model) (c : Tried) → map lineNumber (trialTable s w c) ≡ 1 ∷ 2 ∷ 3 ∷ 3 ∷ 4 ∷ 4 ∷ 5 ∷ 8 ∷ 8 ∷ 19 ∷ 7 ∷ 9 ∷ 10 ∷ 11 ∷ 12 ∷ 17 ∷ 13 ∷ []
+pub trial-numbers : (s : Session) (w : Model) (c : Tried) → map lineNumber (trialTable s w c) ≡ 1 ∷ 2 ∷ 3 ∷ 3 ∷ 4 ∷ 4 ∷ 5 ∷ 8 ∷ 8 ∷ 19 ∷ 7 ∷ 9 ∷ 10 ∷ 11 ∷ 12 ∷ 17 ∷ 13 ∷ 21 ∷ 20 ∷ []
 trial-numbers s w c = refl
 
 module _ (s : Session) (g : Log) (w : Model) where
-  pub keep-numbers : (c : Kept) → map lineNumber (keepTable s g w c) ≡ 1 ∷ 2 ∷ 3 ∷ 3 ∷ 4 ∷ 4 ∷ 5 ∷ 8 ∷ 8 ∷ 19 ∷ 7 ∷ 10 ∷ 11 ∷ 12 ∷ 17 ∷ 16 ∷ []
+  pub keep-numbers : (c : Kept) → map lineNumber (keepTable s g w c) ≡ 1 ∷ 2 ∷ 3 ∷ 3 ∷ 4 ∷ 4 ∷ 5 ∷ 8 ∷ 8 ∷ 19 ∷ 7 ∷ 10 ∷ 11 ∷ 12 ∷ 17 ∷ 16 ∷ 21 ∷ 20 ∷ []
   keep-numbers c = refl
 
-  pub take-numbers : (flags : List ℕ) → map lineNumber (takeTable s g w flags) ≡ 1 ∷ 2 ∷ 3 ∷ 3 ∷ 4 ∷ 4 ∷ 5 ∷ 8 ∷ 8 ∷ 19 ∷ 7 ∷ 16 ∷ 15 ∷ []
+  pub take-numbers : (flags : List ℕ) → map lineNumber (takeTable s g w flags) ≡ 1 ∷ 2 ∷ 3 ∷ 3 ∷ 4 ∷ 4 ∷ 5 ∷ 8 ∷ 8 ∷ 19 ∷ 7 ∷ 16 ∷ 15 ∷ 21 ∷ 20 ∷ []
   take-numbers flags = refl
 
 -- ── each verdict is its table's ──

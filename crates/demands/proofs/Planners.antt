@@ -1,19 +1,20 @@
 -- Two planners: after a run the stored values are the fresh ones of the moves kept, and moves with no variable in common give the same search
--- values in either order and as one; what a keep leaves passes the checks of the model and of the log, so the other move is still accepted.
--- Assumes nothing.
-use Prim.Native.Nat.{ℕ}
-use mathlib.Core.Bool.{true}
+-- values in either order and as one; what a keep leaves passes the checks of the model and of the log and is fresh, so the other move is accepted
+-- exactly if with both moves put in every variable is determined. Assumes nothing.
+use Prim.Native.Nat.{ℕ, _<_}
+use mathlib.Core.Bool.{Bool, true, false}
 use mathlib.Core.List.{List, _∷_}
 use mathlib.Core.Path.{_≡_, refl, ap, sym, _∙_, subst⁻¹}
 use lib.IntN.{ℤ}
 use Rattle.paper.specs.Lists.{over}
 use Rattle.paper.specs.Net.{Values, afresh, moved}
 use Rattle.paper.specs.Tables.{net, valuesIn}
+use Rattle.paper.specs.Chains.{determined, closes, storedFresh}
 use Rattle.paper.specs.Checks.{accepted, Move, movePairs}
 use Rattle.paper.specs.Log.{logFits, logGood, noted}
 use Rattle.paper.specs.Calls.{blanksAmong, numberOf, BuildLent, startValues, Model, storedValues, Kept, KeepLeft, keepVerdict, keepLeaves}
 use Rattle.paper.specs.Demands.{own, Call, keeps, State, modelOf, applied, history}
-use Rattle.paper.proofs.Known.{ModelKnown, BlanksKnown, MoveKnown, fits-long, long-fits, KeepKnown, keep-known}
+use Rattle.paper.proofs.Known.{ModelKnown, BlanksKnown, MoveKnown, model-open, fits-long, long-fits, KeepKnown, keep-known}
 use Rattle.paper.proofs.Outcomes.{keep-judged}
 use Rattle.paper.specs.Moves.{Apart, AllPairs}
 use Rattle.demands.specs.Stated.{BuildOutcome, leftBuilt, leftKept}
@@ -21,6 +22,7 @@ use Rattle.demands.specs.Runs.{ownOf, Run, then-keep}
 use Rattle.demands.specs.Demands.{RunRight}
 use Rattle.demands.specs.Planners.{Accepts, handsOn, Keeping, Room, EitherOrder, TwoPlanners}
 use Rattle.paper.proofs.Moves.{either-order, as-one, one-known, joined-all, keep-accepts, kept-blanks, keep-leaves-known}
+use Rattle.paper.proofs.Either.{kept-determined, either-determined, one-determined}
 use Rattle.demands.proofs.Three.{own-is, demand3}
 use Rattle.demands.proofs.Logs.{noted-long}
 
@@ -39,10 +41,13 @@ module _ {b : BuildLent} (start : BuildOutcome b) (room : List ℕ × List ℤ) 
     known : Accepts o → KeepKnown (now .session) (now .log) (lentTo now) (callOf mv flags)
     known z = keep-known (now .session) (now .log) (lentTo now) (callOf mv flags) (verdict-of z)
 
-    passes : ModelKnown (lentTo now) → BlanksKnown (now .session .blanks) (lentTo now) → MoveKnown (b .tables) (b .bounds) mv → Room start room flags → logFits (now .log) ≡ true → logGood (now .log) (b .tables) (b .bounds) (now .session .kept) ≡ true → Accepts o
-    passes model blanks move long fits good =
+    passes : ModelKnown (lentTo now) → BlanksKnown (now .session .blanks) (lentTo now) → MoveKnown (b .tables) (b .bounds) mv → Room start room flags → logFits (now .log) ≡ true
+        → logGood (now .log) (b .tables) (b .bounds) (now .session .kept) ≡ true
+        → ((v : ℕ) → v < b .tables .n → storedFresh (b .tables) (storedValues (lentTo now)) v ≡ true)
+        → ((v : ℕ) → determined (b .tables) (moved (movePairs mv) (storedValues (lentTo now))) v ≡ true) → Accepts o
+    passes model blanks move long fits good fresh det =
         ap (λ (x : KeepLeft). numberOf (x .answer)) (o .stated)
-        ∙ keep-judged (now .session) (now .log) (lentTo now) (callOf mv flags) .zero (keep-accepts (now .session) (now .log) (lentTo now) (callOf mv flags) model blanks move long fits good)
+        ∙ keep-judged (now .session) (now .log) (lentTo now) (callOf mv flags) .zero (keep-accepts (now .session) (now .log) (lentTo now) (callOf mv flags) model blanks move long fits good fresh det)
 
     -- what it leaves passes the checks of the model, and its log has the room that it had
     left-is : Accepts o → leftKept o ≡ keepLeaves (now .session) (now .log) (lentTo now) (callOf mv flags) accepted
@@ -62,6 +67,14 @@ module _ {b : BuildLent} (start : BuildOutcome b) (room : List ℕ × List ℤ) 
         ap (λ (x : KeepLeft). logFits (x .log)) (left-is z)
         ∙ long-fits (noted (now .log) (storedValues (lentTo now)) mv)
         (noted-long (now .log) (fits-long (now .log) (known z .log .fits)) (storedValues (lentTo now)) mv (known z .move .few))
+
+    -- one more move over it is judged by both
+    next-determined : Accepts o → (mv′ : Move)
+        → determined (b .tables) (moved (movePairs mv′) (storedValues (lentTo (handsOn start room now o))))
+        ≡ determined (b .tables) (moved (movePairs mv′) (moved (movePairs mv) (storedValues (lentTo now))))
+    next-determined z mv′ =
+        ap (λ (x : KeepLeft). determined (b .tables) (moved (movePairs mv′) (valuesIn (b .tables) (x .stored)))) (left-is z)
+        ∙ kept-determined (now .session) (now .log) (lentTo now) (callOf mv flags) (known z) (movePairs mv′)
 
   -- ── after a run ──
   module _ (ok : numberOf (leftBuilt start .answer) ≡ 0) (cs : List Call) (now : State) (run : Run start room cs now) where
@@ -85,9 +98,15 @@ module _ {b : BuildLent} (start : BuildOutcome b) (room : List ℕ × List ℤ) 
     once-kept mv flags o z = right .keep-accepted (callOf mv flags) o z .stored
 
     module _ (mv mv′ : Move) (flags flags′ : List ℕ) (o : Keeping start room now mv flags) (q : Keeping start room (handsOn start room now o) mv′ flags′) (z : Accepts o) where
-      -- the keep that comes next is accepted if its move passes the checks of a move
-      next-accepted : MoveKnown (b .tables) (b .bounds) mv′ → Room start room flags′ → Accepts q
-      next-accepted move long = passes (handsOn start room now o) mv′ flags′ q (next-known now mv flags o z) (next-blanks now mv flags o z) move long (next-fits now mv flags o z) (next-right mv flags o .log-good)
+      -- the keep that comes next is accepted exactly if with both moves put in every variable is determined, and its move passes the checks of a move
+      next-accepted : MoveKnown (b .tables) (b .bounds) mv′ → Room start room flags′
+          → ((v : ℕ) → determined (b .tables) (moved (movePairs mv′) (moved (movePairs mv) (storedValues (lentTo now)))) v ≡ true) → Accepts q
+      next-accepted move long det =
+          passes (handsOn start room now o) mv′ flags′ q (next-known now mv flags o z) (next-blanks now mv flags o z) move long (next-fits now mv flags o z) (next-right mv flags o .log-good)
+          (next-right mv flags o .fresh) (λ v. ap (λ (d : ℕ → Bool). d v) (next-determined now mv flags o z mv′) ∙ det v)
+
+      next-both : Accepts q → (v : ℕ) → determined (b .tables) (moved (movePairs mv′) (moved (movePairs mv) (storedValues (lentTo now)))) v ≡ true
+      next-both y v = ap (λ (d : ℕ → Bool). d v) (sym (next-determined now mv flags o z mv′)) ∙ known (handsOn start room now o) mv′ flags′ q y .determined v
 
       twice-kept : Accepts q → q .stored ≡ rowFrom (moved (movePairs mv′) (moved (movePairs mv) searched))
       twice-kept y =
@@ -103,32 +122,63 @@ module _ {b : BuildLent} (start : BuildOutcome b) (room : List ℕ × List ℤ) 
       move₂ : MoveKnown (b .tables) (b .bounds) second
       move₂ = known now second g p y .move
 
-      after-first : (flags : List ℕ) → Room start room flags → (q : Keeping start room (handsOn start room now o) second flags) → Accepts q
-      after-first flags long q = next-accepted first second f flags o q z move₂ long
+      -- with both moves put in, in the one order, in the other, and as one, every variable is determined
+      abbrev Both : Type 0
+      Both = (v : ℕ) → determined (b .tables) (moved (movePairs second) (moved (movePairs first) (storedValues (lentTo now)))) v ≡ true
 
-      after-second : (flags : List ℕ) → Room start room flags → (r : Keeping start room (handsOn start room now p) first flags) → Accepts r
-      after-second flags long r = next-accepted second first g flags p r y move₁ long
+      turned : determined (b .tables) (moved (movePairs first) (moved (movePairs second) (storedValues (lentTo now))))
+          ≡ determined (b .tables) (moved (movePairs second) (moved (movePairs first) (storedValues (lentTo now))))
+      turned = either-determined (b .tables) (b .bounds) first second move₁ move₂ apart (storedValues (lentTo now))
 
-      as-one-accepted : (one : Move) → AllPairs first second one → (flags : List ℕ) → Room start room flags → (j : Keeping start room now one flags) → Accepts j
-      as-one-accepted one all flags long j = let has = known now first f o z in
-          passes now one flags j (has .model) (has .blanks) (one-known (b .tables) (b .bounds) first second move₁ move₂ apart one all) long (has .log .fits) (right .log-good)
+      joint : (one : Move) → AllPairs first second one
+          → determined (b .tables) (moved (movePairs one) (storedValues (lentTo now))) ≡ determined (b .tables) (moved (movePairs second) (moved (movePairs first) (storedValues (lentTo now))))
+      joint one all = one-determined (b .tables) (b .bounds) first second move₁ move₂ apart (storedValues (lentTo now)) one all ∙ turned
+
+      -- so each of the three keeps is accepted exactly then
+      module _ (flags : List ℕ) (q : Keeping start room (handsOn start room now o) second flags) where
+        after-first : Room start room flags → Both → Accepts q
+        after-first long both = next-accepted first second f flags o q z move₂ long both
+
+        first-then : Accepts q → Both
+        first-then = next-both first second f flags o q z
+
+      module _ (flags : List ℕ) (r : Keeping start room (handsOn start room now p) first flags) where
+        after-second : Room start room flags → Both → Accepts r
+        after-second long both = next-accepted second first g flags p r y move₁ long (λ v. ap (λ (d : ℕ → Bool). d v) turned ∙ both v)
+
+        second-then : Accepts r → Both
+        second-then x v = ap (λ (d : ℕ → Bool). d v) (sym turned) ∙ next-both second first g flags p r y x v
+
+      module _ (one : Move) (all : AllPairs first second one) (flags : List ℕ) (j : Keeping start room now one flags) where
+        as-one-accepted : Room start room flags → Both → Accepts j
+        as-one-accepted long both = let has = known now first f o z in
+            passes now one flags j (has .model) (has .blanks) (one-known (b .tables) (b .bounds) first second move₁ move₂ apart one all) long (has .log .fits) (right .log-good) (has .fresh)
+            (λ v. ap (λ (d : ℕ → Bool). d v) (joint one all) ∙ both v)
+
+        one-then : Accepts j → Both
+        one-then x v = ap (λ (d : ℕ → Bool). d v) (sym (joint one all)) ∙ known now one flags j x .determined v
+
+      -- and where no chain closes it is so
+      open-both : closes (b .tables) ≡ false → Both
+      open-both e v = model-open (lentTo now) (known now first f o z .model) e .determined _ v
 
       both-orders : EitherOrder start room now first second f g o p
       both-orders = record {
-        second-accepted = after-first;
-        first-accepted = after-second;
-        same = λ flags flags′ long long′ q r.
-            twice-kept first second f flags o q z (after-first flags long q)
-            ∙ ap rowFrom (sym (either-order (b .tables) (b .bounds) first second move₁ move₂ apart searched))
-            ∙ sym (twice-kept second first g flags′ p r y (after-second flags′ long′ r));
-        as-one = λ one all flags flags′ long long′ q j.
-            let accepted-too = as-one-accepted one all flags′ long′ j in (
-              accepted-too,
-              once-kept one flags′ j accepted-too
-                  ∙ ap rowFrom (as-one (b .tables) (b .bounds) first second move₁ move₂ apart one all searched ∙ either-order (b .tables) (b .bounds) first second move₁ move₂ apart searched)
-                  ∙ sym (twice-kept first second f flags o q z (after-first flags long q)),
-            );
+        same = λ flags flags′ q r x x′.
+            twice-kept first second f flags o q z x ∙ ap rowFrom (sym (either-order (b .tables) (b .bounds) first second move₁ move₂ apart searched))
+            ∙ sym (twice-kept second first g flags′ p r y x′);
+        as-one = λ one all flags flags′ q j x x′.
+            once-kept one flags′ j x′
+            ∙ ap rowFrom (as-one (b .tables) (b .bounds) first second move₁ move₂ apart one all searched ∙ either-order (b .tables) (b .bounds) first second move₁ move₂ apart searched)
+            ∙ sym (twice-kept first second f flags o q z x);
         all-pairs = joined-all (b .tables) (b .bounds) first second move₁ move₂ apart;
+        first-too = λ flags flags′ long q r x. after-second flags′ r long (first-then flags q x);
+        second-too = λ flags flags′ long q r x. after-first flags q long (second-then flags′ r x);
+        one-too = λ one all flags flags′ long q j x. as-one-accepted one all flags′ j long (first-then flags q x);
+        two-too = λ one all flags flags′ long q j x. after-first flags q long (one-then one all flags′ j x);
+        second-accepted = λ e flags long q. after-first flags q long (open-both e);
+        first-accepted = λ e flags long r. after-second flags r long (open-both e);
+        one-accepted = λ e one all flags long j. as-one-accepted one all flags j long (open-both e);
       }
 
 -- ── it does not matter who keeps first ──

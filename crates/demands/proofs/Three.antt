@@ -1,19 +1,36 @@
 -- Demand 3: over any run of the public calls' outcomes after an accepted build's, the state is the paper's, so what the paper says of its own
 -- runs holds of these. Assumes nothing.
-use Prim.Native.Nat.{ℕ}
-use mathlib.Core.Bool.{Bool}
+use Prim.Native.Nat.{ℕ, _<_}
+use mathlib.Core.Bool.{Bool, true, not, _&&_}
 use mathlib.Core.List.{List, []}
-use mathlib.Core.Path.{_≡_, refl, ap, sym, _∙_, subst⁻¹}
+use mathlib.Core.Path.{_≡_, refl, ap, ap₂, sym, _∙_, subst⁻¹}
 use lib.IntN.{ℤ}
-use Rattle.paper.specs.Net.{input-to-output}
+use Rattle.integers.specs.Integers.{eqZ}
+use Rattle.integers.proofs.Order.{eqZ-self}
+use Rattle.paper.specs.Net.{Values, input-to-output}
+use Rattle.paper.specs.Tables.{Tables, net, valuesIn}
+use Rattle.paper.specs.Chains.{worth, determined, closes, storedFresh}
 use Rattle.paper.specs.Log.{Log, logIn, logGood}
-use Rattle.paper.specs.Calls.{numberOf, evaluationsOf, BuildLent, BuildLeft, Tried, TrialLeft, trial, Kept, KeepLeft, keep, latest, takeBack}
-use Rattle.paper.specs.Demands.{Lent, own, Lends, Call, tries, keeps, takes, State, lentOf, modelOf, passedOn, step, ownModel, after, Proper, triedSet, evaluatedBy, Told, tried, kept, taken, Demand3 as PaperDemand3}
+use Rattle.paper.specs.Calls.{numberOf, evaluationsOf, BuildLent, BuildLeft, startValues, build, Tried, TrialLeft, trial, Kept, KeepLeft, keep, latest, takeBack}
+use Rattle.paper.specs.Demands.{Lent, own, Lends, Call, tries, keeps, takes, State, lentOf, modelOf, passedOn, step, applied, ownModel, after, history, Proper, triedSet, evaluatedBy, Told, tried, kept, taken, Demand3 as PaperDemand3}
+use Rattle.paper.proofs.Lists.{or-right}
+use Rattle.paper.proofs.Sizes.{sized-facts}
+use Rattle.paper.proofs.Fresh.{Alike}
+use Rattle.paper.proofs.Needs.{search-determined, worth-alike, determined-alike}
+use Rattle.paper.proofs.Session.{known, old-is, old-determined}
 use Rattle.paper.proofs.Outcomes.{trial-judged, keep-judged, take-judged}
 use Rattle.paper.proofs.Demands as paper
 use Rattle.demands.specs.Stated.{BuildOutcome, leftBuilt, TrialOutcome, leftTried, KeepOutcome, leftKept, TakeOutcome, leftTaken}
 use Rattle.demands.specs.Runs.{ownOf, Run, built, then-trial, then-keep, then-take}
 use Rattle.demands.specs.Demands.{RunRight, Demand3}
+
+-- fresh values pass check 21: their search variables are those that they were worked out from
+worth-passes : (t : Tables) → 0 < t .n → (s : Values) → ((v : ℕ) → determined t s v ≡ true) → (v : ℕ) → storedFresh t (worth t s) v ≡ true
+worth-passes t some s det v =
+    let alike : Alike (net t) (worth t s) s = λ u e. search-determined t s u some e .1 in
+    or-right (not (closes t))
+    (ap₂ _&&_ (ap (λ (d : ℕ → Bool). d v) (determined-alike t (worth t s) s alike) ∙ det v)
+    (ap (λ (f : Values). eqZ (worth t s v) (f v)) (worth-alike t (worth t s) s alike) ∙ eqZ-self (worth t s v)))
 
 abbrev triedNumber : TrialLeft → ℕ
 triedNumber x = numberOf (x .answer)
@@ -73,6 +90,9 @@ module _ {b : BuildLent} (start : BuildOutcome b) (room : List ℕ × List ℤ) 
   run-right ok cs now r = record {
     is = e;
     stored = ap (λ (s : State). s .stored) e ∙ d .stored;
+    fresh = λ v low.
+        ap (λ (s : State). storedFresh (b .tables) (valuesIn (b .tables) (s .stored)) v) e ∙ ap (λ (f : Values). storedFresh (b .tables) f v) (old-is b built-ok room cs (run-proper r))
+        ∙ worth-passes (b .tables) (sized-facts (b .tables) (known b built-ok .sound .sized) .n-some) (applied (startValues b) (history b room cs)) (old-determined b built-ok room cs (run-proper r)) v;
     moves = λ few. ap (λ (s : State). s .session .kept) e ∙ d .counted few;
     blanks = ap (λ (s : State). s .session .blanks) e ∙ d .blanks;
     log-good = ap (λ (s : State). logGood (s .log) (b .tables) (b .bounds) (s .session .kept)) e ∙ d .log-good;
@@ -117,8 +137,11 @@ module _ {b : BuildLent} (start : BuildOutcome b) (room : List ℕ × List ℤ) 
       e : now ≡ after b room cs
       e = run-after r
 
+      built-ok : numberOf (build b .answer) ≡ 0
+      built-ok = sym (ap (λ (x : BuildLeft). numberOf (x .answer)) (start .stated)) ∙ ok
+
       d : PaperDemand3 b room cs
-      d = paper.demand3 b (sym (ap (λ (x : BuildLeft). numberOf (x .answer)) (start .stated)) ∙ ok) room cs (run-proper r)
+      d = paper.demand3 b built-ok room cs (run-proper r)
 
 -- ── the demand ──
 pub demand3 : Demand3

@@ -1,8 +1,9 @@
--- Demand 2: an accepted build's outcome has the paper's numbers, order, index and values, a build refuses with 6 exactly if some variable depends on
--- itself, and files go there and back. Assumes nothing.
+-- Demand 2: an accepted build's outcome has the paper's numbers, order, index and values, a build refuses with 6 exactly if some closed chain is not
+-- permitted, and files go there and back. Assumes nothing.
 use Prim.Native.Nat.{ℕ, suc, zero, _<_}
 use mathlib.Core.Bool.{true, cond, _&&_}
 use mathlib.Core.List.{List}
+use mathlib.Core.Logic.{inr}
 use mathlib.Core.Path.{_≡_, ap, ap₂, sym, _∙_, subst⁻¹}
 use lib.IntN.{pos}
 use lib.Dec.{leb·zero}
@@ -10,16 +11,21 @@ use lib.ListN.{length, getD, take}
 use Rattle.integers.specs.Integers.{eqZ}
 use Rattle.paper.specs.Lists.{nat, greatest, over}
 use Rattle.paper.specs.Formula.{blank}
-use Rattle.paper.specs.Net.{Values, number, afresh}
+use Rattle.paper.specs.Net.{Values, afresh}
 use Rattle.paper.specs.Tables.{Tables, net, isMade, inputsOf, valuesIn}
+use Rattle.paper.specs.Chains.{outside, groupNumber}
 use Rattle.paper.specs.Checks.{accepted, require, leaves, lowest, highest, Sound}
 use Rattle.paper.specs.Calls.{Session, numberOf, BuildLent, BuildLeft, startValues, build}
 use Rattle.paper.specs.File.{version1, version2, endsAs, endsAt, Contents, contents, held, heldAs, counted, countedAs, write, writeBounded, nIn, mIn, eIn, header, readVerdictAs, read, readBounded, toVersion2, toVersion1}
 use Rattle.paper.specs.Demands.{BuildRight, cut, cutAs}
 use Rattle.paper.proofs.Lists.{map-same}
 use Rattle.paper.proofs.Buffers.{getD-below, over-at, over-front}
+use Rattle.paper.proofs.Sizes.{sized-facts}
 use Rattle.paper.proofs.Accept.{inputs-below}
 use Rattle.paper.proofs.Lawful.{lawful}
+use Rattle.paper.proofs.Depends.{depends-low, grouped-yes}
+use Rattle.paper.proofs.Outside.{outside-low}
+use Rattle.paper.proofs.Groups.{group-same}
 use Rattle.paper.proofs.Known.{build-known}
 use Rattle.paper.proofs.Count.{size-same}
 use Rattle.paper.proofs.Outcomes.{build-judged}
@@ -36,10 +42,15 @@ module _ {l : BuildLent} (o : BuildOutcome l) where
   pub built-right : numberOf (leftBuilt o .answer) ≡ 0 → BuiltRight o
   built-right ok = record {
     not-circular = right .not-circular;
+    determined = λ v low. right .determined v;
     numbers = λ v low.
         number-at v low ∙ right .numbers-meet v
         ∙ ap (λ xs. cond (isMade t v) (suc (greatest xs)) zero)
-        (map-same (number (net t) (t .n)) (nat (o .numbers)) (inputsOf t v) (λ i m. sym (number-at i (inputs-below t sound v i m))));
+        (map-same (groupNumber t) (nat (o .numbers)) (outside (inputsOf t) (t .n) v) (λ i m. sym (number-at i (outside-low (inputsOf t) (t .n) (inputs-below t sound) v i m))));
+    shared = λ v w down up.
+        number-at v (depends-low (inputsOf t) (t .n) (inputs-below t sound) up)
+        ∙ group-same t (inputs-below t sound) (sized-facts t (sound .sized) .n-some) v w (grouped-yes (inputsOf t) (t .n) (inputs-below t sound) v w (inr (down, up)))
+        ∙ sym (number-at w (depends-low (inputsOf t) (t .n) (inputs-below t sound) down));
     ordered = ap (λ (x : BuildLeft). x .order) (o .stated) ∙ right .ordered;
     indexed = ap (λ (x : BuildLeft). x .index) (o .stated) ∙ right .indexed;
     empty = ap (λ (x : BuildLeft). x .logSizes) (o .stated) ∙ right .empty;
@@ -64,8 +75,8 @@ module _ {l : BuildLent} (o : BuildOutcome l) where
       values : Values
       values = afresh (net (l .tables)) (startValues l) (l .tables .n)
 
-      number-at : (v : ℕ) → v < l .tables .n → nat (o .numbers) v ≡ number (net (l .tables)) (l .tables .n) v
-      number-at v low = ap (λ (x : BuildLeft). nat (x .numbers) v) (o .stated) ∙ ap (λ row. nat row v) (right .numbers) ∙ over-at (number (net t) (t .n)) (t .n) (l .numbers) v 0 low
+      number-at : (v : ℕ) → v < l .tables .n → nat (o .numbers) v ≡ groupNumber (l .tables) v
+      number-at v low = ap (λ (x : BuildLeft). nat (x .numbers) v) (o .stated) ∙ ap (λ row. nat row v) (right .numbers) ∙ over-at (groupNumber t) (t .n) (l .numbers) v 0 low
 
       value-at : (v : ℕ) → v < l .tables .n → valuesIn (l .tables) (o .stored) v ≡ afresh (net (l .tables)) (startValues l) (l .tables .n) v
       value-at v low =

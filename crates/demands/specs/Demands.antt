@@ -7,13 +7,14 @@ use mathlib.Core.Path.{_≡_}
 use lib.IntN.{ℤ}
 use lib.ListN.{length, set, take, drop}
 use Rattle.paper.specs.Lists.{nat, over}
-use Rattle.paper.specs.Net.{valuation, numbering, input-to-output}
-use Rattle.paper.specs.Tables.{Tables, net, valuesIn, order, index}
+use Rattle.paper.specs.Net.{valuation, input-to-output, Depends}
+use Rattle.paper.specs.Tables.{Tables, net, inputsOf, valuesIn, index}
+use Rattle.paper.specs.Chains.{groupNumbering, groupOrder, determined, storedFresh}
 use Rattle.paper.specs.Checks.{Verdict, accepted, lowest, highest}
 use Rattle.paper.specs.Log.{Log, logGood}
 use Rattle.paper.specs.Calls.{Session, blanksAmong, Answer, Accepted, Refused, numberOf, placeOf, evaluationsOf, answered, BuildLent, BuildLeft, startValues, Model, Tried, TrialLeft, Kept, KeepLeft, latest}
 use Rattle.paper.specs.File.{Version, version1, version2, bounded, endsAs, endsAt, Contents, contents, held, heldAs, counted, countedAs, nIn, mIn, eIn}
-use Rattle.paper.specs.Demands.{buildAsWas, trialAsWas, keepAsWas, Circular, FivePassed, LeastUnnumbered, Fitting, FittingAs, cut, cutAs, Lent, own, Lends, Call, keeps, takes, State, lentOf, modelOf, passedOn, ownModel, after, history, old, renewed, restored, evaluatedBy, Told, tried, triedSet, TrialRight, kept, KeepRight, taken, TakeRight}
+use Rattle.paper.specs.Demands.{buildAsWas, trialAsWas, keepAsWas, Circular, FivePassed, LeastBarred, Fitting, FittingAs, cut, cutAs, Lent, own, Lends, Call, keeps, takes, State, lentOf, modelOf, passedOn, ownModel, after, history, old, renewed, restored, evaluatedBy, Told, tried, triedSet, TrialRight, kept, KeepRight, taken, TakeRight}
 use Rattle.demands.specs.Stated.{BuildOutcome, leftBuilt, TrialOutcome, leftTried, KeepOutcome, leftKept, TakeOutcome, leftTaken, WriteOutcome, leftWritten, ReadOutcome, leftRead}
 use Rattle.demands.specs.Refusals.{Line, Passes, Gives, buildTable, trialTable, keepTable, takeTable, writeTable, readTable}
 use Rattle.demands.specs.Versions.{WriteBoundedOutcome, leftWrittenBounded, ReadBoundedOutcome, leftReadBounded, MoveOutcome, leftMoved, writeBoundedTable, readBoundedTable, upTable, backTable}
@@ -86,11 +87,15 @@ pub record Demand1 : Type 0 where
 -- ── demand 2: every value is the one its formula gives ──
 -- an accepted build
 pub record BuiltRight {l : BuildLent} (o : BuildOutcome l) : Type 0 where
+  -- every closed chain of inputs is permitted, and working any variable out ends
   pub not-circular : Circular l → ⊥
-  -- each number is 0 at a search variable, and 1 plus the greatest of the inputs' at a made one
-  pub numbers : (v : ℕ) → v < l .tables .n → nat (o .numbers) v ≡ numbering (net (l .tables)) (nat (o .numbers)) v
+  pub determined : (v : ℕ) → v < l .tables .n → determined (l .tables) (startValues l) v ≡ true
+  -- each number is 0 at a search variable, and 1 plus the greatest among the inputs of its group from outside it at a made one
+  pub numbers : (v : ℕ) → v < l .tables .n → nat (o .numbers) v ≡ groupNumbering (l .tables) (nat (o .numbers)) v
+  -- variables that depend on each other share theirs
+  pub shared : (v w : ℕ) → Depends (inputsOf (l .tables)) v w → Depends (inputsOf (l .tables)) w v → nat (o .numbers) v ≡ nat (o .numbers) w
   -- the rows by these numbers
-  pub ordered : o .order ≡ order (l .tables) ++ drop (l .tables .m) (l .order)
+  pub ordered : o .order ≡ groupOrder (l .tables) ++ drop (l .tables .m) (l .order)
   -- the rows that read each variable
   pub indexed : o .index ≡ index (l .tables) (l .index)
   -- the log is empty
@@ -100,11 +105,12 @@ pub record BuiltRight {l : BuildLent} (o : BuildOutcome l) : Type 0 where
   -- and the record has the number of the blank ones
   pub blanks : leftBuilt o .session .blanks ≡ blanksAmong (l .tables .n) (valuesIn (l .tables) (o .stored))
 
--- circular exactly if some variable depends on itself, at the least variable that can have no topological number
+-- circular exactly if some closed chain is not permitted: it passes through no candidate of an ELEMENT, or through the index of one; at the least
+-- variable on such a chain
 pub record CircularExactly (l : BuildLent) (a : Answer) : Type 0 where
   pub given : FivePassed l → Circular l → numberOf a ≡ 6
   pub only : numberOf a ≡ 6 → FivePassed l × Circular l
-  pub place : numberOf a ≡ 6 → LeastUnnumbered (l .tables) (placeOf a)
+  pub place : numberOf a ≡ 6 → LeastBarred (l .tables) (placeOf a)
 
 pub record Demand2 : Type 0 where
   pub build-accepted : (l : BuildLent) (o : BuildOutcome l) → numberOf (leftBuilt o .answer) ≡ 0 → BuiltRight o
@@ -169,6 +175,8 @@ module _ {b : BuildLent} (start : BuildOutcome b) (room : List ℕ × List ℤ) 
     -- after every run the state is the paper's: the fresh values of the moves kept and not taken back, their number, and a log that is fit
     pub is : now ≡ after b room cs
     pub stored : now .stored ≡ over (b .tables .n) (old b room cs) (b .stored)
+    -- where a chain closes every variable is determined by the search variables among them, and its stored value is the fresh one: 21 is not given for them
+    pub fresh : (v : ℕ) → v < b .tables .n → storedFresh (b .tables) (valuesIn (b .tables) (now .stored)) v ≡ true
     pub moves : length cs < 4294967295 → now .session .kept ≡ length (history b room cs)
     -- the record has the number of the blank values among them
     pub blanks : now .session .blanks ≡ blanksAmong (b .tables .n) (old b room cs)

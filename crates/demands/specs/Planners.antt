@@ -1,10 +1,13 @@
--- Two planners, each with a move, and no variable in both. It does not matter who keeps first: the stored values are the same, and one keep of
--- all the pairs leaves them too. This is said of every outcome that the public calls' contracts allow, after any run of calls that an accepted
--- build began. `proofs/Planners` proves it. Assumes nothing.
+-- Two planners, each with a move, and no variable in both. Where both are accepted in each order it does not matter who keeps first: the stored values
+-- are the same, and one keep of all the pairs, where it is accepted too, leaves them as well. Where no chain of inputs closes they are all accepted. This
+-- is said of every outcome that the public calls' contracts allow, after any run of calls that an accepted build began. `proofs/Planners` proves it.
+-- Assumes nothing.
 use Prim.Native.Nat.{ℕ, _+_, _≤_}
+use mathlib.Core.Bool.{false}
 use mathlib.Core.List.{List}
 use mathlib.Core.Path.{_≡_}
 use lib.ListN.{length}
+use Rattle.paper.specs.Chains.{closes}
 use Rattle.paper.specs.Checks.{Move}
 use lib.IntN.{ℤ}
 use Rattle.paper.specs.Log.{Log}
@@ -32,18 +35,28 @@ module _ {b : BuildLent} (start : BuildOutcome b) (room : List ℕ × List ℤ) 
 
   -- each of the two may keep first
   pub record EitherOrder (now : State) (first second : Move) (f g : List ℕ) (o : Keeping now first f) (p : Keeping now second g) : Type 0 where
-    -- then the other's move is accepted too
-    pub second-accepted : (flags : List ℕ) → Room flags → (q : Keeping (handsOn now o) second flags) → Accepts q
-    pub first-accepted : (flags : List ℕ) → Room flags → (r : Keeping (handsOn now p) first flags) → Accepts r
-    -- the stored values are the same, to the end of the row
-    pub same : (flags flags′ : List ℕ) → Room flags → Room flags′
-        → (q : Keeping (handsOn now o) second flags) (r : Keeping (handsOn now p) first flags′) → q .stored ≡ r .stored
-    -- one move of all the pairs is accepted, and leaves the same
+    -- if the other's move is accepted too, in each order, the stored values are the same, to the end of the row
+    pub same : (flags flags′ : List ℕ)
+        → (q : Keeping (handsOn now o) second flags) (r : Keeping (handsOn now p) first flags′) → Accepts q → Accepts r → q .stored ≡ r .stored
+    -- one move of all the pairs, if it is accepted too, leaves the same
     pub as-one : (one : Move) → AllPairs first second one
-        → (flags flags′ : List ℕ) → Room flags → Room flags′
-        → (q : Keeping (handsOn now o) second flags) (j : Keeping now one flags′) → Accepts j × (j .stored ≡ q .stored)
+        → (flags flags′ : List ℕ) (q : Keeping (handsOn now o) second flags) (j : Keeping now one flags′) → Accepts q → Accepts j → j .stored ≡ q .stored
     -- there is such a move if the pairs are at most 64
     pub all-pairs : first .pairs + second .pairs ≤ 64 → AllPairs first second (joined first second)
+    -- it is enough that one of the three is accepted: so are the others then, with rows of flags that are long enough
+    pub first-too : (flags flags′ : List ℕ) → Room flags′ → (q : Keeping (handsOn now o) second flags) (r : Keeping (handsOn now p) first flags′) → Accepts q → Accepts r
+    pub second-too : (flags flags′ : List ℕ) → Room flags → (q : Keeping (handsOn now o) second flags) (r : Keeping (handsOn now p) first flags′) → Accepts r → Accepts q
+    pub one-too : (one : Move) → AllPairs first second one
+        → (flags flags′ : List ℕ) → Room flags′ → (q : Keeping (handsOn now o) second flags) (j : Keeping now one flags′) → Accepts q → Accepts j
+    pub two-too : (one : Move) → AllPairs first second one
+        → (flags flags′ : List ℕ) → Room flags → (q : Keeping (handsOn now o) second flags) (j : Keeping now one flags′) → Accepts j → Accepts q
+    -- they are accepted where no chain of inputs closes
+    pub second-accepted : closes (b .tables) ≡ false
+        → (flags : List ℕ) → Room flags → (q : Keeping (handsOn now o) second flags) → Accepts q
+    pub first-accepted : closes (b .tables) ≡ false
+        → (flags : List ℕ) → Room flags → (r : Keeping (handsOn now p) first flags) → Accepts r
+    pub one-accepted : closes (b .tables) ≡ false
+        → (one : Move) → AllPairs first second one → (flags : List ℕ) → Room flags → (j : Keeping now one flags) → Accepts j
 
 abbrev pub TwoPlanners : Type 0
 TwoPlanners =

@@ -8,10 +8,12 @@ use lib.IntN.{ℤ}
 use lib.Dec.{eqb, leb, ltb}
 use lib.ListN.{length, take}
 use Rattle.paper.specs.Lists.{between, total, nat}
-use Rattle.paper.specs.Tables.{Tables, ends}
-use Rattle.paper.specs.Checks.{Bounds, Verdict, accepted, refused, kindGood, shapeGood, numberGood, madeOnce, numbered, indexed, Move, movable, namedOnce, hasValue, boundsGood, startAllowed, storedAllowed, pairWithin}
+use Rattle.paper.specs.Net.{moved}
+use Rattle.paper.specs.Tables.{Tables}
+use Rattle.paper.specs.Chains.{permitted, determined, groupsNumbered, storedFresh}
+use Rattle.paper.specs.Checks.{Bounds, Verdict, accepted, refused, kindGood, shapeGood, numberGood, madeOnce, indexed, Move, movePairs, movable, namedOnce, hasValue, boundsGood, startAllowed, storedAllowed, pairWithin}
 use Rattle.paper.specs.Log.{Log, logged, logGood}
-use Rattle.paper.specs.Calls.{Session, blanksAmong, BuildLent, buildFits, startValues, Model, storedValues, Tried, trialFits, Kept, keepFits, takeFits}
+use Rattle.paper.specs.Calls.{Session, blanksAmong, BuildLent, buildFits, startValues, Model, storedValues, Tried, trialFits, Kept, keepFits, latest, takeFits}
 use Rattle.paper.specs.File.{field, rowsAt, entriesAt, endsAt, held, counted, nIn, mIn, eIn}
 
 -- a number with a test of each place below a bound, or with one test and a fixed place
@@ -34,7 +36,7 @@ tableLines t bs =
 -- 8 of the numbers and order, 8 of the index, 19 of the record, and then 7, of the model lent to trial, keep and taking back
 abbrev pub modelLines : Session → Model → List Line
 modelLines s w = let t = w .tables in
-    whole 8 0 (numbered t (w .numbers) (w .order))
+    whole 8 0 (groupsNumbered t (w .numbers) (w .order))
     ∷ whole 8 0 (indexed t (w .index))
     ∷ whole 19 0 (eqb (s .blanks) (blanksAmong (t .n) (storedValues w)))
     ∷ places 7 (t .n) (storedAllowed t (w .bounds) (storedValues w))
@@ -45,24 +47,41 @@ abbrev pub moveLines : Model → Move → List Line
 moveLines w mv =
     places 10 (mv .pairs) (movable mv (w .tables)) ∷ places 11 (mv .pairs) (namedOnce mv) ∷ places 12 (mv .pairs) (hasValue mv) ∷ places 17 (mv .pairs) (pairWithin mv (w .bounds)) ∷ []
 
+-- 21, of the stored values, and 20, of the search variables' new ones, last of all
+abbrev pub freshLines : Model → Move → List Line
+freshLines w mv = let t = w .tables in
+    places 21 (t .n) (storedFresh t (storedValues w))
+    ∷ places 20 (t .n) (determined t (moved (movePairs mv) (storedValues w)))
+    ∷ []
+
+-- 6, of the chains that are not permitted, and 7 and 20, of the start values
+abbrev pub startLines : BuildLent → List Line
+startLines l = let t = l .tables in
+    places 6 (t .n) (permitted t)
+    ∷ places 7 (t .n) (startAllowed t (l .bounds) (startValues l))
+    ∷ places 20 (t .n) (determined t (startValues l))
+    ∷ []
+
 abbrev pub buildTable : BuildLent → List Line
-buildTable l = let t = l .tables in
-    whole 1 0 (buildFits l) ∷ (tableLines t (l .bounds) ++ (places 6 (t .n) (ends t) ∷ places 7 (t .n) (startAllowed t (l .bounds) (startValues l)) ∷ []))
+buildTable l = whole 1 0 (buildFits l) ∷ (tableLines (l .tables) (l .bounds) ++ startLines l)
 
 abbrev pub trialTable : Session → Model → Tried → List Line
 trialTable s w c = let t = w .tables in
     whole 1 0 (trialFits w c) ∷ (tableLines t (w .bounds) ++ modelLines s w ++ (whole 9 0 (between 1 (c .route) 3) ∷ [])
-    ++ moveLines w (c .move) ++ (places 13 (c .asked) (λ i. ltb (nat (c .askedVars) i) (t .n)) ∷ []))
+    ++ moveLines w (c .move) ++ (places 13 (c .asked) (λ i. ltb (nat (c .askedVars) i) (t .n)) ∷ []) ++ freshLines w (c .move))
 
 -- 16, of the log
 abbrev pub logLines : Session → Log → Model → List Line
 logLines s g w = whole 16 0 (logGood g (w .tables) (w .bounds) (s .kept)) ∷ []
 
 abbrev pub keepTable : Session → Log → Model → Kept → List Line
-keepTable s g w c = whole 1 0 (keepFits g w c) ∷ (tableLines (w .tables) (w .bounds) ++ modelLines s w ++ moveLines w (c .move) ++ logLines s g w)
+keepTable s g w c = whole 1 0 (keepFits g w c) ∷ (tableLines (w .tables) (w .bounds) ++ modelLines s w ++ moveLines w (c .move) ++ logLines s g w ++ freshLines w (c .move))
 
+-- 15, of a log with no move, and then those of the move that takes the latest back
 abbrev pub takeTable : Session → Log → Model → List ℕ → List Line
-takeTable s g w flags = whole 1 0 (takeFits g w flags) ∷ (tableLines (w .tables) (w .bounds) ++ modelLines s w ++ logLines s g w ++ (whole 15 0 (ltb 0 (logged g)) ∷ []))
+takeTable s g w flags =
+    whole 1 0 (takeFits g w flags)
+    ∷ (tableLines (w .tables) (w .bounds) ++ modelLines s w ++ logLines s g w ++ (whole 15 0 (ltb 0 (logged g)) ∷ []) ++ freshLines w (latest g flags .move))
 
 abbrev pub writeTable : Tables → List ℤ → List ℕ → List Line
 writeTable t starts bytes = whole 1 0 (held t starts && leb (endsAt (t .n) (t .m) (t .e)) (length bytes)) ∷ []

@@ -56,10 +56,10 @@ fn count_filling(
 // Counts the batch of a case.
 pub fn count_case(case: &[u8], plan: &[u16], pool: &[u16], coefs: &[i16], values: &[i32]) {
     let mut stored = [0i32; 4097];
-    let mut by_number = [77u32; 22];
+    let mut by_number = [77u32; 24];
     fill_signed32(&mut stored, values_of(case));
     let s = least(count(case, 82), 4097);
-    let k = least(count(case, 84), 22);
+    let k = least(count(case, 84), 24);
     count_filling(
         case,
         plan,

@@ -13,10 +13,10 @@ use Rattle.figures.specs.declared.Totals.{Totals}
 use Rattle.figures.specs.declared.Counted.the-variants.{Accepted, Refused}
 
 module _ (b : Batch) (row : List ℕ) where
-  pub fits-known : fits b row ≡ true → (b .moves ≤ 1000) × (b .moves ≤ length (b .pairs)) × (20 ≤ length row)
+  pub fits-known : fits b row ≡ true → (b .moves ≤ 1000) × (b .moves ≤ length (b .pairs)) × (22 ≤ length row)
   fits-known h =
-      let few = leb (b .moves) 1000 in let each = leb (b .moves) (length (b .pairs)) in let both = and-left (few && each) (leb 20 (length row)) h in
-      (leb-true _ _ (and-left few each both), leb-true _ _ (and-right few each both), leb-true _ _ (and-right (few && each) (leb 20 (length row)) h))
+      let few = leb (b .moves) 1000 in let each = leb (b .moves) (length (b .pairs)) in let both = and-left (few && each) (leb 22 (length row)) h in
+      (leb-true _ _ (and-left few each both), leb-true _ _ (and-right few each both), leb-true _ _ (and-right (few && each) (leb 22 (length row)) h))
 
   module _ (s : Session) (w : Model) (asked : ℕ) where
     pub figures-refused : fits b row ≡ false → (Refused 1 0, row) ≡ figures s w asked b row

@@ -24,16 +24,16 @@ use Rattle.figures.proofs.Adding.{plus-assoc, none-plus, plus-none, tot
 -- i moves are counted in it, and with those that are left they are all
 pub record Counting (all rest : List Outcome) (i : ℕ) (before row : List ℕ) : Type 0 where
   pub long : length row ≡ length before
-  pub back : drop 20 row ≡ drop 20 before
-  pub front : (k : ℕ) → k < 20 → nat row k + having k rest ≡ having k all
-  pub few : (k : ℕ) → k < 20 → nat row k ≤ i
+  pub back : drop 22 row ≡ drop 22 before
+  pub front : (k : ℕ) → k < 22 → nat row k + having k rest ≡ having k all
+  pub few : (k : ℕ) → k < 22 → nat row k ≤ i
 
-module _ (all rest : List Outcome) (before : List ℕ) (room : 20 ≤ length before) where
-  counting-next : (o : Outcome) (i : ℕ) (row : List ℕ) → o .number < 20 → Counting all (o ∷ rest) i before row
+module _ (all rest : List Outcome) (before : List ℕ) (room : 22 ≤ length before) where
+  counting-next : (o : Outcome) (i : ℕ) (row : List ℕ) → o .number < 22 → Counting all (o ∷ rest) i before row
       → Counting all rest (i + 1) before (set row (o .number) (suc (nat row (o .number))))
   counting-next o i row low c = record {
     long = length-set row (o .number) _ ∙ c .long;
-    back = drop-set-lt 20 row (o .number) _ low ∙ c .back;
+    back = drop-set-lt 22 row (o .number) _ low ∙ c .back;
     front = λ k l. at k (eqb (o .number) k) refl (c .front k l) (c .few k l) .0;
     few = λ k l. at k (eqb (o .number) k) refl (c .front k l) (c .few k l) .1;
   }
@@ -50,19 +50,19 @@ module _ (all rest : List Outcome) (before : List ℕ) (room : 20 ≤ length bef
           let is = getD-set-other row (o .number) k (suc (nat row (o .number))) 0 (λ z. eqb-false (o .number) k e (sym z)) in
           (omega arith, omega arith)
 
-counting-start : (all : List Outcome) (before : List ℕ) → 20 ≤ length before → Counting all all 0 (over 20 (λ k. 0) before) (over 20 (λ k. 0) before)
+counting-start : (all : List Outcome) (before : List ℕ) → 22 ≤ length before → Counting all all 0 (over 22 (λ k. 0) before) (over 22 (λ k. 0) before)
 counting-start all before room = record {
   long = refl;
   back = refl;
-  front = λ k l. let z = over-at (λ k. 0) 20 before k 0 l in omega arith;
-  few = λ k l. let z = over-at (λ k. 0) 20 before k 0 l in omega arith;
+  front = λ k l. let z = over-at (λ k. 0) 22 before k 0 l in omega arith;
+  few = λ k l. let z = over-at (λ k. 0) 22 before k 0 l in omega arith;
 }
 
-counting-end : (all : List Outcome) (i : ℕ) (before row : List ℕ) → 20 ≤ length before → Counting all [] i before row → row ≡ tallies all before
-counting-end all i before row room c = over-of (λ k. having k all) 20 before row 0 (c .long) room (λ k l. let h = c .front k l in omega arith) (c .back)
+counting-end : (all : List Outcome) (i : ℕ) (before row : List ℕ) → 22 ≤ length before → Counting all [] i before row → row ≡ tallies all before
+counting-end all i before row room c = over-of (λ k. having k all) 22 before row 0 (c .long) room (λ k l. let h = c .front k l in omega arith) (c .back)
 
-pub cleared-long : (before cleared : List ℕ) → 20 ≤ length before → cleared ≡ over 20 (λ k. 0) before → length cleared ≡ length before
-cleared-long before cleared room e = ap length e ∙ over-length (λ k. 0) 20 before room
+pub cleared-long : (before cleared : List ℕ) → 22 ≤ length before → cleared ≡ over 22 (λ k. 0) before → length cleared ≡ length before
+cleared-long before cleared room e = ap length e ∙ over-length (λ k. 0) 22 before room
 
 -- ── the loop ──
 module _ (s : Session) (w : Model) (asked : ℕ) (b : Batch) where
@@ -79,7 +79,7 @@ module _ (s : Session) (w : Model) (asked : ℕ) (b : Batch) where
     pub adding : plus t (totals (rest i at)) ≡ totals (outcomes s w asked b)
     pub bounded : Bounded i t
 
-  pub going-start : (before cleared : List ℕ) (t : Totals) → 20 ≤ length before → cleared ≡ over 20 (λ k. 0) before → t ≡ totals [] → Going cleared cleared t 0 0
+  pub going-start : (before cleared : List ℕ) (t : Totals) → 22 ≤ length before → cleared ≡ over 22 (λ k. 0) before → t ≡ totals [] → Going cleared cleared t 0 0
   going-start before cleared t room e f = rw (e, f) (record {
     at-most = omega arith;
     counting = counting-start (outcomes s w asked b) before room;
@@ -96,7 +96,7 @@ module _ (s : Session) (w : Model) (asked : ℕ) (b : Batch) where
       ∙ ap₂ (λ vs xs. outcome s w asked (moveAt at k) ∷ map (outcome s w asked) (unpacked (drop (i + 1) (take (b .moves) (b .pairs))) vs xs))
       (drop-drop k at (b .vars)) (drop-drop k at (b .values))
 
-  module _ (before row : List ℕ) (t : Totals) (at i k : ℕ) (g : Going before row t at i) (l : i < b .moves) (h : b .moves ≤ length (b .pairs)) (room : 20 ≤ length before)
+  module _ (before row : List ℕ) (t : Totals) (at i k : ℕ) (g : Going before row t at i) (l : i < b .moves) (h : b .moves ≤ length (b .pairs)) (room : 22 ≤ length before)
       (e : k ≡ nat (b .pairs) i) (o : Outcome) (is : o ≡ outcome s w asked (moveAt at k)) (small : Small o) where
     rest-is : rest i at ≡ o ∷ rest (i + 1) (at + k)
     rest-is = rest-next at i k l h e ∙ ap (λ (x : Outcome). x ∷ rest (i + 1) (at + k)) (sym is)
@@ -117,19 +117,19 @@ module _ (s : Session) (w : Model) (asked : ℕ) (b : Batch) where
     going-long = g .counting .long
 
     -- there is room for one more
-    pub going-few : (k : ℕ) → k < 20 → nat row k ≤ i
+    pub going-few : (k : ℕ) → k < 22 → nat row k ≤ i
     going-few = g .counting .few
 
     pub going-room : i < 1000 → Room t
     going-room = bounded-room i t (g .bounded)
 
     -- none is left
-    pub going-end : (first : List ℕ) → before ≡ over 20 (λ k. 0) first → 20 ≤ length first → b .moves ≤ length (b .pairs) → b .moves ≤ i
+    pub going-end : (first : List ℕ) → before ≡ over 22 (λ k. 0) first → 22 ≤ length first → b .moves ≤ length (b .pairs) → b .moves ≤ i
         → (t ≡ totals (outcomes s w asked b)) × (row ≡ tallies (outcomes s w asked b) first)
     going-end first cleared room h l = (
       sym (plus-none t) ∙ ap (λ os. plus t (totals os)) (sym none) ∙ g .adding,
       counting-end (outcomes s w asked b) i before row (let long = cleared-long first before room cleared in omega arith) (rw none at (g .counting))
-          ∙ ap (tallies (outcomes s w asked b)) cleared ∙ over-over (λ k. having k (outcomes s w asked b)) 20 first (λ k. 0),
+          ∙ ap (tallies (outcomes s w asked b)) cleared ∙ over-over (λ k. having k (outcomes s w asked b)) 22 first (λ k. 0),
     )
       where
         none : rest i at ≡ []

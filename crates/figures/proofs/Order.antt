@@ -77,10 +77,10 @@ outcomes-kept s w asked moves moves′ r = rw (moves-again moves, moves-again mo
 pub order-changes-nothing : OrderChangesNothing
 order-changes-nothing s w asked moves moves′ r row =
     let os = outcomes-kept s w asked moves moves′ r in
-    ap₂ (λ k l. answer ((leb k 1000 && leb k l) && leb 20 (length row)) (totals (outcomes s w asked (packed moves))) (tallies (outcomes s w asked (packed moves)) row))
+    ap₂ (λ k l. answer ((leb k 1000 && leb k l) && leb 22 (length row)) (totals (outcomes s w asked (packed moves))) (tallies (outcomes s w asked (packed moves)) row))
     (length-kept r) (length-kept (map-kept length r))
-    ∙ ap₂ (answer ((leb (length moves′) 1000 && leb (length moves′) (length (map length moves′))) && leb 20 (length row))) (totals-kept os)
-    (over-same (λ k. having k (outcomes s w asked (packed moves))) 20 row (λ k. having k (outcomes s w asked (packed moves′))) (λ k l. having-kept k os))
+    ∙ ap₂ (answer ((leb (length moves′) 1000 && leb (length moves′) (length (map length moves′))) && leb 22 (length row))) (totals-kept os)
+    (over-same (λ k. having k (outcomes s w asked (packed moves))) 22 row (λ k. having k (outcomes s w asked (packed moves′))) (λ k l. having-kept k os))
   where
     answer : Bool → Totals → List ℕ → Counted × List ℕ
     answer b t left = cond b (Accepted t, left) (Refused 1 0, row)

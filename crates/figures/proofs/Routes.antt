@@ -7,8 +7,8 @@ use lib.Dec.{ltb}
 use lib.IntN.{ℤ, pos}
 use lib.ListN.{getD}
 use Rattle.paper.specs.Lists.{between, nat}
-use Rattle.paper.specs.Checks.{Verdict, accepted, refused, require, check, Move}
-use Rattle.paper.specs.Calls.{Session, numberOf, answered, Model, Tried, TrialLeft, modelChecks, changeChecks, trialFits, trialVerdict, trial}
+use Rattle.paper.specs.Checks.{Verdict, accepted, refused, require, check, Move, freshChecks}
+use Rattle.paper.specs.Calls.{Session, numberOf, answered, Model, storedValues, Tried, TrialLeft, modelChecks, changeChecks, trialFits, trialVerdict, trial}
 use Rattle.paper.specs.Demands.{modelOf, ownModel, after}
 use Rattle.paper.proofs.Outcomes.{trial-judged}
 use Rattle.paper.proofs.Demands.{demand3}
@@ -32,7 +32,7 @@ verdict-alike : (s : Session) (w : Model) (asked : ℕ) (mv : Move) (r : ℕ) �
 unfolding trialVerdict
 verdict-alike s w asked mv r e =
     ap (λ b. require 1 0 (trialFits w (asking s w asked 1 mv)) (modelChecks w (s .blanks) (require 9 0 b
-    (changeChecks w mv (check 13 1 (λ i. ltb (nat (asked ∷ []) i) (w .tables .n)) accepted))))) e
+    (changeChecks w mv (check 13 1 (λ i. ltb (nat (asked ∷ []) i) (w .tables .n)) (freshChecks (w .tables) (storedValues w) mv)))))) e
 
 pub same-number : SameNumber
 unfolding tried

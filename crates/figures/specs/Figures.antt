@@ -73,14 +73,14 @@ totals os = record {
   third = total (map (λ (o : Outcome). o .third) os);
 }
 
--- the moves accepted, and those refused by each of the numbers 1 to 19
+-- the moves accepted, and those refused by each of the numbers 1 to 21
 abbrev pub tallies : List Outcome → List ℕ → List ℕ
-tallies os = over 20 (λ k. having k os)
+tallies os = over 22 (λ k. having k os)
 
 -- ── the call ──
--- at most 1,000 moves, a number of pairs for each, and 20 places for the tallies
+-- at most 1,000 moves, a number of pairs for each, and 22 places for the tallies
 abbrev pub fits : Batch → List ℕ → Bool
-fits b byNumber = (leb (b .moves) 1000 && leb (b .moves) (length (b .pairs))) && leb 20 (length byNumber)
+fits b byNumber = (leb (b .moves) 1000 && leb (b .moves) (length (b .pairs))) && leb 22 (length byNumber)
 
 abbrev pub figures : Session → Model → ℕ → Batch → List ℕ → Counted × List ℕ
 figures s w asked b byNumber =

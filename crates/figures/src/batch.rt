@@ -60,12 +60,12 @@ fn part_of_values<'a>(at: usize, pairs: usize, rows: &'a [i32]) -> &'a [i32]
     &rows[start..end]
 }
 
-// Puts 0 at the 20 places of a row of tallies.
+// Puts 0 at the 22 places of a row of tallies.
 fn clear(by_number: &mut [u32])
-    requires { ⌜ 20 ≤ length (now «by_number») ⌝ }
-    ensures { λ _. ⌜ now («by_number» .exit) ≡ over 20 (λ k. 0) (now («by_number» .entry)) ⌝ }
+    requires { ⌜ 22 ≤ length (now «by_number») ⌝ }
+    ensures { λ _. ⌜ now («by_number» .exit) ≡ over 22 (λ k. 0) (now («by_number» .entry)) ⌝ }
 {
-    for k in 0..20usize {
+    for k in 0..22usize {
         by_number[k] = 0;
     }
 }
@@ -107,7 +107,7 @@ fn try_all(
     asked: u16,
     by_number: &mut [u32],
 ) -> Totals
-    requires { ⌜ (moves ≤ 1000) × (moves ≤ length (now «move_pairs»)) × (20 ≤ length (now «by_number»)) ⌝ }
+    requires { ⌜ (moves ≤ 1000) × (moves ≤ length (now «move_pairs»)) × (22 ≤ length (now «by_number»)) ⌝ }
     ensures { λ r. ⌜ (r ≡ totals (outcomes (recordIn session) (toModel n m e (now (kinds .entry)) (now (makes .entry)) (now (params .entry)) (now (firsts .entry)) (now (counts .entry)) (now (vars .entry)) (now (coefs .entry)) (now (lows .entry)) (now (highs .entry)) (now (numbers .entry)) (now (order .entry)) (now (stored .entry)) (now («reader_starts» .entry)) (now («reader_places» .entry))) asked (batchOf moves (now («move_pairs» .entry)) (now («move_vars» .entry)) (now («move_values» .entry))))) × (now («by_number» .exit) ≡ tallies (outcomes (recordIn session) (toModel n m e (now (kinds .entry)) (now (makes .entry)) (now (params .entry)) (now (firsts .entry)) (now (counts .entry)) (now (vars .entry)) (now (coefs .entry)) (now (lows .entry)) (now (highs .entry)) (now (numbers .entry)) (now (order .entry)) (now (stored .entry)) (now («reader_starts» .entry)) (now («reader_places» .entry))) asked (batchOf moves (now («move_pairs» .entry)) (now («move_vars» .entry)) (now («move_values» .entry)))) (now («by_number» .entry))) ⌝ }
 {
     let mut totals = none();
@@ -176,7 +176,7 @@ pub fn figures(
 ) -> Counted
     ensures { λ r. ⌜ (r, now («by_number» .exit)) ≡ counted (recordIn session) (toModel n m e (now (kinds .entry)) (now (makes .entry)) (now (params .entry)) (now (firsts .entry)) (now (counts .entry)) (now (vars .entry)) (now (coefs .entry)) (now (lows .entry)) (now (highs .entry)) (now (numbers .entry)) (now (order .entry)) (now (stored .entry)) (now («reader_starts» .entry)) (now («reader_places» .entry))) asked (batchOf moves (now («move_pairs» .entry)) (now («move_vars» .entry)) (now («move_values» .entry))) (now («by_number» .entry)) ⌝ }
 {
-    let fits = (moves <= 1000) & (moves <= move_pairs.len()) & (20 <= by_number.len());
+    let fits = (moves <= 1000) & (moves <= move_pairs.len()) & (22 <= by_number.len());
     if !fits {
         return Counted::Refused {
             number: 1,

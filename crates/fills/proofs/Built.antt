@@ -1,53 +1,51 @@
 -- What build writes, step by step, is what the paper leaves. Assumes nothing.
-use Prim.Native.Nat.{ℕ, _≤_}
+use Prim.Native.Nat.{ℕ}
 use native.Mathlib.Omega.{arith}
 use mathlib.Core.List.{List, _++_}
 use mathlib.Core.Path.{_≡_, ap, _∙_}
 use lib.IntN.{ℤ, pos}
 use lib.ListN.{length, getD, take, drop, length-append}
 use lib.Seq.{take-at}
-use Rattle.paper.specs.Lists.{over}
-use Rattle.paper.specs.Net.{afresh, number}
-use Rattle.paper.specs.Tables.{Tables, net, valuesIn, order}
+use Rattle.paper.specs.Lists.{nat, over}
+use Rattle.paper.specs.Tables.{Tables, valuesIn}
 use Rattle.paper.specs.Checks.{accepted}
+use Rattle.paper.specs.Chains.{groupNumber, groupOrder, worth, determined}
 use Rattle.paper.specs.Calls.{BuildLent, buildLeaves}
-use Rattle.paper.proofs.Buffers.{below-list, over-length, over-front, over-over}
-use Rattle.paper.proofs.Order.{order-length}
-use Rattle.order.proofs.Bare.{bareOf, number-bare, order-bare}
-use Rattle.routes.specs.Rows.{Along}
+use Rattle.paper.proofs.Buffers.{over-over, over-same}
+use Rattle.paper.proofs.Closes.{group-order-length}
+use Rattle.numbering.specs.Workable.{Workable}
+use Rattle.permits.proofs.Kinded.{kindedOf, number-kinded, order-kinded}
+use Rattle.numbering.proofs.Started.{row-long, row-starts}
 use Rattle.fills.specs.Accepted.{Buildable}
 
 module _ (l : BuildLent) (state : List ℕ) (b : Buildable l state) where
   abbrev t : Tables
   t = l .tables
 
-  pub numbers-left : (now : List ℕ) → now ≡ over (t .n) (number (net (bareOf t)) (t .n)) (l .numbers) → now ≡ buildLeaves l accepted .numbers
-  numbers-left now e = e ∙ ap (λ f. over (t .n) f (l .numbers)) (number-bare t)
+  pub numbers-left : (now : List ℕ) → now ≡ over (t .n) (nat state) (l .numbers) → now ≡ buildLeaves l accepted .numbers
+  numbers-left now e =
+      e ∙ over-same (nat state) (t .n) (l .numbers) (groupNumber t) (λ v h. b .grouped .shared .at v h ∙ ap (λ (f : ℕ → ℕ). f v) (number-kinded t))
 
-  pub order-left : (now : List ℕ) → now ≡ order (bareOf t) ++ drop (t .m) (l .order) → now ≡ buildLeaves l accepted .order
-  order-left now e = e ∙ ap (_++ drop (t .m) (l .order)) (order-bare t)
+  pub order-left : (now : List ℕ) → now ≡ groupOrder (kindedOf t) ++ drop (t .m) (l .order) → now ≡ buildLeaves l accepted .order
+  order-left now e = e ∙ ap (_++ drop (t .m) (l .order)) (order-kinded t)
 
-  pub along : (now : List ℕ) → now ≡ order (bareOf t) ++ drop (t .m) (l .order) → Along t now
-  along now e =
-      let is = order-left now e in let size = order-length t in
-      record {
-        sound = b .sound;
-        chains = b .chains;
-        long = let c = ap length is ∙ length-append (order t) (drop (t .m) (l .order)) in omega arith;
-        order-is = ap (take (t .m)) is ∙ take-at (order t) (drop (t .m) (l .order)) (t .m) size;
-      }
+  -- the start values copied, before every variable is worked out over them
+  module _ (mid : List ℤ) (copied : mid ≡ over (t .n) (λ v. getD (l .starts) v (pos 0)) (l .stored)) where
+    pub workable : (ord : List ℕ) → ord ≡ groupOrder (kindedOf t) ++ drop (t .m) (l .order) → Workable t state ord mid
+    workable ord e =
+        let is = order-left ord e in let size = group-order-length t in
+        record {
+          sound = b .sound;
+          grouped = b .grouped;
+          in-order = let c = ap length is ∙ length-append (groupOrder t) (drop (t .m) (l .order)) in omega arith;
+          order-is = ap (take (t .m)) is ∙ take-at (groupOrder t) (drop (t .m) (l .order)) (t .m) size;
+          in-values = row-long t (l .starts) (l .stored) (b .in-starts) copied (b .in-stored);
+          determined = λ v h. ap (λ s. determined t s v) (row-starts t (l .starts) (l .stored) (b .in-starts) copied) ∙ b .determined v;
+        }
 
-  pub stored-long : (mid : List ℤ) → mid ≡ over (t .n) (λ v. getD (l .starts) v (pos 0)) (l .stored) → t .n ≤ length mid
-  stored-long mid copied = let same = ap length copied ∙ over-length (λ v. getD (l .starts) v (pos 0)) (t .n) (l .stored) (b .in-stored) in omega (arith, b .in-stored)
-
-  abbrev worth : List ℤ → ℕ → ℤ
-  worth row = afresh (net t) (valuesIn t row) (t .n)
-
-  pub stored-left : (mid now : List ℤ) → mid ≡ over (t .n) (λ v. getD (l .starts) v (pos 0)) (l .stored) → now ≡ over (t .n) (worth mid) mid → now ≡ buildLeaves l accepted .stored
-  stored-left mid now copied worked =
-      let start : ℕ → ℤ = λ v. getD (l .starts) v (pos 0) in
-      let front : take (t .n) mid ≡ take (t .n) (l .starts) = ap (take (t .n)) copied ∙ over-front start (t .n) (l .stored) ∙ below-list (l .starts) (pos 0) (t .n) (b .in-starts) in
-      worked
-      ∙ ap (over (t .n) (worth mid)) copied
-      ∙ over-over (worth mid) (t .n) (l .stored) start
-      ∙ ap (λ (row : List ℤ). over (t .n) (afresh (net t) (λ v. getD row v (pos 0)) (t .n)) (l .stored)) front
+    pub stored-left : (now : List ℤ) → now ≡ over (t .n) (worth t (valuesIn t mid)) mid → now ≡ buildLeaves l accepted .stored
+    stored-left now worked =
+        worked
+        ∙ ap (over (t .n) (worth t (valuesIn t mid))) copied
+        ∙ over-over (worth t (valuesIn t mid)) (t .n) (l .stored) (λ v. getD (l .starts) v (pos 0))
+        ∙ ap (λ s. over (t .n) (worth t s) (l .stored)) (row-starts t (l .starts) (l .stored) (b .in-starts) copied)

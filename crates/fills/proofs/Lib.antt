@@ -1,4 +1,5 @@
 pub mod Built
+pub mod Runs
 pub mod Settled
 pub mod Ran
 pub mod Writes

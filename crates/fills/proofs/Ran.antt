@@ -16,20 +16,26 @@ use Rattle.paper.specs.Lists.{any, all, nat, size, over}
 use Rattle.paper.specs.Net.{Values, Route, moved, names, differs, live, new, works, evaluated}
 use Rattle.paper.specs.Tables.{Tables, Index, net, isMade, valuesIn}
 use Rattle.paper.specs.Checks.{movePairs}
+use Rattle.paper.specs.Chains.{determined, closes}
 use Rattle.paper.specs.Calls.{newValues, evaluates, trialRow, flagRow, Kept}
 use Rattle.paper.proofs.Lists.{clash, all-in, any-has, any-at}
 use Rattle.paper.proofs.Least.{firstFail-none}
 use Rattle.paper.proofs.Buffers.{over-length, over-at, over-over, over-same}
 use Rattle.paper.proofs.Count.{size-same}
+use Rattle.paper.proofs.Sizes.{sized-facts}
+use Rattle.paper.proofs.Accept.{made-below, inputs-below}
 use Rattle.paper.proofs.Lawful.{lawful}
+use Rattle.paper.proofs.Routes.{new-equation}
+use Rattle.paper.proofs.Needs.{Ruled, route-meets}
+use Rattle.paper.proofs.Closes.{opened, closed}
 use Rattle.paper.proofs.Fresh.{unnamed}
 use Rattle.tables.proofs.Shapes.{all-first}
 use Rattle.copies.proofs.Put.{not-named, low-named, moved-at}
 use Rattle.routes.specs.Routed.{Begun, Named, Routed}
-use Rattle.fills.specs.Accepted.{Keeping}
+use Rattle.fills.specs.Accepted.{Running, Keeping}
 use Rattle.fills.proofs.Settled.{idle-new, all-new}
 
-module _ (t : Tables) (ord : List ℕ) (x : Index) (stored : List ℤ) (c : Kept) (k : Keeping t ord x stored c) where
+module _ (t : Tables) (nums ord : List ℕ) (x : Index) (stored : List ℤ) (c : Kept) (k : Keeping t nums ord x stored c) where
   -- the pairs, the stored values, and these with the pairs put in
   abbrev mv : List (ℕ × ℤ)
   mv = movePairs (c .move)
@@ -46,6 +52,15 @@ module _ (t : Tables) (ord : List ℕ) (x : Index) (stored : List ℤ) (c : Kept
 
   made-same : (v : ℕ) → isMade t v ≡ true → put v ≡ old v
   made-same v e = unnamed mv old v (made-unnamed v e)
+
+  -- the new values of each route meet its rule
+  ruled : (r : Route) → Ruled t r old put
+  ruled r = go (closes t) refl
+    where
+      go : (b : Bool) → closes t ≡ b → Ruled t r old put
+      go true e =
+          route-meets t (inputs-below t (k .sound)) (made-below t (k .sound)) (sized-facts t (k .sound .sized) .n-some) put (k .determined) old (closed t (k .sound) old e (k .fresh) .fresh) r
+      go false e = new-equation (net t) (lawful t) (t .n) (opened t (k .sound) e .chains) r old put
 
   -- the variables that the pairs name
   abbrev moves : List ℕ
@@ -101,6 +116,17 @@ module _ (t : Tables) (ord : List ℕ) (x : Index) (stored : List ℤ) (c : Kept
       clear = λ v l. ap (λ row. nat row v) cleared ∙ over-at (λ u. 0) (t .n) (c .flags) v 0 l;
     }
 
+    -- and a route can be run
+    pub running : Running t nums ord stored trial
+    running = record {
+      sound = k .sound;
+      grouped = k .grouped;
+      in-order = k .in-order;
+      order-is = k .order-is;
+      fresh = k .fresh;
+      determined = λ v l. ap (λ (s : Values). determined t s v) begun-values ∙ k .determined v;
+    }
+
     -- a variable that no pair names has its stored value
     pub named : Named t stored trial moves
     named = record { low = moves-low; moved = λ v l e. go v e (any (eqb v) moves) refl }
@@ -148,7 +174,7 @@ module _ (t : Tables) (ord : List ℕ) (x : Index) (stored : List ℤ) (c : Kept
 
         go : (a : Bool) → names mv v ≡ a → (b : Bool) → cond b (worth v) (put v) ≡ cond (a || b) (worth v) (old v)
         go true q true = refl
-        go true q false = sym (idle-new (net t) (t .n) old put (lawful t) (k .along .chains) made-same r v (idle (isMade t v) refl q))
+        go true q false = sym (idle-new (net t) (t .n) old put made-same r (ruled r) v (idle (isMade t v) refl q))
         go false q true = refl
         go false q false = unnamed mv old v q
 
@@ -158,7 +184,7 @@ module _ (t : Tables) (ord : List ℕ) (x : Index) (stored : List ℤ) (c : Kept
       trial-is = row ∙ over-same run (t .n) before (λ v. cond (names mv v || set v) (worth v) (old v)) (λ v l. run-same v);
       flags-are = told;
       count-is = ones flags′ told;
-      new-at = λ v l h. ap (λ x. getD x v (pos 0)) row ∙ over-at run (t .n) before v (pos 0) l ∙ all-new (net t) (t .n) old put (lawful t) (k .along .chains) made-same r asked v h;
+      new-at = λ v l h. ap (λ x. getD x v (pos 0)) row ∙ over-at run (t .n) before v (pos 0) l ∙ all-new (net t) (t .n) old put made-same r (ruled r) asked v h;
     }
       where
         same : valuesIn t trial ≡ put

@@ -7,10 +7,8 @@ use mathlib.Core.List.{List}
 use mathlib.Core.Path.{_≡_, refl, ap, sym, _∙_}
 use lib.ListN.{length, getD}
 use Rattle.paper.specs.Lists.{any, nat}
-use Rattle.paper.specs.Net.{Net, Values, able, Route, input-to-output, output-to-input, mark-guided, live, new, works, runs, asking, needed, evaluated}
+use Rattle.paper.specs.Net.{Net, Values, Route, input-to-output, output-to-input, mark-guided, live, routing, new, works, runs, asking, needed, evaluated}
 use Rattle.paper.proofs.Lists.{any-at, clash, eqb-self}
-use Rattle.paper.proofs.Lawful.{Lawful}
-use Rattle.paper.proofs.Routes.{new-equation}
 
 module _ (N : Net) (k : ℕ) (old s : Values) where
   -- ── an asked variable is needed ──
@@ -34,9 +32,9 @@ module _ (N : Net) (k : ℕ) (old s : Values) where
     asked-idle mark-guided e = not-both (works N mark-guided old s k) (new N mark-guided old s k) e
 
   -- what is not worked out has the value that the move left it
-  module _ (L : Lawful N) (ends : (v : ℕ) → able (N .ins) k v ≡ true) (same : (v : ℕ) → N .made v ≡ true → s v ≡ old v) (r : Route) where
+  module _ (same : (v : ℕ) → N .made v ≡ true → s v ≡ old v) (r : Route) (ruled : (v : ℕ) → new N r old s k v ≡ routing N r old s k (new N r old s k) v) where
     pub idle-new : (v : ℕ) → works N r old s k v ≡ false → new N r old s k v ≡ s v
-    idle-new v e = new-equation N L k ends r old s v ∙ go (N .made v) refl (live N r old s k (new N r old s k) v) e
+    idle-new v e = ruled v ∙ go (N .made v) refl (live N r old s k (new N r old s k) v) e
       where
         go : (a : Bool) → N .made v ≡ a → (b : Bool) → (a && b) ≡ false → cond a (cond b (N .form v (new N r old s k)) (old v)) (s v) ≡ s v
         go true p true q = absurd (true≢false q)

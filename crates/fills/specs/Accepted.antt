@@ -1,27 +1,27 @@
--- What an accepted call works over, and what stands in the rows of a trial or keep once it has written. The lent numbers play no part in either
--- of these two. Assumes nothing.
+-- What an accepted call works over, and what stands in the rows of a trial or keep once it has written. Assumes nothing.
 use Prim.Native.Nat.{ℕ, suc, _≤_, _<_}
 use mathlib.Core.Bool.{true, false}
 use mathlib.Core.List.{List, []}
 use mathlib.Core.Path.{_≡_}
 use lib.Dec.{ltb}
 use lib.IntN.{ℤ}
-use lib.ListN.{length}
+use lib.ListN.{length, take}
 use Rattle.paper.specs.Lists.{all, nat}
-use Rattle.paper.specs.Net.{able}
-use Rattle.paper.specs.Tables.{Tables, Index, indexIn, isMade, inputsOf}
-use Rattle.paper.specs.Checks.{accepted, boundsIn, Sound}
-use Rattle.paper.specs.Calls.{evaluationsOf, BuildLent, Tried, TrialLeft, askedList, trialLeaves, Kept, keptCount, keptStored, keptFlags}
+use Rattle.paper.specs.Net.{moved}
+use Rattle.paper.specs.Tables.{Tables, Index, indexIn, isMade, valuesIn}
+use Rattle.paper.specs.Checks.{accepted, boundsIn, movePairs, Sound}
+use Rattle.paper.specs.Chains.{groupOrder, determined, storedFresh}
+use Rattle.paper.specs.Calls.{evaluationsOf, BuildLent, startValues, Tried, TrialLeft, askedList, trialLeaves, Kept, keptCount, keptStored, keptFlags}
 use Rattle.copies.specs.Put.{PairsFit}
-use Rattle.order.specs.Formed.{bare}
-use Rattle.order.specs.Numbering.{Numbered}
+use Rattle.permits.specs.Links.{kinded, Grouped}
 use Rattle.readers.specs.Index.{Indexed}
-use Rattle.routes.specs.Rows.{Along}
 
--- a build that is accepted: sound tables whose chains end, the rows to fill as long as they must be, and the numbers found; the bounds play no part
+-- a build that is accepted: sound tables with the numbers found, whose closed chains are permitted and whose variables the start values determine, and the rows to
+-- fill as long as they must be; the bounds play no part
 pub record Buildable (l : BuildLent) (state : List ℕ) : Type 0 where
   pub sound : Sound (l .tables)
-  pub chains : (v : ℕ) → able (inputsOf (l .tables)) (l .tables .n) v ≡ true
+  pub grouped : let t = l .tables in Grouped (kinded (t .n) (t .m) (t .kinds) (t .makes) (t .firsts) (t .counts) (t .vars)) state
+  pub determined : (v : ℕ) → determined (l .tables) (startValues l) v ≡ true
   pub in-starts : l .tables .n ≤ length (l .starts)
   pub in-numbers : l .tables .n ≤ length (l .numbers)
   pub in-order : l .tables .m ≤ length (l .order)
@@ -29,12 +29,26 @@ pub record Buildable (l : BuildLent) (state : List ℕ) : Type 0 where
   pub index-starts : suc (l .tables .n) ≤ length (l .index .starts)
   pub index-places : l .tables .e ≤ length (l .index .places)
   pub in-log : 65 ≤ length (l .logSizes)
-  pub numbered : let t = l .tables in Numbered (bare (t .n) (t .m) (t .makes) (t .firsts) (t .counts) (t .vars)) state
 
-module _ (t : Tables) (ord : List ℕ) (x : Index) (stored : List ℤ) where
-  -- the model can be worked along its order, with its index, the move is one of its search variables, and the flags are lent
+module _ (t : Tables) (nums ord : List ℕ) (stored : List ℤ) where
+  -- the numbers and the order are build's, the stored values passed check 21, and those of a begun trial row leave every variable determined
+  pub record Running (trial : List ℤ) : Type 0 where
+    pub sound : Sound t
+    pub grouped : Grouped t nums
+    pub in-order : t .m ≤ length ord
+    pub order-is : take (t .m) ord ≡ groupOrder t
+    pub fresh : (v : ℕ) → v < t .n → storedFresh t (valuesIn t stored) v ≡ true
+    pub determined : (v : ℕ) → v < t .n → determined t (valuesIn t trial) v ≡ true
+
+module _ (t : Tables) (nums ord : List ℕ) (x : Index) (stored : List ℤ) where
+  -- the same over the stored values with a move of search variables put in, with the model's index and the flags lent
   pub record Keeping (c : Kept) : Type 0 where
-    pub along : Along t ord
+    pub sound : Sound t
+    pub grouped : Grouped t nums
+    pub in-order : t .m ≤ length ord
+    pub order-is : take (t .m) ord ≡ groupOrder t
+    pub fresh : (v : ℕ) → v < t .n → storedFresh t (valuesIn t stored) v ≡ true
+    pub determined : (v : ℕ) → determined t (moved (movePairs (c .move)) (valuesIn t stored)) v ≡ true
     pub indexed : Indexed t (x .starts) (x .places)
     pub in-stored : t .n ≤ length stored
     pub in-flags : t .n ≤ length (c .flags)

@@ -2,9 +2,9 @@
 ghost use Rattle.paper.specs.Tables.{lent, indexIn};
 ghost use Rattle.fits.specs.Lent.{toKeep};
 ghost use Rattle.fills.specs.Accepted.{Keeping, KeepFilled};
+use crate::route::run_route;
 use copies::begin_route;
 use copies::copy_values;
-use routes::input_to_output;
 use steps::evaluations;
 
 // Works the move out by route 1 in a row of its own, stores the new values, and answers with the number of evaluations.
@@ -19,6 +19,7 @@ pub fn fill_keep(
     counts: &[u16],
     vars: &[u16],
     coefs: &[i16],
+    numbers: &[u16],
     order: &[u16],
     stored: &mut [i32],
     reader_starts: &[u16],
@@ -28,12 +29,12 @@ pub fn fill_keep(
     move_values: &[i32],
     flags: &mut [u8],
 ) -> u32
-    requires { ⌜ Keeping (lent n m e (now kinds) (now makes) (now params) (now firsts) (now counts) (now vars) (now coefs)) (now order) (indexIn (now «reader_starts») (now «reader_places»)) (now stored) (toKeep pairs (now «move_vars») (now «move_values») (now flags)) ⌝ }
+    requires { ⌜ Keeping (lent n m e (now kinds) (now makes) (now params) (now firsts) (now counts) (now vars) (now coefs)) (now numbers) (now order) (indexIn (now «reader_starts») (now «reader_places»)) (now stored) (toKeep pairs (now «move_vars») (now «move_values») (now flags)) ⌝ }
     ensures { λ r. ⌜ KeepFilled (lent n m e (now (kinds .entry)) (now (makes .entry)) (now (params .entry)) (now (firsts .entry)) (now (counts .entry)) (now (vars .entry)) (now (coefs .entry))) (now (stored .entry)) (toKeep pairs (now («move_vars» .entry)) (now («move_values» .entry)) (now (flags .entry))) r (now (stored .exit)) (now (flags .exit)) ⌝ }
 {
     let mut row = [0i32; 4096];
     begin_route(n, stored, pairs, move_vars, move_values, &mut row, flags);
-    input_to_output(
+    run_route(
         n,
         m,
         e,
@@ -44,11 +45,14 @@ pub fn fill_keep(
         counts,
         vars,
         coefs,
+        numbers,
         order,
         reader_starts,
         reader_places,
         &move_vars[..pairs],
         stored,
+        &move_vars[..0],
+        1,
         &mut row,
         flags,
     );

@@ -7,10 +7,10 @@ ghost use Rattle.paper.specs.Calls.{buildLeaves};
 ghost use Rattle.fits.specs.Lent.{noRecord, toBuild};
 ghost use Rattle.fills.specs.Accepted.{Buildable};
 use copies::copy_values;
-use order::write_numbers;
-use order::write_order;
+use numbering::copy_numbers;
+use numbering::work_all;
+use permits::write_shared_order;
 use readers::write_readers;
-use routes::work_out;
 
 // Writes the numbers, the order, the index of readers and every value, and empties the log.
 pub fn fill_model(
@@ -40,11 +40,11 @@ pub fn fill_model(
     ensures { λ _. ⌜ indexIn (now («reader_starts» .exit)) (now («reader_places» .exit)) ≡ buildLeaves (toBuild noRecord n m e (now (kinds .entry)) (now (makes .entry)) (now (params .entry)) (now (firsts .entry)) (now (counts .entry)) (now (vars .entry)) (now (coefs .entry)) [] [] (now (starts .entry)) (now (numbers .entry)) (now (order .entry)) (now (stored .entry)) (now («reader_starts» .entry)) (now («reader_places» .entry)) (now («log_sizes» .entry))) accepted .index ⌝ }
     ensures { λ _. ⌜ now («log_sizes» .exit) ≡ buildLeaves (toBuild noRecord n m e (now (kinds .entry)) (now (makes .entry)) (now (params .entry)) (now (firsts .entry)) (now (counts .entry)) (now (vars .entry)) (now (coefs .entry)) [] [] (now (starts .entry)) (now (numbers .entry)) (now (order .entry)) (now (stored .entry)) (now («reader_starts» .entry)) (now («reader_places» .entry)) (now («log_sizes» .entry))) accepted .logSizes ⌝ }
 {
-    write_numbers(n, m, makes, firsts, counts, vars, state, numbers);
-    write_order(n, m, makes, firsts, counts, vars, state, order);
+    copy_numbers(n, state, numbers);
+    write_shared_order(n, m, kinds, makes, firsts, counts, vars, state, order);
     write_readers(n, m, e, firsts, counts, vars, reader_starts, reader_places);
     copy_values(n, starts, stored);
-    work_out(
+    work_all(
         n,
         m,
         e,
@@ -55,6 +55,7 @@ pub fn fill_model(
         counts,
         vars,
         coefs,
+        state,
         order,
         stored,
     );

@@ -1,108 +1,11 @@
-// What an accepted trial writes, by the route asked for.
-ghost use mathlib.Core.Bool.{true};
-ghost use mathlib.Core.Path.{_≡_};
-ghost use lib.Dec.{ltb};
-ghost use Rattle.paper.specs.Lists.{all};
+// What an accepted trial writes.
 ghost use Rattle.paper.specs.Tables.{lent, indexIn};
-ghost use Rattle.paper.specs.Calls.{routeOf};
-ghost use Rattle.routes.specs.Rows.{Along};
-ghost use Rattle.readers.specs.Index.{Indexed};
-ghost use Rattle.routes.specs.Routed.{Begun, Named, Routed};
 ghost use Rattle.fits.specs.Lent.{toTry};
 ghost use Rattle.fills.specs.Accepted.{Trying, TrialFilled};
+use crate::route::run_route;
 use copies::begin_route;
 use copies::copy_asked;
-use routes::input_to_output;
-use routes::mark_guided;
-use routes::output_to_input;
 use steps::evaluations;
-
-// Works a begun move out by the route of that number. What is not 1, 2 or 3 is refused before, so the last arm is route 3.
-fn run_route(
-    n: usize,
-    m: usize,
-    e: usize,
-    kinds: &[u16],
-    makes: &[u16],
-    params: &[i32],
-    firsts: &[u16],
-    counts: &[u16],
-    vars: &[u16],
-    coefs: &[i16],
-    order: &[u16],
-    reader_starts: &[u16],
-    reader_places: &[u16],
-    moves: &[u16],
-    stored: &[i32],
-    asked: &[u16],
-    route: u32,
-    trial: &mut [i32],
-    flags: &mut [u8],
-)
-    requires along { ⌜ Along (lent n m e (now kinds) (now makes) (now params) (now firsts) (now counts) (now vars) (now coefs)) (now order) ⌝ }
-    requires index { ⌜ Indexed (lent n m e (now kinds) (now makes) (now params) (now firsts) (now counts) (now vars) (now coefs)) (now «reader_starts») (now «reader_places») ⌝ }
-    requires named { ⌜ Named (lent n m e (now kinds) (now makes) (now params) (now firsts) (now counts) (now vars) (now coefs)) (now stored) (now trial) (now moves) ⌝ }
-    requires begun { ⌜ Begun (lent n m e (now kinds) (now makes) (now params) (now firsts) (now counts) (now vars) (now coefs)) (now stored) (now trial) (now flags) ⌝ }
-    requires asked { ⌜ all (λ v. ltb v n) (now asked) ≡ true ⌝ }
-    ensures { λ _. ⌜ Routed (lent n m e (now (kinds .entry)) (now (makes .entry)) (now (params .entry)) (now (firsts .entry)) (now (counts .entry)) (now (vars .entry)) (now (coefs .entry))) (routeOf route) (now (stored .entry)) (now (trial .entry)) (now (flags .entry)) (now (asked .entry)) (now (trial .exit)) (now (flags .exit)) ⌝ }
-{
-    match route {
-        1 => input_to_output(
-            n,
-            m,
-            e,
-            kinds,
-            makes,
-            params,
-            firsts,
-            counts,
-            vars,
-            coefs,
-            order,
-            reader_starts,
-            reader_places,
-            moves,
-            stored,
-            trial,
-            flags,
-        ),
-        2 => output_to_input(
-            n,
-            m,
-            e,
-            kinds,
-            makes,
-            params,
-            firsts,
-            counts,
-            vars,
-            coefs,
-            asked,
-            stored,
-            trial,
-            flags,
-        ),
-        _ => mark_guided(
-            n,
-            m,
-            e,
-            kinds,
-            makes,
-            params,
-            firsts,
-            counts,
-            vars,
-            coefs,
-            reader_starts,
-            reader_places,
-            moves,
-            asked,
-            stored,
-            trial,
-            flags,
-        ),
-    }
-}
 
 // Works the move out in the trial row, and answers with the number of evaluations.
 pub fn fill_trial(
@@ -116,6 +19,7 @@ pub fn fill_trial(
     counts: &[u16],
     vars: &[u16],
     coefs: &[i16],
+    numbers: &[u16],
     order: &[u16],
     stored: &[i32],
     reader_starts: &[u16],
@@ -130,7 +34,7 @@ pub fn fill_trial(
     trial: &mut [i32],
     flags: &mut [u8],
 ) -> u32
-    requires { ⌜ Trying (lent n m e (now kinds) (now makes) (now params) (now firsts) (now counts) (now vars) (now coefs)) (now order) (indexIn (now «reader_starts») (now «reader_places»)) (now stored) (toTry pairs (now «move_vars») (now «move_values») asked (now «asked_vars») route (now results) (now trial) (now flags)) ⌝ }
+    requires { ⌜ Trying (lent n m e (now kinds) (now makes) (now params) (now firsts) (now counts) (now vars) (now coefs)) (now numbers) (now order) (indexIn (now «reader_starts») (now «reader_places»)) (now stored) (toTry pairs (now «move_vars») (now «move_values») asked (now «asked_vars») route (now results) (now trial) (now flags)) ⌝ }
     ensures { λ r. ⌜ TrialFilled (lent n m e (now (kinds .entry)) (now (makes .entry)) (now (params .entry)) (now (firsts .entry)) (now (counts .entry)) (now (vars .entry)) (now (coefs .entry))) (now (stored .entry)) (toTry pairs (now («move_vars» .entry)) (now («move_values» .entry)) asked (now («asked_vars» .entry)) route (now (results .entry)) (now (trial .entry)) (now (flags .entry))) r (now (results .exit)) (now (trial .exit)) (now (flags .exit)) ⌝ }
 {
     begin_route(n, stored, pairs, move_vars, move_values, trial, flags);
@@ -146,6 +50,7 @@ pub fn fill_trial(
         counts,
         vars,
         coefs,
+        numbers,
         order,
         reader_starts,
         reader_places,

@@ -1,1 +1,2 @@
 pub mod JudgingMoves
+pub mod Latest

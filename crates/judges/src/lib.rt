@@ -1,10 +1,13 @@
 // The verdicts of the calls that change values: the checks in their order, over shared slices and scratch rows. No buffer of a call is written here,
 // so none has changed where the call is refused.
+mod back;
+
 ghost use mathlib.Core.Path.{_≡_};
 ghost use Rattle.paper.specs.Log.{logIn};
 ghost use Rattle.paper.specs.Calls.{trialVerdict, keepVerdict, takeVerdict};
 ghost use Rattle.tables.specs.Answers.{answerOf};
 ghost use Rattle.fits.specs.Lent.{toModel, toTry, toKeep};
+use back::back_checks;
 use chains::ask_checks;
 use chains::keep_checks;
 use chains::take_checks;
@@ -12,10 +15,11 @@ use fits::keep_fits;
 use fits::take_fits;
 use fits::trial_fits;
 use models::model_checks;
+use renewals::fresh_checks;
 use tables::Answer;
 use tables::refused;
 
-// The verdict of trial: checks 1 to 13 without 6, 8 and 19 before 7, and 17 behind 12. `blanks` is the record's number of blanks, here and below.
+// The verdict of trial: checks 1 to 13 without 6, 8 and 19 before 7, and 17 behind 12; then 21 and 20. `blanks` is the record's number of blanks, here and below.
 pub fn judge_trial(
     blanks: u32,
     n: usize,
@@ -102,7 +106,7 @@ pub fn judge_trial(
     let Answer::Accepted { .. } = checked else {
         return checked;
     };
-    ask_checks(
+    let asking = ask_checks(
         n,
         &by,
         lows,
@@ -113,10 +117,31 @@ pub fn judge_trial(
         asked,
         asked_vars,
         route,
+    );
+    let Answer::Accepted { .. } = asking else {
+        return asking;
+    };
+    fresh_checks(
+        n,
+        m,
+        e,
+        kinds,
+        makes,
+        params,
+        firsts,
+        counts,
+        vars,
+        coefs,
+        &by,
+        numbers,
+        stored,
+        pairs,
+        move_vars,
+        move_values,
     )
 }
 
-// The verdict of keep: those of trial without 9 and 13, and then 16.
+// The verdict of keep: those of trial without 9 and 13, and 16 before 21.
 pub fn judge_keep(
     kept: u32,
     blanks: u32,
@@ -200,7 +225,7 @@ pub fn judge_keep(
     let Answer::Accepted { .. } = checked else {
         return checked;
     };
-    keep_checks(
+    let keeping = keep_checks(
         n,
         &by,
         lows,
@@ -212,10 +237,31 @@ pub fn judge_keep(
         log_sizes,
         log_vars,
         log_values,
+    );
+    let Answer::Accepted { .. } = keeping else {
+        return keeping;
+    };
+    fresh_checks(
+        n,
+        m,
+        e,
+        kinds,
+        makes,
+        params,
+        firsts,
+        counts,
+        vars,
+        coefs,
+        &by,
+        numbers,
+        stored,
+        pairs,
+        move_vars,
+        move_values,
     )
 }
 
-// The verdict of taking back: the model's checks, the log's, and then whether it holds a move.
+// The verdict of taking back: the model's checks, the log's, whether it holds a move, and then 21 and 20.
 pub fn judge_take_back(
     kept: u32,
     blanks: u32,
@@ -293,5 +339,26 @@ pub fn judge_take_back(
     let Answer::Accepted { .. } = checked else {
         return checked;
     };
-    take_checks(n, &by, lows, highs, kept, log_sizes, log_vars, log_values)
+    let taking = take_checks(n, &by, lows, highs, kept, log_sizes, log_vars, log_values);
+    let Answer::Accepted { .. } = taking else {
+        return taking;
+    };
+    back_checks(
+        n,
+        m,
+        e,
+        kinds,
+        makes,
+        params,
+        firsts,
+        counts,
+        vars,
+        coefs,
+        &by,
+        numbers,
+        stored,
+        log_sizes,
+        log_vars,
+        log_values,
+    )
 }

@@ -89,6 +89,7 @@ pub fn keep_core(
         counts,
         vars,
         coefs,
+        numbers,
         order,
         stored,
         reader_starts,

@@ -59,7 +59,7 @@ module _ (bytes : List ℕ) where
   keptRows zero = []
   keptRows (suc r) = keptRows r ++ cond (canKeep (keptRows r) r) (r ∷ []) []
 
-  -- the row is kept, and its variable has a topological number among those kept
+  -- the row is kept, and its variable has a topological number among those kept, with every closed chain counted as circular
   abbrev pub stands : ℕ → Bool
   stands r = let rows = keptRows (mIn bytes) in any (eqb r) rows && ends (packed given rows) (nat (given .makes) r)
 

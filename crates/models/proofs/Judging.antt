@@ -7,7 +7,8 @@ use lib.ListN.{length}
 use borrow.Author.Tests.{leb-true}
 use Rattle.paper.proofs.Lists.{and-left, and-right, each}
 use Rattle.paper.specs.Tables.{Tables}
-use Rattle.paper.specs.Checks.{Verdict, accepted, refused, require, sized, tableChecks, numbered, indexed}
+use Rattle.paper.specs.Checks.{Verdict, accepted, refused, require, sized, tableChecks, indexed}
+use Rattle.paper.specs.Chains.{groupsNumbered}
 use Rattle.paper.specs.Calls.{Model, modelFits, modelChecks}
 use Rattle.paper.proofs.Verdicts.{andThen, Chain, chain-after, require-then, refused-not, require-stops, require-next}
 use Rattle.paper.proofs.Accept.{tables-then}
@@ -26,7 +27,7 @@ module _ (w : Model) (blanks : ℕ) where
   t = w .tables
 
   abbrev eight : Bool
-  eight = numbered t (w .numbers) (w .order)
+  eight = groupsNumbered t (w .numbers) (w .order)
 
   abbrev eightToo : Bool
   eightToo = indexed t (w .index)
@@ -60,7 +61,7 @@ module _ (w : Model) (blanks : ℕ) where
       }
 
   pub model-refused : (by : List ℕ) (r : Answer) (number place : ℕ) → r ≡ Refused number place → modelChecks w blanks accepted ≡ refused number place → ModelJudged w blanks by r
-  model-refused by r number place e h = record { verdict = e ∙ ap (answerOf 0) (sym h); makers = λ a. refused-not (sym h ∙ a) }
+  model-refused by r number place e h = record { verdict = e ∙ ap (answerOf 0) (sym h); makers = λ a. refused-not (sym h ∙ a); sound = λ a. refused-not (sym h ∙ a); grouped = λ a. refused-not (sym h ∙ a) }
 
   -- 2 to 5
   pub stops-tables : (number place : ℕ) → tableChecks t (w .bounds) accepted ≡ refused number place → modelChecks w blanks accepted ≡ refused number place

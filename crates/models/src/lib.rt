@@ -7,7 +7,7 @@ ghost use Rattle.paper.specs.Calls.{modelFits};
 ghost use Rattle.fits.specs.Lent.{toModel};
 ghost use Rattle.models.specs.Judged.{ModelJudged};
 use moves::stored_checks;
-use order::numbered_right;
+use permits::shared_right;
 use readers::readers_right;
 use sound::table_checks;
 use tables::Answer;
@@ -57,7 +57,7 @@ pub fn model_checks(
     let Answer::Accepted { .. } = checked else {
         return checked;
     };
-    if !numbered_right(n, m, makes, firsts, counts, vars, by, numbers, order) {
+    if !shared_right(n, m, kinds, makes, firsts, counts, vars, by, numbers, order) {
         return refused(8, 0);
     }
     if !readers_right(n, m, e, firsts, counts, vars, reader_starts, reader_places) {

@@ -1,4 +1,4 @@
-// Numbers without a sign: the larger of two, and the number of moves kept, which goes up and down by one below a ceiling where it stays.
+// Numbers without a sign: the larger and the smaller of two, and the number of moves kept, which goes up and down by one below a ceiling where it stays.
 ghost use mathlib.Core.Path.{_≡_};
 ghost use mathlib.Core.Bool.{cond};
 ghost use Prim.Native.Nat.{suc, pred, min, max};
@@ -9,6 +9,16 @@ pub fn larger(a: usize, b: usize) -> usize
     ensures { λ r. ⌜ r ≡ max a b ⌝ }
 {
     if a < b {
+        return b;
+    }
+    a
+}
+
+// The smaller of the two.
+pub fn smaller(a: usize, b: usize) -> usize
+    ensures { λ r. ⌜ r ≡ min a b ⌝ }
+{
+    if b < a {
         return b;
     }
     a

@@ -3,6 +3,5 @@ pub mod Parted
 pub mod Visits
 pub mod Sweeps
 pub mod Links
-pub mod Ordered
 pub mod ByRows
 pub mod Eight

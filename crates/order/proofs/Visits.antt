@@ -13,27 +13,9 @@ use lib.ListN.{length, take, set, length-set, length-take, drop-of-length-le}
 use lib.Seq.{slice, slice-cons, getD-set-same, getD-set-other}
 use borrow.Author.Tests.{leb-true, le-leb, lt-leb, eqb-true, eqb-false, eq-eqb, ne-eqb}
 use Rattle.paper.specs.Lists.{nat, size}
-use Rattle.paper.proofs.Lists.{clash}
-use Rattle.paper.proofs.Count.{size-le, size-add}
+use Rattle.paper.proofs.Lists.{clash, same-or}
+use Rattle.paper.proofs.Count.{size-le, size-add, size-mono}
 use Rattle.order.specs.Numbering.{above, fresh, ended, numberIn, Right, Held, Visited}
-
-same-or : (a b : ℕ) → (a ≡ b) ⊎ (a ≢ b)
-same-or a b = go (eqb a b) refl
-  where
-    go : (c : Bool) → eqb a b ≡ c → (a ≡ b) ⊎ (a ≢ b)
-    go true e = inl (eqb-true a b e)
-    go false e = inr (eqb-false a b e)
-
--- what passes one test passes the other
-size-mono : (p q : ℕ → Bool) (n : ℕ) → ((v : ℕ) → p v ≡ true → q v ≡ true) → size p n ≤ size q n
-size-mono p q zero h = le-refl zero
-size-mono p q (suc n) h = go (p n) refl (q n) refl (size-mono p q n h)
-  where
-    go : (a : Bool) → p n ≡ a → (b : Bool) → q n ≡ b → size p n ≤ size q n → cond a (suc (size p n)) (size p n) ≤ cond b (suc (size q n)) (size q n)
-    go true e true f ih = omega arith
-    go true e false f ih = clash (h n e) f
-    go false e true f ih = omega arith
-    go false e false f ih = ih
 
 -- ── the least number above all entries ──
 above-same : (f g : ℕ → ℕ) (xs : List ℕ) → ((i : ℕ) → List·Memᴰ i xs → f i ≡ g i) → above f xs ≡ above g xs

@@ -95,11 +95,6 @@ module _ (n : ℕ) (dep : ℕ → List ℕ) where
     pub held : (u : ℕ) → nat state u ≡ 1 → Held state u
 
 -- ── found ──
--- the variables below n have ended
-pub record Ended (n : ℕ) (state : List ℕ) : Type 0 where
-  pub few : n ≤ 4096
-  pub at : (v : ℕ) → v < n → 2 ≤ nat state v
-
 -- the row holds two more than each variable's number
 pub record Numbered (t : Tables) (state : List ℕ) : Type 0 where
   pub few : t .n ≤ 4096

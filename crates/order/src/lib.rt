@@ -1,12 +1,13 @@
-// Topological numbers and the order of the rows: found and written for build, and checked for trial and keep.
+// Topological numbers where no chain closes, found and checked, and the order checked; chains threaded through a list.
 mod chain;
 mod parts;
 mod right;
 mod visit;
 mod write;
 
+pub use chain::place_all;
 pub use chain::thread;
+pub use parts::of_maker;
 pub use right::numbered_right;
 pub use visit::find_numbers;
 pub use write::write_numbers;
-pub use write::write_order;

@@ -6,7 +6,7 @@ ghost use Rattle.paper.specs.Lists.{nat, over};
 ghost use Rattle.order.specs.Numbering.{ofMaker, stopOf, Columns};
 
 // What the row that makes a variable has in a column; 0 if none makes it.
-fn of_maker(maker: usize, column: &[u16]) -> u16
+pub fn of_maker(maker: usize, column: &[u16]) -> u16
     requires { ⌜ maker ≤ length (now column) ⌝ }
     ensures { λ r. ⌜ r ≡ ofMaker maker (now (column .entry)) ⌝ }
 {

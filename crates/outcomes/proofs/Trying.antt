@@ -1,4 +1,4 @@
--- What a trial of one move comes to: the engine's number, which is below 20, and evaluations of at most all variables. Assumes nothing.
+-- What a trial of one move comes to: the engine's number, which is below 22, and evaluations of at most all variables. Assumes nothing.
 use Prim.Native.Nat.{ℕ, _≤_, _<_}
 use native.Mathlib.Omega.{arith}
 use mathlib.Core.Path.{_≡_, refl, ap, _∙_}
@@ -7,9 +7,10 @@ use lib.ListN.{getD}
 use mathlib.Core.Bool.{Bool, true, false, not, _&&_, _||_}
 use lib.Dec.{eqb, leb}
 use borrow.Author.Tests.{leb-true, eqb-true}
+use Rattle.paper.specs.Lists.{between}
 use Rattle.paper.specs.Checks.{Verdict, accepted, refused, Move, movePairs}
 use Rattle.paper.specs.Calls.{Session, numberOf, evaluationsOf, evaluates, Model, storedValues, Tried, askedList, routeOf, TrialLeft, trialVerdict, trial}
-use Rattle.paper.proofs.Lists.{and-left}
+use Rattle.paper.proofs.Lists.{and-left, and-right}
 use Rattle.paper.proofs.Count.{size-le}
 use Rattle.paper.proofs.Sizes.{sized-facts}
 use Rattle.paper.proofs.Known.{trial-known}
@@ -19,13 +20,13 @@ use Rattle.outcomes.specs.declared.Tried as code
 
 -- ── any trial ──
 module _ (s : Session) (w : Model) (c : Tried) where
-  number-low : numberOf (trial s w c .answer) < 20
+  number-low : numberOf (trial s w c .answer) < 22
   number-low = go (leb (numberOf (trial s w c .answer)) 13 && not (eqb (numberOf (trial s w c .answer)) 6)) (eqb (numberOf (trial s w c .answer)) 17) refl refl (trial-judged s w c .given)
     where
-      go : (x y : Bool) → (leb (numberOf (trial s w c .answer)) 13 && not (eqb (numberOf (trial s w c .answer)) 6)) ≡ x → eqb (numberOf (trial s w c .answer)) 17 ≡ y → ((x || y) || eqb (numberOf (trial s w c .answer)) 19) ≡ true → numberOf (trial s w c .answer) < 20
+      go : (x y : Bool) → (leb (numberOf (trial s w c .answer)) 13 && not (eqb (numberOf (trial s w c .answer)) 6)) ≡ x → eqb (numberOf (trial s w c .answer)) 17 ≡ y → ((x || y) || between 19 (numberOf (trial s w c .answer)) 21) ≡ true → numberOf (trial s w c .answer) < 22
       go true y e q h = let k = leb-true (numberOf (trial s w c .answer)) 13 (and-left _ _ e) in omega arith
       go false true e q h = let k = eqb-true (numberOf (trial s w c .answer)) 17 q in omega arith
-      go false false e q h = let k = eqb-true (numberOf (trial s w c .answer)) 19 h in omega arith
+      go false false e q h = let k = leb-true (numberOf (trial s w c .answer)) 21 (and-right (leb 19 (numberOf (trial s w c .answer))) _ h) in omega arith
 
   evaluations-low : evaluationsOf (trial s w c .answer) ≤ 4096
   evaluations-low = go (trialVerdict s w c) refl
@@ -40,7 +41,7 @@ module _ (s : Session) (w : Model) (c : Tried) where
 
 -- ── of one move ──
 module _ (s : Session) (w : Model) (asked route : ℕ) (mv : Move) where
-  pub tried-low : (tried s w asked route mv .number < 20) × (tried s w asked route mv .evaluations ≤ 4096)
+  pub tried-low : (tried s w asked route mv .number < 22) × (tried s w asked route mv .evaluations ≤ 4096)
   unfolding tried
   tried-low = (number-low s w _, evaluations-low s w _)
 

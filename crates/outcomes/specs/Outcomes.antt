@@ -43,7 +43,7 @@ module _ (s : Session) (w : Model) (asked : ℕ) where
 
 -- a number that the engine gives, a result of 32 bits, and evaluations of at most all variables
 pub record Small (o : Outcome) : Type 0 where
-  pub number : o .number < 20
+  pub number : o .number < 22
   pub result : away (o .result) ≤ 2147483648
   pub first : o .first ≤ 4096
   pub second : o .second ≤ 4096

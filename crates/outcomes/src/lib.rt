@@ -52,7 +52,7 @@ fn try_by(
     asked: u16,
     route: u32,
 ) -> Tried
-    ensures { λ r. ⌜ (r ≡ tried (recordIn session) (toModel n m e (now (kinds .entry)) (now (makes .entry)) (now (params .entry)) (now (firsts .entry)) (now (counts .entry)) (now (vars .entry)) (now (coefs .entry)) (now (lows .entry)) (now (highs .entry)) (now (numbers .entry)) (now (order .entry)) (now (stored .entry)) (now («reader_starts» .entry)) (now («reader_places» .entry))) asked route (moveOf pairs (now («move_vars» .entry)) (now («move_values» .entry)))) × (r .number < 20) × (r .evaluations ≤ 4096) × (away (r .result) ≤ 2147483648) ⌝ }
+    ensures { λ r. ⌜ (r ≡ tried (recordIn session) (toModel n m e (now (kinds .entry)) (now (makes .entry)) (now (params .entry)) (now (firsts .entry)) (now (counts .entry)) (now (vars .entry)) (now (coefs .entry)) (now (lows .entry)) (now (highs .entry)) (now (numbers .entry)) (now (order .entry)) (now (stored .entry)) (now («reader_starts» .entry)) (now («reader_places» .entry))) asked route (moveOf pairs (now («move_vars» .entry)) (now («move_values» .entry)))) × (r .number < 22) × (r .evaluations ≤ 4096) × (away (r .result) ≤ 2147483648) ⌝ }
 {
     let asked_vars = [asked; 1];
     let mut results = [0i32; 1];

@@ -1,44 +1,64 @@
--- Build: an accepted one leaves what the paper says, and it refuses with 6 exactly if some variable depends on itself, at the least variable
--- that can have no topological number. Assumes nothing.
+-- Build: an accepted one leaves what the paper says, and it refuses with 6 exactly if some closed chain is not permitted, at the least variable on one.
+-- Assumes nothing.
 use Prim.Native.Nat.{ℕ, _<_}
 use native.Mathlib.Omega.{arith}
-use mathlib.Core.Bool.{true}
+use mathlib.Core.Bool.{Bool, true, false, true≢false, false≢true}
+use mathlib.Core.Logic.{_⊎_, inl, inr}
 use mathlib.Core.Path.{_≡_, refl, ap, sym, _∙_, subst}
+use lib.Dec.{ltb}
+use borrow.Author.Tests.{ltb-true, ltb-false}
 use Rattle.paper.specs.Lists.{firstFail}
-use Rattle.paper.specs.Tables.{Tables, net, inputsOf, ends}
+use Rattle.paper.specs.Tables.{Tables, inputsOf}
+use Rattle.paper.specs.Chains.{permitted, determined}
 use Rattle.paper.specs.Checks.{Verdict, accepted, refused, check, sized, startAllowed, Sound}
 use Rattle.paper.specs.Calls.{numberOf, placeOf, BuildLent, BuildLeft, buildFits, startValues, buildVerdict, buildLeaves, build}
-use Rattle.paper.specs.Demands.{Circular, FivePassed, LeastUnnumbered, CircularExactly, BuildRight}
-use Rattle.paper.proofs.Lists.{clash, and-left}
+use Rattle.paper.specs.Demands.{Barred, LeastBarred, Circular, FivePassed, CircularExactly, BuildRight}
+use Rattle.paper.proofs.Lists.{and-left}
 use Rattle.paper.proofs.Least.{firstFail-before, firstFail-fails}
 use Rattle.paper.proofs.Verdicts.{refused-not, check-stops, check-other, check-own, require-next, require-rest, require-held, require-other}
 use Rattle.paper.proofs.Sizes.{sized-facts}
-use Rattle.paper.proofs.Accept.{BoundsGood, tables-next, tables-passed, tables-other, made-below, inputs-below}
-use Rattle.paper.proofs.Lawful.{lawful}
-use Rattle.paper.proofs.Numbers.{number-right}
-use Rattle.paper.proofs.Circle.{circle-unable, fails-circle, circle-fails, able-has, has-able}
-use Rattle.paper.proofs.Fresh.{afresh-equation}
+use Rattle.paper.proofs.Accept.{BoundsGood, tables-next, tables-passed, tables-other, inputs-below}
+use Rattle.paper.proofs.Depends.{depends-low}
+use Rattle.paper.proofs.Needs.{worth-meets}
+use Rattle.paper.proofs.Groups.{group-equation}
+use Rattle.paper.proofs.Permitted.{chain-depends, permitted-exactly}
 use Rattle.paper.proofs.Known.{BuildKnown, build-known}
 use Rattle.paper.proofs.Outcomes.{build-judged}
+
+-- ── a variable passes the test exactly if it is on no closed chain that is not permitted ──
+module _ (t : Tables) (s : Sound t) (v : ℕ) where
+  pub barred-low : Barred t v → v < t .n
+  barred-low c = depends-low (inputsOf t) (t .n) (inputs-below t s) (chain-depends t (c .chain))
+
+  pub permitted-clear : permitted t v ≡ true → Barred t v → ⊥
+  permitted-clear e c = let h = permitted-exactly t (inputs-below t s) v .each e (c .candidate) (c .index) (c .chain) in go (h .0) (h .1) (c .barred)
+    where
+      go : c .candidate ≡ true → c .index ≡ false → (c .candidate ≡ false) ⊎ (c .index ≡ true) → ⊥
+      go p q (inl z) = true≢false (sym p ∙ z)
+      go p q (inr z) = false≢true (sym q ∙ z)
+
+  pub barred-of : permitted t v ≡ false → Barred t v
+  barred-of e = let (c, x, d, h) = permitted-exactly t (inputs-below t s) v .some e in record { candidate = c; index = x; chain = d; barred = h }
 
 module _ (b : BuildLent) where
   abbrev t : Tables
   t = b .tables
 
-  -- the least variable from which a chain of inputs does not end
+  -- the least variable on a closed chain that is not permitted
   abbrev least : ℕ
-  least = firstFail (ends t) (t .n)
+  least = firstFail (permitted t) (t .n)
 
   -- ── an accepted build ──
   pub build-right : numberOf (build b .answer) ≡ 0 → BuildRight b
   build-right ok = record {
-    not-circular = λ c. circle-unable (inputsOf t) (t .n) (c .0) (c .1) (known .chains (c .0));
+    not-circular = λ c. permitted-clear t (known .sound) (c .0) (known .permitted (c .0) (barred-low t (known .sound) (c .0) (c .1))) (c .1);
     numbers = ap (λ (x : BuildLeft). x .numbers) left;
-    numbers-meet = number-right (net t) (lawful t) (t .n) (known .chains);
+    numbers-meet = group-equation t (inputs-below t (known .sound)) (sized-facts t (known .sound .sized) .n-some);
     ordered = ap (λ (x : BuildLeft). x .order) left;
     indexed = ap (λ (x : BuildLeft). x .index) left;
     stored = ap (λ (x : BuildLeft). x .stored) left;
-    stored-meet = afresh-equation (net t) (lawful t) (t .n) (known .chains) (startValues b);
+    stored-meet = λ v. worth-meets t (startValues b) v (known .determined v);
+    determined = known .determined;
     session = ap (λ (x : BuildLeft). x .session) left;
     empty = ap (λ (x : BuildLeft). x .logSizes) left;
     answer = ap (λ (x : BuildLeft). x .answer) left;
@@ -64,16 +84,23 @@ module _ (b : BuildLent) where
   five-passed : Five → FivePassed b
   five-passed f = require-next 1 0 (buildFits b) _ (f .fits) ∙ tables-next t (b .bounds) (f .sound) (f .bounds) accepted
 
-  -- once they are passed, 6 and 7 decide
-  late : Five → buildVerdict b ≡ check 6 (t .n) (ends t) (check 7 (t .n) (startAllowed t (b .bounds) (startValues b)) accepted)
+  -- once they are passed, 6, 7 and 20 decide
+  abbrev last : Verdict
+  last = check 7 (t .n) (startAllowed t (b .bounds) (startValues b)) (check 20 (t .n) (determined t (startValues b)) accepted)
+
+  late : Five → buildVerdict b ≡ check 6 (t .n) (permitted t) last
   unfolding buildVerdict
   late f = require-next 1 0 (buildFits b) _ (f .fits) ∙ tables-next t (b .bounds) (f .sound) (f .bounds) _
 
   -- ── refusal 6 ──
   circular-six : Five → Circular b → buildVerdict b ≡ refused 6 least
-  circular-six f c =
-      let s = f .sound in
-      late f ∙ check-stops 6 (t .n) (ends t) _ least refl (circle-fails (net t) (lawful t) (t .n) (inputs-below t s) (made-below t s) (sized-facts t (s .sized) .n-some) (c .0) (c .1))
+  circular-six f (v, c) = late f ∙ check-stops 6 (t .n) (permitted t) _ least refl (go (ltb least (t .n)) refl)
+    where
+      go : (x : Bool) → ltb least (t .n) ≡ x → least < t .n
+      go true q = ltb-true least (t .n) q
+      go false q =
+          let far = ltb-false least (t .n) q in let low = barred-low t (f .sound) v c in
+          absurd (permitted-clear t (f .sound) v (firstFail-before (permitted t) (t .n) v (omega arith)) c)
 
   pub record Six (p : ℕ) : Type 0 where
     pub five : Five
@@ -85,11 +112,13 @@ module _ (b : BuildLent) where
   six p e =
       let r₁ = require-other 1 0 (buildFits b) _ 6 p (λ q. omega arith) e in
       let r₅ = tables-other t (b .bounds) (and-left (sized t) _ (r₁ .0)) _ 6 p (omega arith) (r₁ .1) in
-      let r₆ = check-own 6 (t .n) (ends t) _ p later (r₅ .2) in
+      let r₆ = check-own 6 (t .n) (permitted t) _ p later (r₅ .2) in
       record { five = record { fits = r₁ .0; sound = r₅ .0; bounds = r₅ .1 }; low = r₆ .0; place = r₆ .1 }
     where
-      later : check 7 (t .n) (startAllowed t (b .bounds) (startValues b)) accepted ≡ refused 6 p → ⊥
-      later h = refused-not (sym (check-other 7 (t .n) (startAllowed t (b .bounds) (startValues b)) accepted 6 p (λ q. omega arith) h .1))
+      later : last ≡ refused 6 p → ⊥
+      later h =
+          let seven = check-other 7 (t .n) (startAllowed t (b .bounds) (startValues b)) _ 6 p (λ q. omega arith) h in
+          refused-not (sym (check-other 20 (t .n) (determined t (startValues b)) accepted 6 p (λ q. omega arith) (seven .1) .1))
 
   -- the answer's number and place are the verdict's
   answer-six : numberOf (build b .answer) ≡ 6 → Six (placeOf (build b .answer))
@@ -102,17 +131,16 @@ module _ (b : BuildLent) where
           let is-six : c ≡ 6 = sym (ap (λ (x : BuildLeft). numberOf (x .answer)) q) ∙ h in
           subst Six (sym (ap (λ (x : BuildLeft). placeOf (x .answer)) q)) (six p (e ∙ ap (λ z. refused z p) is-six))
 
-  least-unnumbered : Five → least < t .n → LeastUnnumbered t least
-  least-unnumbered f low = record {
+  least-barred : Five → least < t .n → LeastBarred t least
+  least-barred f low = record {
     low = low;
-    cannot = λ c. clash (has-able (net t) (lawful t) (t .n) (inputs-below t (f .sound)) least low c) (firstFail-fails (ends t) (t .n) low);
-    can = λ v l. able-has (net t) (lawful t) (t .n) v (firstFail-before (ends t) (t .n) v l);
+    here = barred-of t (f .sound) least (firstFail-fails (permitted t) (t .n) low);
+    before = λ v l. permitted-clear t (f .sound) v (firstFail-before (permitted t) (t .n) v l);
   }
 
   pub circular-exactly : CircularExactly b
   circular-exactly = record {
     given = λ e c. ap (λ (x : BuildLeft). numberOf (x .answer)) (build-judged b .is (refused 6 least) (circular-six (five e) c));
-    only = λ h. let k = answer-six h in let s = k .five .sound in
-        (five-passed (k .five), fails-circle (net t) (lawful t) (t .n) (inputs-below t s) (made-below t s) (sized-facts t (s .sized) .n-some) (k .low));
-    place = λ h. let k = answer-six h in subst (LeastUnnumbered t) (k .place) (least-unnumbered (k .five) (k .low));
+    only = λ h. let k = answer-six h in (five-passed (k .five), (least, least-barred (k .five) (k .low) .here));
+    place = λ h. let k = answer-six h in subst (LeastBarred t) (k .place) (least-barred (k .five) (k .low));
   }

@@ -1,25 +1,22 @@
--- A chain of inputs that goes on for n steps, n being the number of variables, passes some variable twice. So build's test finds a chain that
--- does not end exactly if some variable depends on itself, and the variables that it comes from are those that can have no topological number.
--- Assumes nothing.
+-- A chain of inputs that goes on for n steps, n being the number of variables, passes some variable twice. So a variable from which some chain does not end
+-- comes to one that depends on itself, and can have no topological number of its own. Assumes nothing.
 use Prim.Native.Nat.{ℕ, zero, suc, _+_, _≤_, _<_}
-use native.Mathlib.Nat.{lt-irrefl, le-refl, le-suc, not-suc-le-zero}
+use native.Mathlib.Nat.{lt-irrefl, not-suc-le-zero}
 use native.Mathlib.Omega.{arith}
 use mathlib.Core.Bool.{Bool, true, false, false≢true}
 use mathlib.Core.List.{List, [], _∷_, List·Memᴰ, List·Memᴰ·head, List·Memᴰ·tail, List·Memᴰ·not-nil}
 use mathlib.Core.Logic.{_⊎_, inl, inr}
-use mathlib.Core.Path.{_≡_, refl, ap, _∙_}
-use lib.Dec.{eqb, ltb}
+use mathlib.Core.Path.{_≡_, refl, ap}
+use lib.Dec.{eqb}
 use lib.ListN.{length}
-use borrow.Author.Tests.{eqb-true, ltb-true, ltb-false}
-use Rattle.paper.specs.Lists.{any, all, firstFail}
-use Rattle.paper.specs.Net.{Net, runs, able, Depends, direct, through, numbering, number}
-use Rattle.paper.specs.Demands.{CanHave}
-use Rattle.paper.proofs.Lists.{all-lacks, all-same, any-has}
-use Rattle.paper.proofs.Least.{firstFail-before, firstFail-fails}
+use borrow.Author.Tests.{eqb-true}
+use Rattle.paper.specs.Lists.{any, all}
+use Rattle.paper.specs.Net.{Net, runs, able, Depends, direct, through}
+use Rattle.paper.proofs.Lists.{all-lacks, any-has}
 use Rattle.paper.proofs.Count.{Distinct, distinct-length}
-use Rattle.paper.proofs.Fix.{Local, stable, able-suc}
+use Rattle.paper.proofs.Fix.{able-suc}
 use Rattle.paper.proofs.Lawful.{Lawful}
-use Rattle.paper.proofs.Numbers.{Numbers, numbering-local, lower, circular-unnumbered}
+use Rattle.paper.proofs.Numbers.{Numbers, CanHave, lower, circular-unnumbered}
 
 -- ── chains, whatever a variable's inputs are ──
 module _ (dep : ℕ → List ℕ) where
@@ -93,7 +90,7 @@ module _ (dep : ℕ → List ℕ) where
       from = inl refl;
     }) (omega arith) u
 
--- ── build's test ──
+-- ── of a model ──
 module _ (N : Net) (L : Lawful N) (n : ℕ) (below : (v i : ℕ) → List·Memᴰ i (N .ins v) → i < n) (bound : (v : ℕ) → N .made v ≡ true → v < n) (0<n : 0 < n) where
   -- a variable that no row makes has no chain
   pub free : (k v : ℕ) → 0 < k → N .made v ≡ false → able (N .ins) k v ≡ true
@@ -117,45 +114,9 @@ module _ (N : Net) (L : Lawful N) (n : ℕ) (below : (v i : ℕ) → List·Mem�
       go v l true q = q
       go v l false q = let (w, c, d) = unable-comes (N .ins) n below v l q in absurd (circular-unnumbered N L num h w d)
 
-  -- some variable fails the test exactly if some variable depends on itself
-  pub fails-circle : firstFail (able (N .ins) n) n < n → (w : ℕ) × Depends (N .ins) w w
-  fails-circle l =
-      let (w, c, d) = unable-comes (N .ins) n below (firstFail (able (N .ins) n) n) l (firstFail-fails (able (N .ins) n) n l) in (w, d)
-
-  pub circle-fails : (w : ℕ) → Depends (N .ins) w w → firstFail (able (N .ins) n) n < n
-  circle-fails w d = go (ltb (firstFail (able (N .ins) n) n) n) refl
-    where
-      go : (b : Bool) → ltb (firstFail (able (N .ins) n) n) n ≡ b → firstFail (able (N .ins) n) n < n
-      go true e = ltb-true (firstFail (able (N .ins) n) n) n e
-      go false e =
-          let h = ltb-false (firstFail (able (N .ins) n) n) n e in
-          absurd (circle-unable (N .ins) n w d (ends-everywhere (λ v l. firstFail-before (able (N .ins) n) n v (omega arith)) w))
-
--- ── the test says which variables can have a topological number ──
+-- ── a variable that can have a topological number passes the test ──
 module _ (N : Net) (L : Lawful N) (n : ℕ) where
-  able-local : Local (N .ins) (λ f v. all f (N .ins v))
-  able-local f g v h = all-same f g (N .ins v) h
-
-  able-input : (k v i : ℕ) → able (N .ins) k v ≡ true → List·Memᴰ i (N .ins v) → able (N .ins) k i ≡ true
-  unfolding runs
-  able-input zero v i e m = absurd (false≢true e)
-  able-input (suc k) v i e m =
-      let a = able-suc (N .ins) k v e m in
-      stable (N .ins) (λ f w. all f (N .ins w)) able-local (λ w. false) (λ w. false) k (suc k) k i a (le-suc k) (le-refl k) ∙ a
-
-  able-down : {v w : ℕ} → Depends (N .ins) v w → able (N .ins) n v ≡ true → able (N .ins) n w ≡ true
-  able-down (direct {v} {w} m) e = able-input n v w e m
-  able-down (through {v} {i} m d) e = able-down d (able-input n v i e m)
-
-  -- the definition's number meets the sentence where every chain from the variable ends
-  number-meets : (v : ℕ) → able (N .ins) n v ≡ true → number N n v ≡ numbering N (number N n) v
-  unfolding runs
-  number-meets v e = stable (N .ins) (numbering N) (numbering-local N) (λ w. zero) (λ w. zero) n n (suc n) v e (le-refl n) (le-suc n)
-
-  pub able-has : (v : ℕ) → able (N .ins) n v ≡ true → CanHave N v
-  able-has v e = (number N n, record { here = number-meets v e; further = λ w d. number-meets w (able-down d e) })
-
-  -- and no table meets it where some chain comes to a variable that depends on itself
+  -- no table of numbers is right where some chain comes to a variable that depends on itself
   pub has-able : (below : (v i : ℕ) → List·Memᴰ i (N .ins v) → i < n) (v : ℕ) → v < n → CanHave N v → able (N .ins) n v ≡ true
   has-able below v l (num, h) = go (able (N .ins) n v) refl
     where

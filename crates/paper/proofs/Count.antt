@@ -106,3 +106,14 @@ distinct-all n xs h d e v l = size-full (λ w. any (eqb w) xs) n v (distinct-siz
 pub size-all : (p : ℕ → Bool) (n : ℕ) → ((v : ℕ) → v < n → p v ≡ true) → size p n ≡ n
 size-all p zero h = refl
 size-all p (suc n) h = rw (h n (le-refl (suc n)), size-all p n (λ v l. h v (omega arith)))
+
+-- what passes one test passes the other
+pub size-mono : (p q : ℕ → Bool) (n : ℕ) → ((v : ℕ) → p v ≡ true → q v ≡ true) → size p n ≤ size q n
+size-mono p q zero h = le-refl zero
+size-mono p q (suc n) h = go (p n) refl (q n) refl (size-mono p q n h)
+  where
+    go : (a : Bool) → p n ≡ a → (b : Bool) → q n ≡ b → size p n ≤ size q n → cond a (suc (size p n)) (size p n) ≤ cond b (suc (size q n)) (size q n)
+    go true e true f ih = omega arith
+    go true e false f ih = clash (h n e) f
+    go false e true f ih = omega arith
+    go false e false f ih = ih

@@ -1,5 +1,5 @@
--- Check 8 by local equations: lent numbers that meet the paper's sentence at each variable, and an order whose neighbours rise, are what build
--- gives, and the chains of inputs end. Assumes nothing.
+-- Check 8 where no chain of inputs closes, by local equations: lent numbers that meet the paper's sentence at each variable, and an order whose neighbours
+-- rise, are what build gives, and the chains end. Assumes nothing.
 use Prim.Native.Nat.{ℕ, _≤_, _<_}
 use native.Mathlib.Omega.{arith}
 use mathlib.Core.Bool.{true}

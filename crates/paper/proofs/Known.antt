@@ -11,9 +11,10 @@ use borrow.Author.Tests.{ltb-true, leb-true, le-leb, eqb-true, not-true}
 use Rattle.integers.specs.Integers.{eqZ}
 use Rattle.paper.specs.Lists.{any, between, nat, below}
 use Rattle.paper.specs.Formula.{blank}
-use Rattle.paper.specs.Net.{able, number, names}
-use Rattle.paper.specs.Tables.{Tables, net, isMade, inputsOf, ends, order}
-use Rattle.paper.specs.Checks.{Verdict, accepted, check, sized, Bounds, startGood, storedGood, inBounds, startAllowed, storedAllowed, numbered, indexed, Move, movePairs, moveFits, movable, namedOnce, hasValue, pairWithin, moveChecks, Sound}
+use Rattle.paper.specs.Net.{Values, Route, names, moved}
+use Rattle.paper.specs.Tables.{Tables, net, isMade}
+use Rattle.paper.specs.Chains.{permitted, groupNumber, groupOrder, determined, closes, groupsNumbered, storedFresh}
+use Rattle.paper.specs.Checks.{Verdict, accepted, check, sized, Bounds, startGood, storedGood, inBounds, startAllowed, storedAllowed, indexed, Move, movePairs, moveFits, movable, namedOnce, hasValue, pairWithin, moveChecks, freshChecks, Sound}
 use Rattle.paper.specs.Log.{Log, moveGood, logged, back, logFits, logGood}
 use Rattle.paper.specs.Calls.{Session, blanksAmong, BuildLent, indexFits, boundsFit, buildFits, startValues, buildVerdict, Model, modelFits, storedValues, modelChecks, Tried, trialFits, trialVerdict, Kept, keepFits, keepVerdict, latest, takeFits, takeVerdict}
 use Rattle.paper.proofs.Lists.{and-left, and-right, each, all-yes}
@@ -23,18 +24,22 @@ use Rattle.paper.proofs.Scan.{any-append}
 use Rattle.paper.proofs.Sizes.{sized-facts}
 use Rattle.paper.proofs.Accept.{BoundsGood, tables-passed, made-below, inputs-below}
 use Rattle.paper.proofs.Lawful.{lawful}
-use Rattle.paper.proofs.Circle.{ends-everywhere}
-use Rattle.paper.proofs.Eight.{numbered-ends, numbered-numbers, numbered-order}
+use Rattle.paper.proofs.Routes.{new-equation}
+use Rattle.paper.proofs.Needs.{determined-everywhere, Ruled, route-meets}
+use Rattle.paper.proofs.Closes.{groups-permitted, groups-numbers, groups-order, Opened, opened, Closed, closed}
 
--- chains that end at every variable of sound tables end everywhere
-pub sound-ends : (t : Tables) → Sound t → ((v : ℕ) → v < t .n → ends t v ≡ true) → (v : ℕ) → able (inputsOf t) (t .n) v ≡ true
-sound-ends t s = ends-everywhere (net t) (lawful t) (t .n) (inputs-below t s) (made-below t s) (sized-facts t (s .sized) .n-some)
+-- if each variable of sound tables is determined so is every number
+pub sound-determined : (t : Tables) → Sound t → (s : Values) → ((v : ℕ) → v < t .n → determined t s v ≡ true) → (v : ℕ) → determined t s v ≡ true
+unfolding determined
+sound-determined t sound s = determined-everywhere t s (inputs-below t sound) (made-below t sound) (sized-facts t (sound .sized) .n-some)
 
 -- ── build ──
 pub record BuildKnown (b : BuildLent) : Type 0 where
   pub fits : buildFits b ≡ true
   pub sound : Sound (b .tables)
-  pub chains : (v : ℕ) → able (inputsOf (b .tables)) (b .tables .n) v ≡ true
+  -- no closed chain that is not permitted
+  pub permitted : (v : ℕ) → v < b .tables .n → permitted (b .tables) v ≡ true
+  pub determined : (v : ℕ) → determined (b .tables) (startValues b) v ≡ true
   pub bounds : BoundsGood (b .tables) (b .bounds)
   pub starts : (v : ℕ) → v < b .tables .n → startGood (b .tables) (startValues b) v ≡ true
   pub inside : (v : ℕ) → v < b .tables .n → inBounds (b .tables) (b .bounds) (startValues b) v ≡ true
@@ -45,11 +50,14 @@ build-known b e =
     let t = b .tables in
     let fits = require-held 1 0 (buildFits b) _ e in
     let p = tables-passed t (b .bounds) (and-left (sized t) _ fits) _ (require-rest 1 0 (buildFits b) _ e) in
-    let seven = check-held 7 (t .n) (startAllowed t (b .bounds) (startValues b)) accepted (check-rest 6 (t .n) (ends t) _ (p .2)) in
+    let six = check-rest 6 (t .n) (permitted t) _ (p .2) in
+    let seven = check-held 7 (t .n) (startAllowed t (b .bounds) (startValues b)) _ six in
+    let last = check-rest 7 (t .n) (startAllowed t (b .bounds) (startValues b)) _ six in
     record {
       fits = fits;
       sound = p .0;
-      chains = sound-ends t (p .0) (check-held 6 (t .n) (ends t) _ (p .2));
+      permitted = check-held 6 (t .n) (permitted t) _ (p .2);
+      determined = sound-determined t (p .0) (startValues b) (check-held 20 (t .n) (determined t (startValues b)) accepted last);
       bounds = p .1;
       starts = λ v l. and-left _ _ (seven v l);
       inside = λ v l. and-right (startGood t (startValues b) v) _ (seven v l);
@@ -61,9 +69,9 @@ pub record ModelKnown (w : Model) : Type 0 where
   pub numbers-long : w .tables .n ≤ length (w .numbers)
   pub order-long : w .tables .m ≤ length (w .order)
   pub stored-long : w .tables .n ≤ length (w .stored)
-  pub chains : (v : ℕ) → able (inputsOf (w .tables)) (w .tables .n) v ≡ true
-  pub numbers-are : (v : ℕ) → v < w .tables .n → nat (w .numbers) v ≡ number (net (w .tables)) (w .tables .n) v
-  pub order-is : take (w .tables .m) (w .order) ≡ order (w .tables)
+  pub permitted : (v : ℕ) → v < w .tables .n → permitted (w .tables) v ≡ true
+  pub numbers-are : (v : ℕ) → v < w .tables .n → nat (w .numbers) v ≡ groupNumber (w .tables) v
+  pub order-is : take (w .tables .m) (w .order) ≡ groupOrder (w .tables)
   pub index-fits : indexFits (w .tables) (w .index) ≡ true
   pub index-is : indexed (w .tables) (w .index) ≡ true
   pub bounds-fit : boundsFit (w .tables) (w .bounds) ≡ true
@@ -79,8 +87,8 @@ pub model-known : (w : Model) (blanks : ℕ) (next : Verdict) → modelFits w �
 model-known w blanks next fits e =
     let t = w .tables in
     let p = tables-passed t (w .bounds) (and-left (sized t) _ fits) _ e in
-    let eight = require-held 8 0 (numbered t (w .numbers) (w .order)) _ (p .2) in
-    let more = require-rest 8 0 (numbered t (w .numbers) (w .order)) _ (p .2) in
+    let eight = require-held 8 0 (groupsNumbered t (w .numbers) (w .order)) _ (p .2) in
+    let more = require-rest 8 0 (groupsNumbered t (w .numbers) (w .order)) _ (p .2) in
     let count = require-rest 8 0 (indexed t (w .index)) _ more in
     let right = eqb blanks (blanksAmong (t .n) (storedValues w)) in
     let seven = require-rest 19 0 right _ count in
@@ -91,9 +99,9 @@ model-known w blanks next fits e =
         numbers-long = leb-true (t .n) (length (w .numbers)) (long .0);
         order-long = leb-true (t .m) (length (w .order)) (long .1 .0);
         stored-long = leb-true (t .n) (length (w .stored)) (long .1 .1 .0);
-        chains = sound-ends t (p .0) (numbered-ends t (w .numbers) (w .order) eight);
-        numbers-are = numbered-numbers t (w .numbers) (w .order) eight;
-        order-is = numbered-order t (w .numbers) (w .order) eight (leb-true (t .m) (length (w .order)) (long .1 .0));
+        permitted = groups-permitted t (w .numbers) (w .order) eight;
+        numbers-are = groups-numbers t (w .numbers) (w .order) eight;
+        order-is = groups-order t (w .numbers) (w .order) eight (leb-true (t .m) (length (w .order)) (long .1 .0));
         index-fits = long .1 .1 .1 .0;
         index-is = require-held 8 0 (indexed t (w .index)) _ more;
         bounds-fit = long .1 .1 .1 .1 .0;
@@ -104,6 +112,27 @@ model-known w blanks next fits e =
       eqb-true blanks (blanksAmong (t .n) (storedValues w)) (require-held 19 0 right _ count),
       check-rest 7 (t .n) (storedAllowed t (w .bounds) (storedValues w)) next seven,
     )
+
+-- where no chain closes: every chain ends, and numbers and order are those of before
+pub model-open : (w : Model) → ModelKnown w → closes (w .tables) ≡ false → Opened (w .tables)
+model-open w k e = opened (w .tables) (k .sound) e
+
+-- where one does: stored values that pass check 21 are fresh and determined
+pub model-closed : (w : Model) → ModelKnown w → closes (w .tables) ≡ true → ((v : ℕ) → v < w .tables .n → storedFresh (w .tables) (storedValues w) v ≡ true)
+    → Closed (w .tables) (storedValues w)
+model-closed w k e h = closed (w .tables) (k .sound) (storedValues w) e h
+
+-- either way the new values of each route meet its rule, from search values that leave every variable determined
+pub model-meets : (w : Model) → ModelKnown w → ((v : ℕ) → v < w .tables .n → storedFresh (w .tables) (storedValues w) v ≡ true)
+    → (s : Values) → ((v : ℕ) → determined (w .tables) s v ≡ true) → (r : Route) → Ruled (w .tables) r (storedValues w) s
+model-meets w k h s det r = go (closes t) refl
+  where
+    t : Tables
+    t = w .tables
+
+    go : (b : Bool) → closes (w .tables) ≡ b → Ruled (w .tables) r (storedValues w) s
+    go true e = route-meets t (inputs-below t (k .sound)) (made-below t (k .sound)) (sized-facts t (k .sound .sized) .n-some) s det (storedValues w) (model-closed w k e h .fresh) r
+    go false e = new-equation (net t) (lawful t) (t .n) (model-open w k e .chains) r (storedValues w) s
 
 -- ── a move: checks 1, 10 to 12 and 17 ──
 pub record MoveKnown (t : Tables) (bs : Bounds) (mv : Move) : Type 0 where
@@ -137,6 +166,14 @@ move-known t bs mv next fits e =
       check-rest 17 (mv .pairs) (pairWithin mv bs) next e₁₇,
     )
 
+-- ── checks 21 and 20 ──
+pub fresh-known : (t : Tables) → Sound t → (old : Values) (mv : Move) → freshChecks t old mv ≡ accepted
+    → ((v : ℕ) → v < t .n → storedFresh t old v ≡ true) × ((v : ℕ) → determined t (moved (movePairs mv) old) v ≡ true)
+fresh-known t s old mv e = (
+  check-held 21 (t .n) (storedFresh t old) _ e,
+  sound-determined t s (moved (movePairs mv) old) (check-held 20 (t .n) (determined t (moved (movePairs mv) old)) accepted (check-rest 21 (t .n) (storedFresh t old) _ e)),
+)
+
 -- a test that some f i below p passes is passed by one
 below-has : {A : Type 0} (test : A → Bool) (f : ℕ → A) (p : ℕ) → any test (below f p) ≡ true → (i : ℕ) × (i < p) × (test (f i) ≡ true)
 below-has test f zero e = absurd (false≢true e)
@@ -165,6 +202,8 @@ pub record TrialKnown (w : Model) (c : Tried) : Type 0 where
   pub few : c .asked ≤ 32
   pub asked-long : c .asked ≤ length (c .askedVars)
   pub asked : (i : ℕ) → i < c .asked → nat (c .askedVars) i < w .tables .n
+  pub fresh : (v : ℕ) → v < w .tables .n → storedFresh (w .tables) (storedValues w) v ≡ true
+  pub determined : (v : ℕ) → determined (w .tables) (moved (movePairs (c .move)) (storedValues w)) v ≡ true
 
 pub trial-known : (s : Session) (w : Model) (c : Tried) → trialVerdict s w c ≡ accepted → TrialKnown w c
 unfolding trialVerdict
@@ -173,13 +212,17 @@ trial-known s w c e =
     let fits = each _ (require-held 1 0 (trialFits w c) _ e) in
     let a = model-known w (s .blanks) _ (fits .0) (require-rest 1 0 (trialFits w c) _ e) in
     let m = move-known (w .tables) (w .bounds) (c .move) _ (fits .1 .0) (require-rest 9 0 (between 1 (c .route) 3) _ (a .2)) in
+    let low : ℕ → Bool = λ j. ltb (nat (c .askedVars) j) n in
+    let f = fresh-known (w .tables) (a .0 .sound) (storedValues w) (c .move) (check-rest 13 (c .asked) low _ (m .1)) in
     record {
       model = a .0;
       route = require-held 9 0 (between 1 (c .route) 3) _ (a .2);
       move = m .0;
       few = leb-true (c .asked) 32 (fits .1 .1 .0);
       asked-long = leb-true (c .asked) (length (c .askedVars)) (fits .1 .1 .1 .0);
-      asked = λ i k. ltb-true (nat (c .askedVars) i) n (check-held 13 (c .asked) (λ j. ltb (nat (c .askedVars) j) n) accepted (m .1) i k);
+      asked = λ i k. ltb-true (nat (c .askedVars) i) n (check-held 13 (c .asked) low _ (m .1) i k);
+      fresh = f .0;
+      determined = f .1;
     }
 
 -- ── a log: checks 1 and 16 ──
@@ -240,6 +283,8 @@ pub record KeepKnown (s : Session) (l : Log) (w : Model) (c : Kept) : Type 0 whe
   pub blanks : BlanksKnown (s .blanks) w
   pub move : MoveKnown (w .tables) (w .bounds) (c .move)
   pub log : LogKnown l (w .tables) (w .bounds) (s .kept)
+  pub fresh : (v : ℕ) → v < w .tables .n → storedFresh (w .tables) (storedValues w) v ≡ true
+  pub determined : (v : ℕ) → determined (w .tables) (moved (movePairs (c .move)) (storedValues w)) v ≡ true
 
 pub keep-known : (s : Session) (l : Log) (w : Model) (c : Kept) → keepVerdict s l w c ≡ accepted → KeepKnown s l w c
 unfolding keepVerdict
@@ -247,12 +292,23 @@ keep-known s l w c e =
     let fits = each _ (require-held 1 0 (keepFits l w c) _ e) in
     let a = model-known w (s .blanks) _ (fits .0) (require-rest 1 0 (keepFits l w c) _ e) in
     let b = move-known (w .tables) (w .bounds) (c .move) _ (fits .1 .0) (a .2) in
-    record { model = a .0; blanks = a .1; move = b .0; log = log-known l (w .tables) (w .bounds) (s .kept) (fits .1 .1 .1 .0) (require-held 16 0 (logGood l (w .tables) (w .bounds) (s .kept)) accepted (b .1)) }
+    let good = logGood l (w .tables) (w .bounds) (s .kept) in
+    let f = fresh-known (w .tables) (a .0 .sound) (storedValues w) (c .move) (require-rest 16 0 good _ (b .1)) in
+    record {
+      model = a .0;
+      blanks = a .1;
+      move = b .0;
+      log = log-known l (w .tables) (w .bounds) (s .kept) (fits .1 .1 .1 .0) (require-held 16 0 good _ (b .1));
+      fresh = f .0;
+      determined = f .1;
+    }
 
 pub record TakeKnown (s : Session) (l : Log) (w : Model) (flags : List ℕ) : Type 0 where
   pub model : ModelKnown w
   pub log : LogKnown l (w .tables) (w .bounds) (s .kept)
   pub some : 0 < logged l
+  pub fresh : (v : ℕ) → v < w .tables .n → storedFresh (w .tables) (storedValues w) v ≡ true
+  pub determined : (v : ℕ) → determined (w .tables) (moved (movePairs (latest l flags .move)) (storedValues w)) v ≡ true
 
 pub take-known : (s : Session) (l : Log) (w : Model) (flags : List ℕ) → takeVerdict s l w flags ≡ accepted → TakeKnown s l w flags
 unfolding takeVerdict
@@ -260,10 +316,14 @@ take-known s l w flags e =
     let fits = each _ (require-held 1 0 (takeFits l w flags) _ e) in
     let a = model-known w (s .blanks) _ (fits .0) (require-rest 1 0 (takeFits l w flags) _ e) in
     let good = logGood l (w .tables) (w .bounds) (s .kept) in
+    let some = require-rest 16 0 good _ (a .2) in
+    let f = fresh-known (w .tables) (a .0 .sound) (storedValues w) (latest l flags .move) (require-rest 15 0 (ltb 0 (logged l)) _ some) in
     record {
       model = a .0;
       log = log-known l (w .tables) (w .bounds) (s .kept) (fits .1 .1 .0) (require-held 16 0 good _ (a .2));
-      some = ltb-true 0 (logged l) (require-held 15 0 (ltb 0 (logged l)) accepted (require-rest 16 0 good _ (a .2)));
+      some = ltb-true 0 (logged l) (require-held 15 0 (ltb 0 (logged l)) _ some);
+      fresh = f .0;
+      determined = f .1;
     }
 
 -- the move that takes the latest back passes the checks of a move

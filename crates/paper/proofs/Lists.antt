@@ -3,10 +3,11 @@ use Prim.Native.Nat.{ℕ, zero, suc, _+_, _<_}
 use native.Mathlib.Omega.{arith}
 use mathlib.Core.Bool.{Bool, true, false, _&&_, _||_, true≢false, false≢true}
 use mathlib.Core.List.{List, [], _∷_, _++_, map, List·Memᴰ, List·Memᴰ·head, List·Memᴰ·tail}
+use mathlib.Core.Logic.{_⊎_, inl, inr, _≢_}
 use mathlib.Core.Path.{_≡_, refl, ap, ap₂, sym, _∙_}
 use lib.Dec.{eqb}
 use lib.ListN.{length, getD}
-use borrow.Author.Tests.{eq-eqb}
+use borrow.Author.Tests.{eq-eqb, eqb-true, eqb-false}
 use Rattle.paper.specs.Lists.{any, all, every, tally}
 
 -- ── tests ──
@@ -119,3 +120,11 @@ module _ {A : Type 0} (f g : A → Bool) where
   pub all-same : (xs : List A) → ((i : A) → List·Memᴰ i xs → f i ≡ g i) → all f xs ≡ all g xs
   all-same [] h = refl
   all-same (x ∷ xs) h = ap₂ _&&_ (h x (List·Memᴰ·head refl)) (all-same xs (λ i m. h i (List·Memᴰ·tail m)))
+
+-- two numbers are the same or not
+pub same-or : (a b : ℕ) → (a ≡ b) ⊎ (a ≢ b)
+same-or a b = go (eqb a b) refl
+  where
+    go : (c : Bool) → eqb a b ≡ c → (a ≡ b) ⊎ (a ≢ b)
+    go true e = inl (eqb-true a b e)
+    go false e = inr (eqb-false a b e)

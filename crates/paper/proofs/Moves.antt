@@ -1,6 +1,7 @@
 -- Two moves with no variable in common give the same values in either order, and so does one move of all their pairs: each variable has one
--- pair, or none. An accepted keep leaves a model that accepts what it accepted before. Assumes nothing.
+-- pair, or none. An accepted keep leaves a model that passes the checks that it passed before. Assumes nothing.
 use Prim.Native.Nat.{ℕ, zero, suc, _+_, _-_, _≤_, _<_}
+use native.Mathlib.Nat.{not-suc-le-zero}
 use native.Mathlib.Omega.{arith}
 use mathlib.Core.Bool.{Bool, true, false, cond, not, _&&_, _||_, true≢false, false≢true}
 use mathlib.Core.List.{List, [], _∷_, _++_}
@@ -12,11 +13,12 @@ use lib.ListN.{length, getD, take, length-append, List·getD-append}
 use lib.Seq.{length-take-le, getD-take, getD-append-add}
 use borrow.Author.Tests.{ltb-true, ltb-false, lt-ltb, le-leb, eqb-true, eq-eqb, ne-eqb, not-true}
 use Rattle.integers.specs.Integers.{eqZ}
-use Rattle.paper.specs.Lists.{any, nat, below, over}
+use Rattle.paper.specs.Lists.{any, nat, below}
 use Rattle.paper.specs.Formula.{blank}
-use Rattle.paper.specs.Net.{Net, Values, Route, input-to-output, able, new, moved, names}
+use Rattle.paper.specs.Net.{Net, Values, Route, input-to-output, runs, new, moved, names}
 use Rattle.paper.specs.Tables.{Tables, net, isMade, valuesIn}
-use Rattle.paper.specs.Checks.{accepted, Bounds, within, numbered, indexed, storedGood, inBounds, storedAllowed, Move, movePairs, moveFits, movable, namedOnce, hasValue, pairWithin}
+use Rattle.paper.specs.Chains.{determined, groupsNumbered, storedFresh}
+use Rattle.paper.specs.Checks.{accepted, Bounds, within, indexed, storedGood, inBounds, storedAllowed, Move, movePairs, moveFits, movable, namedOnce, hasValue, pairWithin}
 use Rattle.paper.specs.Log.{Log, logFits, logGood}
 use Rattle.paper.specs.Calls.{Session, blanksAmong, newValues, Model, modelFits, storedValues, Kept, keptBlanks, keptStored, keepFits, keepVerdict}
 use Rattle.paper.proofs.Lists.{clash, eqb-self, all-yes, any-at}
@@ -24,10 +26,9 @@ use Rattle.paper.proofs.Buffers.{length-below, getD-below, over-length,
 use Rattle.paper.proofs.Scan.{any-append}
 use Rattle.paper.proofs.Verdicts.{check-next, require-next}
 use Rattle.paper.proofs.Accept.{tables-next}
-use Rattle.paper.proofs.Lawful.{Lawful, lawful}
-use Rattle.paper.proofs.Eight.{numbered-of}
+use Rattle.paper.proofs.Sizes.{sized-facts}
 use Rattle.paper.proofs.Fresh.{unnamed}
-use Rattle.paper.proofs.Routes.{new-equation}
+use Rattle.paper.proofs.Closes.{groups-of}
 use Rattle.paper.proofs.Count.{size-same}
 use Rattle.paper.proofs.Known.{ModelKnown, BlanksKnown, MoveKnown}
 use Rattle.paper.specs.Moves.{pairAt, Has, Apart, AllPairs, joined}
@@ -269,13 +270,15 @@ module _ (t : Tables) (bs : Bounds) (a b : Move) (known-a : MoveKnown t bs a) (k
           (sym (ap (λ (p : ℕ × ℤ). p .0) (later-at i z (omega arith))) ∙ e ∙ ap (λ (p : ℕ × ℤ). p .0) (later-at k y h))
 
 -- ── what is accepted ──
--- a keep whose model, move and log pass their checks
+-- a keep whose model, move and log pass their checks, and whose values are fresh and stay determined
 pub keep-accepts : (s : Session) (g : Log) (w : Model) (c : Kept) → ModelKnown w → BlanksKnown (s .blanks) w → MoveKnown (w .tables) (w .bounds) (c .move) → w .tables .n ≤ length (c .flags)
-    → logFits g ≡ true → logGood g (w .tables) (w .bounds) (s .kept) ≡ true → keepVerdict s g w c ≡ accepted
+    → logFits g ≡ true → logGood g (w .tables) (w .bounds) (s .kept) ≡ true
+    → ((v : ℕ) → v < w .tables .n → storedFresh (w .tables) (storedValues w) v ≡ true) → ((v : ℕ) → determined (w .tables) (moved (movePairs (c .move)) (storedValues w)) v ≡ true)
+    → keepVerdict s g w c ≡ accepted
 unfolding keepVerdict
-keep-accepts s g w c model blanks move room log-fits log-good = let t = w .tables in let mv = c .move in
+keep-accepts s g w c model blanks move room log-fits log-good fresh det = let t = w .tables in let mv = c .move in
     require-next 1 0 (keepFits g w c) _ fits ∙ tables-next t (w .bounds) (model .sound) (model .bounds) _
-    ∙ require-next 8 0 (numbered t (w .numbers) (w .order)) _ (numbered-of t (w .numbers) (w .order) (λ v l. model .chains v) (model .numbers-are) (model .order-is))
+    ∙ require-next 8 0 (groupsNumbered t (w .numbers) (w .order)) _ (groups-of t (w .numbers) (w .order) (model .permitted) (model .numbers-are) (model .order-is))
     ∙ require-next 8 0 (indexed t (w .index)) _ (model .index-is)
     ∙ require-next 19 0 (eqb (s .blanks) (blanksAmong (t .n) (storedValues w))) _ (eq-eqb (s .blanks) (blanksAmong (t .n) (storedValues w)) blanks)
     ∙ check-next 7 (t .n) (storedAllowed t (w .bounds) (storedValues w)) _ (λ v l. ap₂ _&&_ (model .stored v l) (model .inside v l))
@@ -283,7 +286,9 @@ keep-accepts s g w c model blanks move room log-fits log-good = let t = w .table
     ∙ check-next 11 (mv .pairs) (namedOnce mv) _ (λ i l. ap not (move .once i l))
     ∙ check-next 12 (mv .pairs) (hasValue mv) _ (λ i l. ap not (move .full i l))
     ∙ check-next 17 (mv .pairs) (pairWithin mv (w .bounds)) _ (move .inside)
-    ∙ require-next 16 0 (logGood g t (w .bounds) (s .kept)) accepted log-good
+    ∙ require-next 16 0 (logGood g t (w .bounds) (s .kept)) _ log-good
+    ∙ check-next 21 (t .n) (storedFresh t (storedValues w)) _ fresh
+    ∙ check-next 20 (t .n) (determined t (moved (movePairs mv) (storedValues w))) accepted (λ v l. det v)
   where
     model-fits : modelFits w ≡ true
     model-fits = ap₂ _&&_ (model .sound .sized) (all-yes _ (le-leb _ _ (model .numbers-long), (le-leb _ _ (model .order-long), (le-leb _ _ (model .stored-long), (model .index-fits, (model .bounds-fit, tt))))))
@@ -294,12 +299,14 @@ keep-accepts s g w c model blanks move room log-fits log-good = let t = w .table
     fits : keepFits g w c ≡ true
     fits = all-yes _ (model-fits, (move-fits, (le-leb _ _ room, (log-fits, tt))))
 
--- route 1 leaves a search variable with the move's value
-new-search : (N : Net) (L : Lawful N) (k : ℕ) → ((v : ℕ) → able (N .ins) k v ≡ true) → (r : Route) (old s : Values) (v : ℕ) → N .made v ≡ false → new N r old s k v ≡ s v
-new-search N L k ends r old s v e = new-equation N L k ends r old s v ∙ rw e
+-- a route leaves a search variable with the move's value
+pub new-search : (N : Net) (k : ℕ) → 0 < k → (r : Route) (old s : Values) (v : ℕ) → N .made v ≡ false → new N r old s k v ≡ s v
+unfolding runs
+new-search N zero some r old s v e = absurd (not-suc-le-zero some)
+new-search N (suc k) some r old s v e = rw e
 
 -- the stored values that an accepted keep leaves
-kept-value : (w : Model) (c : Kept) (v : ℕ) → v < w .tables .n
+pub kept-value : (w : Model) (c : Kept) (v : ℕ) → v < w .tables .n
     → valuesIn (w .tables) (keptStored (w .tables) (w .stored) c) v ≡ newValues (w .tables) (storedValues w) input-to-output (movePairs (c .move)) [] v
 kept-value w c v l = let f = newValues (w .tables) (storedValues w) input-to-output (movePairs (c .move)) [] in
     ap (λ (row : List ℤ). getD row v (pos 0)) (over-front f (w .tables .n) (w .stored)) ∙ getD-below f (w .tables .n) v (pos 0) l
@@ -315,7 +322,7 @@ keep-leaves-known w c m move = record {
   numbers-long = m .numbers-long;
   order-long = m .order-long;
   stored-long = let l = m .stored-long in let e = over-length f (w .tables .n) (w .stored) l in omega arith;
-  chains = m .chains;
+  permitted = m .permitted;
   numbers-are = m .numbers-are;
   order-is = m .order-is;
   index-fits = m .index-fits;
@@ -338,6 +345,9 @@ keep-leaves-known w c m move = record {
     f : Values
     f = newValues (w .tables) (storedValues w) input-to-output (movePairs (c .move)) []
 
+    some : 0 < w .tables .n
+    some = sized-facts t (m .sound .sized) .n-some
+
     rest : (x z : Bool) → x ≡ false → (x || not z) ≡ true → z ≡ false
     rest true z e h = absurd (true≢false e)
     rest false z e h = not-true z h
@@ -350,7 +360,7 @@ keep-leaves-known w c m move = record {
     good : (v : ℕ) → v < w .tables .n → (x : Bool) → isMade (w .tables) v ≡ x → storedGood (w .tables) (valuesIn (w .tables) (keptStored (w .tables) (w .stored) c)) v ≡ true
     good v l true e = ap (λ b. b || not (eqZ (valuesIn t (keptStored (w .tables) (w .stored) c) v) blank)) e
     good v l false e =
-        ap₂ (λ b z. b || not (eqZ z blank)) e (kept-value w c v l ∙ new-search (net t) (lawful t) (t .n) (m .chains) input-to-output old (moved mv old) v e)
+        ap₂ (λ b z. b || not (eqZ z blank)) e (kept-value w c v l ∙ new-search (net t) (t .n) some input-to-output old (moved mv old) v e)
         ∙ ap not (full v l e (names mv v) refl)
 
     inside : (v : ℕ) → v < w .tables .n → isMade (w .tables) v ≡ false → (x : Bool) → names (movePairs (c .move)) v ≡ x → within (w .bounds) v (moved (movePairs (c .move)) (storedValues w) v) ≡ true
@@ -361,5 +371,5 @@ keep-leaves-known w c m move = record {
     allowed : (v : ℕ) → v < w .tables .n → (x : Bool) → isMade (w .tables) v ≡ x → inBounds (w .tables) (w .bounds) (valuesIn (w .tables) (keptStored (w .tables) (w .stored) c)) v ≡ true
     allowed v l true e = ap (λ b. b || within (w .bounds) v (valuesIn t (keptStored (w .tables) (w .stored) c) v)) e
     allowed v l false e =
-        ap₂ (λ b z. b || within (w .bounds) v z) e (kept-value w c v l ∙ new-search (net t) (lawful t) (t .n) (m .chains) input-to-output old (moved mv old) v e)
+        ap₂ (λ b z. b || within (w .bounds) v z) e (kept-value w c v l ∙ new-search (net t) (t .n) some input-to-output old (moved mv old) v e)
         ∙ inside v l e (names mv v) refl

@@ -8,7 +8,6 @@ use mathlib.Core.List.{List, [], _∷_, map, List·Memᴰ, List·Memᴰ·head, L
 use mathlib.Core.Path.{_≡_, refl, ap, subst}
 use Rattle.paper.specs.Lists.{greatest}
 use Rattle.paper.specs.Net.{Net, runs, able, Depends, direct, through, numbering, number}
-use Rattle.paper.specs.Demands.{Meets}
 use Rattle.paper.proofs.Lists.{map-same}
 use Rattle.paper.proofs.Fix.{Local, unique, solution}
 use Rattle.paper.proofs.Lawful.{Lawful}
@@ -21,6 +20,15 @@ module _ (N : Net) where
   -- a table of numbers that meets the paper's sentence at every variable
   abbrev pub Numbers : (ℕ → ℕ) → Type 0
   Numbers num = (v : ℕ) → num v ≡ numbering N num v
+
+  -- one that meets it at v and at all that v depends on
+  pub record Meets (num : ℕ → ℕ) (v : ℕ) : Type 0 where
+    pub here : num v ≡ numbering N num v
+    pub further : (w : ℕ) → Depends (N .ins) v w → num w ≡ numbering N num w
+
+  -- v can have a topological number of its own
+  abbrev pub CanHave : ℕ → Type 0
+  CanHave v = (num : ℕ → ℕ) × Meets num v
 
   pub numbering-local : Local (N .ins) (numbering N)
   numbering-local f g v h = ap (λ l. cond (N .made v) (suc (greatest l)) zero) (map-same f g (N .ins v) h)

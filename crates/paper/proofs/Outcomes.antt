@@ -8,25 +8,27 @@ use mathlib.Core.Path.{_≡_, refl, ap, sym, _∙_}
 use lib.Dec.{eqb, leb, ltb}
 use lib.ListN.{take}
 use Rattle.paper.specs.Lists.{between, total, nat, firstFail}
-use Rattle.paper.specs.Tables.{Tables, ends}
-use Rattle.paper.specs.Checks.{Verdict, accepted, refused, check, require, Bounds, kindGood, shapeGood, numberGood, boundsGood, madeOnce, tableChecks, startAllowed, storedAllowed, numbered, indexed, Move, movable, namedOnce, hasValue, pairWithin}
+use Rattle.paper.specs.Net.{Values, moved}
+use Rattle.paper.specs.Tables.{Tables}
+use Rattle.paper.specs.Chains.{permitted, determined, groupsNumbered, storedFresh}
+use Rattle.paper.specs.Checks.{Verdict, accepted, refused, check, require, Bounds, kindGood, shapeGood, numberGood, boundsGood, madeOnce, tableChecks, startAllowed, storedAllowed, indexed, Move, movePairs, movable, namedOnce, hasValue, pairWithin, freshChecks}
 use Rattle.paper.specs.Log.{Log, logged, logGood}
-use Rattle.paper.specs.Calls.{Session, blanksAmong, Answer, numberOf, BuildLent, BuildLeft, buildFits, startValues, buildVerdict, buildLeaves, build, Model, storedValues, modelChecks, changeChecks, Tried, TrialLeft, trialFits, trialVerdict, trialLeaves, trial, Kept, KeepLeft, keepFits, keepVerdict, keepLeaves, keep, takeFits, takeVerdict, takeLeaves, takeBack}
+use Rattle.paper.specs.Calls.{Session, blanksAmong, Answer, numberOf, BuildLent, BuildLeft, buildFits, startValues, buildVerdict, buildLeaves, build, Model, storedValues, modelChecks, changeChecks, Tried, TrialLeft, trialFits, trialVerdict, trialLeaves, trial, Kept, KeepLeft, keepFits, keepVerdict, keepLeaves, keep, latest, takeFits, takeVerdict, takeLeaves, takeBack}
 use Rattle.paper.specs.Demands.{buildAsWas, trialAsWas, keepAsWas}
 use Rattle.paper.proofs.Verdicts.{refused-not}
 
--- build gives 1 to 7; trial all of 1 to 13 but 6, 17 and 19; keep the same except 9 and 13, and 16; taking back 1 to 8 but 6, 15, 16 and 19
+-- build gives 1 to 7 and 20; trial all of 1 to 13 but 6, 17 and 19 to 21; keep the same except 9 and 13, and 16; taking back 1 to 8 but 6, 15, 16 and 19 to 21
 abbrev pub buildNumber : ℕ → Bool
-buildNumber code = leb code 7
+buildNumber code = leb code 7 || eqb code 20
 
 abbrev pub trialNumber : ℕ → Bool
-trialNumber code = (leb code 13 && not (eqb code 6)) || eqb code 17 || eqb code 19
+trialNumber code = (leb code 13 && not (eqb code 6)) || eqb code 17 || between 19 code 21
 
 abbrev pub keepNumber : ℕ → Bool
-keepNumber code = (leb code 12 && not (eqb code 6) && not (eqb code 9)) || eqb code 16 || eqb code 17 || eqb code 19
+keepNumber code = (leb code 12 && not (eqb code 6) && not (eqb code 9)) || eqb code 16 || eqb code 17 || between 19 code 21
 
 abbrev pub takeNumber : ℕ → Bool
-takeNumber code = (leb code 8 && not (eqb code 6)) || eqb code 15 || eqb code 16 || eqb code 19
+takeNumber code = (leb code 8 && not (eqb code 6)) || eqb code 15 || eqb code 16 || between 19 code 21
 
 -- ── which numbers a verdict gives: never 0 if it refuses ──
 data Gives (ok : ℕ → Bool) : Verdict → Type 0 where
@@ -53,13 +55,14 @@ module _ (ok : ℕ → Bool) where
 build-gives : (l : BuildLent) → Gives buildNumber (buildVerdict l)
 unfolding buildVerdict
 build-gives l = let t = l .tables in let ok = buildNumber in
-    lacks ok 0 0 (buildFits l) refl (tables-give ok t (l .bounds) refl refl refl refl (fails ok 5 (t .n) (ends t) refl (fails ok 6 (t .n) (startAllowed t (l .bounds) (startValues l)) refl passed)))
+    lacks ok 0 0 (buildFits l) refl (tables-give ok t (l .bounds) refl refl refl refl (fails ok 5 (t .n) (permitted t) refl (fails ok 6 (t .n) (startAllowed t (l .bounds) (startValues l)) refl
+    (fails ok 19 (t .n) (determined t (startValues l)) refl passed))))
 
 -- trial, keep and taking back: the same checks of model and move
 module _ (ok : ℕ → Bool) where
   model-gives : (w : Model) (blanks : ℕ) {next : Verdict} → ok 2 ≡ true → ok 3 ≡ true → ok 4 ≡ true → ok 5 ≡ true → ok 8 ≡ true → ok 19 ≡ true → ok 7 ≡ true → Gives ok next → Gives ok (modelChecks w blanks next)
   model-gives w blanks o₂ o₃ o₄ o₅ o₈ o₁₉ o₇ h = let t = w .tables in
-      tables-give ok t (w .bounds) o₂ o₃ o₄ o₅ (lacks ok 7 0 (numbered t (w .numbers) (w .order)) o₈ (lacks ok 7 0 (indexed t (w .index)) o₈
+      tables-give ok t (w .bounds) o₂ o₃ o₄ o₅ (lacks ok 7 0 (groupsNumbered t (w .numbers) (w .order)) o₈ (lacks ok 7 0 (indexed t (w .index)) o₈
       (lacks ok 18 0 (eqb blanks (blanksAmong (t .n) (storedValues w))) o₁₉ (fails ok 6 (t .n) (storedAllowed t (w .bounds) (storedValues w)) o₇ h))))
 
   move-gives : (w : Model) (mv : Move) {next : Verdict} → ok 10 ≡ true → ok 11 ≡ true → ok 12 ≡ true → ok 17 ≡ true → Gives ok next → Gives ok (changeChecks w mv next)
@@ -67,23 +70,29 @@ module _ (ok : ℕ → Bool) where
       fails ok 9 (mv .pairs) (movable mv (w .tables)) o₁₀ (fails ok 10 (mv .pairs) (namedOnce mv) o₁₁ (fails ok 11 (mv .pairs) (hasValue mv) o₁₂
       (fails ok 16 (mv .pairs) (pairWithin mv (w .bounds)) o₁₇ h)))
 
+  fresh-gives : (t : Tables) (old : Values) (mv : Move) → ok 20 ≡ true → ok 21 ≡ true → Gives ok (freshChecks t old mv)
+  fresh-gives t old mv o₂₀ o₂₁ = fails ok 20 (t .n) (storedFresh t old) o₂₁ (fails ok 19 (t .n) (determined t (moved (movePairs mv) old)) o₂₀ passed)
+
 trial-gives : (s : Session) (w : Model) (c : Tried) → Gives trialNumber (trialVerdict s w c)
 unfolding trialVerdict
 trial-gives s w c = let ok = trialNumber in
     lacks ok 0 0 (trialFits w c) refl (model-gives ok w (s .blanks) refl refl refl refl refl refl refl (lacks ok 8 0 (between 1 (c .route) 3) refl
-    (move-gives ok w (c .move) refl refl refl refl (fails ok 12 (c .asked) (λ i. ltb (nat (c .askedVars) i) (w .tables .n)) refl passed))))
+    (move-gives ok w (c .move) refl refl refl refl (fails ok 12 (c .asked) (λ i. ltb (nat (c .askedVars) i) (w .tables .n)) refl
+    (fresh-gives ok (w .tables) (storedValues w) (c .move) refl refl)))))
 
 keep-gives : (s : Session) (l : Log) (w : Model) (c : Kept) → Gives keepNumber (keepVerdict s l w c)
 unfolding keepVerdict
 keep-gives s l w c = let ok = keepNumber in
     lacks ok 0 0 (keepFits l w c) refl (model-gives ok w (s .blanks) refl refl refl refl refl refl refl
-    (move-gives ok w (c .move) refl refl refl refl (lacks ok 15 0 (logGood l (w .tables) (w .bounds) (s .kept)) refl passed)))
+    (move-gives ok w (c .move) refl refl refl refl (lacks ok 15 0 (logGood l (w .tables) (w .bounds) (s .kept)) refl
+    (fresh-gives ok (w .tables) (storedValues w) (c .move) refl refl))))
 
 take-gives : (s : Session) (l : Log) (w : Model) (flags : List ℕ) → Gives takeNumber (takeVerdict s l w flags)
 unfolding takeVerdict
 take-gives s l w flags = let ok = takeNumber in
     lacks ok 0 0 (takeFits l w flags) refl (model-gives ok w (s .blanks) refl refl refl refl refl refl refl
-    (lacks ok 15 0 (logGood l (w .tables) (w .bounds) (s .kept)) refl (lacks ok 14 0 (ltb 0 (logged l)) refl passed)))
+    (lacks ok 15 0 (logGood l (w .tables) (w .bounds) (s .kept)) refl (lacks ok 14 0 (ltb 0 (logged l)) refl
+    (fresh-gives ok (w .tables) (storedValues w) (latest l flags .move) refl refl))))
 
 -- ── what holds of every call: x is what it leaves, by its verdict v ──
 pub record Judged {Left : Type 0} (answer : Left → Answer) (left : Verdict → Left) (asWas : Answer → Left) (ok : ℕ → Bool) (v : Verdict) (x : Left) : Type 0 where

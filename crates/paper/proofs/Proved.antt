@@ -5,9 +5,10 @@ use Rattle.paper.specs.Lists.{every}
 use Rattle.paper.specs.Formula.{formula, looked}
 use Rattle.paper.specs.Net.{runs}
 use Rattle.paper.specs.Tables.{rowOf}
+use Rattle.paper.specs.Chains.{groupNumber, determined}
 use Rattle.paper.specs.Calls.{buildVerdict, build, trialVerdict, trial}
 use Rattle.paper.specs.Runs.{comesOut, proved, allComeOut}
 
 pub all-come-out : allComeOut ≡ true
-unfolding every formula looked runs rowOf buildVerdict build trialVerdict trial comesOut proved
+unfolding every formula looked runs rowOf groupNumber determined buildVerdict build trialVerdict trial comesOut proved
 all-come-out = refl

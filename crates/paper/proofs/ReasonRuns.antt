@@ -4,28 +4,29 @@ use Prim.Native.Nat.{ℕ, zero, suc, _≤_, _<_}
 use native.Mathlib.Nat.{not-suc-le-zero}
 use native.Mathlib.Omega.{arith}
 use mathlib.Core.Bool.{Bool, true, false, cond}
-use mathlib.Core.List.{List, [], _∷_, List·Memᴰ, List·Memᴰ·head, List·Memᴰ·tail}
+use mathlib.Core.List.{List, [], _∷_, List·Memᴰ, List·Memᴰ·head, List·Memᴰ·tail, List·Memᴰ·not-nil}
 use mathlib.Core.Path.{_≡_, refl, ap, sym, _∙_, fun-ext, subst, subst⁻¹}
 use lib.IntN.{ℤ}
 use lib.ListN.{length, take}
 use Rattle.paper.specs.Lists.{nat, over}
-use Rattle.paper.specs.Net.{Net, Values, Route, input-to-output, afresh, moved}
+use Rattle.paper.specs.Net.{Net, Values, Route, input-to-output, moved}
 use Rattle.paper.specs.Tables.{Tables, net, valuesIn}
+use Rattle.paper.specs.Chains.{worth, determined}
 use Rattle.paper.specs.Checks.{Verdict, accepted, refused, leaves, movePairs}
 use Rattle.paper.specs.Log.{Log, logIn}
 use Rattle.paper.specs.Reason.{reasonOf, reasonAfter, reasonKept}
-use Rattle.paper.specs.Calls.{Session, Answer, Refused, numberOf, newValues, evaluates, BuildLent, BuildLeft, startValues, build, Model, Tried, TrialLeft, askedList, routeOf, trial, Kept, KeepLeft, keepVerdict, keep, latest, takeVerdict, takeBack}
-use Rattle.paper.specs.Reasoned.{Reasoned, withReasons, reasonsFit, buildReasoned, movedReasons}
-use Rattle.paper.specs.Demands.{trialAsWas, keepAsWas, Lent, own, Lends, Call, tries, keeps, takes, lendsOf, logOf, State, lentOf, ownAfter, rest, modelOf, verdictOf, passedOn, step, applied, ownModel, fresh, after, history, Proper, old, renewed}
-use Rattle.paper.specs.ReasonRuns.{Reasoning, ReasonState, rowLent, hasRoom, triedNow, keptNow, takenNow, handedOn, stepBy, stands, roomy, OwnReasons, next, ReasonsRight}
+use Rattle.paper.specs.Calls.{Refused, numberOf, newValues, evaluates, BuildLent, BuildLeft, startValues, build, TrialLeft, askedList, routeOf, Kept, KeepLeft, latest}
+use Rattle.paper.specs.Reasoned.{Reasoned, reasonsFit, buildReasoned, movedReasons}
+use Rattle.paper.specs.Demands.{keepAsWas, Lent, own, Lends, Call, tries, keeps, takes, lendsOf, logOf, State, lentOf, ownAfter, rest, modelOf, verdictOf, passedOn, step, applied, ownModel, fresh, after, history, Proper, old, renewed}
+use Rattle.paper.specs.ReasonRuns.{Reasoning, ReasonState, rowLent, hasRoom, handedOn, stepBy, stands, roomy, OwnReasons, ReasonsRight}
 use Rattle.paper.proofs.Buffers.{over-at, over-same, over-over}
-use Rattle.paper.proofs.Lawful.{lawful}
-use Rattle.paper.proofs.Fresh.{Fresh, afresh-fresh}
-use Rattle.paper.proofs.Routes.{route-fresh}
-use Rattle.paper.proofs.RouteReasons.{Settled, asked-settled, reason-fresh, kept-fresh}
+use Rattle.paper.proofs.Sizes.{sized-facts}
+use Rattle.paper.proofs.Accept.{made-below, inputs-below}
+use Rattle.paper.proofs.Fresh.{Fresh}
+use Rattle.paper.proofs.Needs.{worth-fresh, route-worth}
+use Rattle.paper.proofs.RouteReasons.{asked-settled, reason-fresh, kept-fresh}
 use Rattle.paper.proofs.Verdicts.{refused-not, refused-stays}
-use Rattle.paper.proofs.Known.{BuildKnown, trial-known}
-use Rattle.paper.proofs.Outcomes.{build-judged, trial-judged, keep-judged, take-judged}
+use Rattle.paper.proofs.Known.{BuildKnown, trial-known, keep-known, take-known}
 use Rattle.paper.proofs.Reasoned.{Roomy, build-roomy, trial-roomy, keep-roomy, take-roomy}
 use Rattle.paper.proofs.Session as session
 use Rattle.paper.proofs.Session.{own-left, passed-as-was}
@@ -36,6 +37,11 @@ at-mem zero l h i m = absurd (not-suc-le-zero m)
 at-mem (suc k) [] h i m = absurd (omega arith)
 at-mem (suc k) (x ∷ l) h zero m = List·Memᴰ·head refl
 at-mem (suc k) (x ∷ l) h (suc i) m = List·Memᴰ·tail (at-mem k l (omega arith) i (omega arith))
+
+-- each of them is low if each place's is
+mem-low : (k : ℕ) (l : List ℕ) (n : ℕ) → ((i : ℕ) → i < k → nat l i < n) → (a : ℕ) → List·Memᴰ a (take k l) → a < n
+mem-low (suc k) (x ∷ l) n h a (List·Memᴰ·head q) = rw q (h 0 (omega arith))
+mem-low (suc k) (x ∷ l) n h a (List·Memᴰ·tail m) = mem-low k l n (λ i j. h (suc i) (omega arith)) a m
 
 module _ (b : BuildLent) (first : List ℕ) (room : List ℕ × List ℤ) (ok : numberOf (build b .answer) ≡ 0) where
   abbrev t : Tables
@@ -48,8 +54,15 @@ module _ (b : BuildLent) (first : List ℕ) (room : List ℕ × List ℤ) (ok : 
   abbrev laid : Values → List ℕ
   laid f = over (t .n) (λ v. reasonOf t v f) first
 
-  -- ── one more move over fresh values and their reasons ──
-  module _ (cs : List Call) (p : Proper b room cs) (stored : List ℤ) (is : stored ≡ after b room cs .stored) (row : List ℕ) (held : row ≡ laid (old b room cs)) (mv : List (ℕ × ℤ)) where
+  abbrev known : BuildKnown b
+  known = session.known b ok
+
+  some : 0 < b .tables .n
+  some = sized-facts t (known .sound .sized) .n-some
+
+  -- ── one more move over fresh values and their reasons, after which every variable is determined ──
+  module _ (cs : List Call) (p : Proper b room cs) (stored : List ℤ) (is : stored ≡ after b room cs .stored) (row : List ℕ) (held : row ≡ laid (old b room cs)) (mv : List (ℕ × ℤ))
+      (det : (v : ℕ) → determined (b .tables) (moved mv (valuesIn (b .tables) stored)) v ≡ true) where
     abbrev before : Values
     before = valuesIn t stored
 
@@ -57,23 +70,24 @@ module _ (b : BuildLent) (first : List ℕ) (room : List ℕ × List ℤ) (ok : 
     before-is = ap (valuesIn t) is ∙ session.old-is b ok room cs p
 
     before-fresh : Fresh N before
-    before-fresh = subst⁻¹ (Fresh N) before-is (afresh-fresh N (lawful t) (t .n) (session.known b ok .chains) (applied (startValues b) (history b room cs)))
+    before-fresh = subst⁻¹ (Fresh N) before-is (worth-fresh t (inputs-below t (known .sound)) (made-below t (known .sound)) some (applied (startValues b) (history b room cs)) (session.old-determined b ok room cs p))
 
     row-holds : (v : ℕ) → v < t .n → nat row v ≡ reasonOf t v before
     row-holds v l = ap (λ z. nat z v) held ∙ over-at (λ u. reasonOf t u (old b room cs)) (t .n) first v 0 l ∙ ap (reasonOf t v) (sym before-is)
 
     module _ (r : Route) (asked : List ℕ) where
-      after-is : afresh N (moved mv before) (t .n) ≡ fresh b room (mv ∷ history b room cs)
+      after-is : worth t (moved mv before) ≡ fresh b room (mv ∷ history b room cs)
       after-is =
-          sym (fun-ext (route-fresh N (lawful t) (t .n) (session.known b ok .chains) r before (moved mv before) before-fresh))
-          ∙ ap (λ s. newValues t (valuesIn t s) r mv asked) is ∙ session.new-is b ok room cs p r mv asked
+          sym (fun-ext (route-worth t (inputs-below t (known .sound)) (made-below t (known .sound)) some (moved mv before) det before before-fresh r))
+          ∙ ap (λ s. newValues t (valuesIn t s) r mv asked) is
+          ∙ session.new-is b ok room cs p r mv asked (subst (λ (l : List ℤ). (v : ℕ) → determined t (moved mv (valuesIn t l)) v ≡ true) is det)
 
     -- of a variable asked, by any route
-    asked-reason : (r : Route) (asked : List ℕ) (v : ℕ) → v < t .n → List·Memᴰ v asked
+    asked-reason : (r : Route) (asked : List ℕ) → ((a : ℕ) → List·Memᴰ a asked → a < t .n) → (v : ℕ) → List·Memᴰ v asked
         → reasonAfter t (evaluates t before r mv asked) (newValues t before r mv asked) (nat row) v ≡ reasonOf t v (fresh b room (mv ∷ history b room cs))
-    asked-reason r asked v l m =
-        reason-fresh t (t .n) (session.known b ok .chains) r before (moved mv before) asked before-fresh (nat row) v (row-holds v l)
-        (asked-settled t (t .n) (session.known b ok .chains) r before (moved mv before) asked v m)
+    asked-reason r asked within v m =
+        reason-fresh t (known .sound) r before (moved mv before) asked within det before-fresh (nat row) v (row-holds v (within v m))
+        (asked-settled t (known .sound) r before (moved mv before) asked within v m)
         ∙ ap (reasonOf t v) (after-is r asked)
 
     -- of every variable, as keep and taking back store it
@@ -81,7 +95,7 @@ module _ (b : BuildLent) (first : List ℕ) (room : List ℕ × List ℤ) (ok : 
     moved-laid c same =
         ap (λ z. over (t .n) (reasonKept t (evaluates t before input-to-output z []) (newValues t before input-to-output z []) (nat row)) row) same
         ∙ over-same (reasonKept t (evaluates t before input-to-output mv []) (newValues t before input-to-output mv []) (nat row)) (t .n) row (λ v. reasonOf t v (fresh b room (mv ∷ history b room cs)))
-        (λ v l. kept-fresh t (t .n) (session.known b ok .chains) input-to-output before (moved mv before) [] before-fresh (nat row) v (row-holds v l) (λ h. h)
+        (λ v l. kept-fresh t (known .sound) input-to-output before (moved mv before) [] (λ a m. absurd (List·Memᴰ·not-nil m)) det before-fresh (nat row) v (row-holds v l) (λ h. h)
         ∙ ap (reasonOf t v) (after-is input-to-output []))
         ∙ ap (over (t .n) (λ v. reasonOf t v (fresh b room (mv ∷ history b room cs)))) held
         ∙ over-over (λ v. reasonOf t v (fresh b room (mv ∷ history b room cs))) (t .n) first (λ v. reasonOf t v (old b room cs))
@@ -101,15 +115,21 @@ module _ (b : BuildLent) (first : List ℕ) (room : List ℕ × List ℤ) (ok : 
         → leaves (verdictOf (after b room cs) call) other (history b room cs) ≡ leaves v other (history b room cs)
     kept-moves call v e other = ap (λ u. leaves u other (history b room cs)) (sym (verdict-is call) ∙ e)
 
-    -- the reasons after a keep or a taking back that was lent the session's own
-    keep-laid : (c : Kept) → movedReasons t (now .state .stored) c (now .reasons) ≡ laid (renewed b room cs (c .move))
-    keep-laid c = moved-laid cs (h .proper) (now .state .stored) (ap (λ (s : State). s .stored) (h .state)) (now .reasons) (h .held) (movePairs (c .move)) c refl
+    -- the reasons after an accepted keep or taking back that was lent the session's own
+    laid-by : (c : Kept) → ((v : ℕ) → determined t (moved (movePairs (c .move)) (valuesIn t (now .state .stored))) v ≡ true)
+        → movedReasons t (now .state .stored) c (now .reasons) ≡ laid (renewed b room cs (c .move))
+    laid-by c det = moved-laid cs (h .proper) (now .state .stored) (ap (λ (s : State). s .stored) (h .state)) (now .reasons) (h .held) (movePairs (c .move)) det c refl
 
-    take-laid : (flags : List ℕ) → verdictOf (after b room cs) (takes (ownModel b room) own flags) ≡ accepted
+    keep-laid : (c : Kept) → verdictOf (now .state) (keeps (ownModel b room) own c) ≡ accepted
+        → movedReasons t (now .state .stored) c (now .reasons) ≡ laid (renewed b room cs (c .move))
+    keep-laid c e = laid-by c (keep-known (now .state .session) (now .state .log) (modelOf (now .state) (ownModel b room)) c e .determined)
+
+    take-laid : (flags : List ℕ) → verdictOf (now .state) (takes (ownModel b room) own flags) ≡ accepted
         → movedReasons t (now .state .stored) (latest (now .state .log) flags) (now .reasons) ≡ laid (fresh b room (rest (history b room cs)))
     take-laid flags e =
-        keep-laid (latest (now .state .log) flags)
-        ∙ ap laid (ap (λ (s : State). fresh b room (movePairs (latest (s .log) flags .move) ∷ history b room cs)) (h .state) ∙ session.undone-is b ok room cs (h .proper) flags e)
+        laid-by (latest (now .state .log) flags) (take-known (now .state .session) (now .state .log) (modelOf (now .state) (ownModel b room)) flags e .determined)
+        ∙ ap laid (ap (λ (s : State). fresh b room (movePairs (latest (s .log) flags .move) ∷ history b room cs)) (h .state)
+        ∙ session.undone-is b ok room cs (h .proper) flags (sym (verdict-is (takes (ownModel b room) own flags)) ∙ e))
 
     module _ (r : Reasoning) where
       -- a keep or a taking back, by what it leaves
@@ -166,7 +186,7 @@ module _ (b : BuildLent) (first : List ℕ) (room : List ℕ × List ℤ) (ok : 
           go true e = moves l g (keep-roomy (now .state .session) (lentOf g (now .state .log)) (modelOf (now .state) l) (rowLent now r) c) e (keeps l g c) refl (proper-next (keeps l g c) (q e))
               (λ a. let o = q e a in
               ap (λ (z : Lends × Lent (List ℕ)). ownAfter (z .1) (movedReasons (z .0 .tables) (lentOf (z .0 .stored) (now .state .stored)) c (lentOf (z .1) (now .reasons))) (now .reasons)) (λ i. (o .0 i, o .2 i))
-              ∙ keep-laid c ∙ ap (λ ms. laid (fresh b room ms)) (sym (kept-moves (keeps l g c) accepted a (movePairs (c .move) ∷ history b room cs))))
+              ∙ keep-laid c (subst (λ (z : Lends × Lent Log). verdictOf (now .state) (keeps (z .0) (z .1) c) ≡ accepted) (λ i. (o .0 i, o .1 i)) a) ∙ ap (λ ms. laid (fresh b room ms)) (sym (kept-moves (keeps l g c) accepted a (movePairs (c .move) ∷ history b room cs))))
               (refused-moves (keeps l g c) (movePairs (c .move) ∷ history b room cs))
           go false e = unmoved l g (keep-roomy (now .state .session) (lentOf g (now .state .log)) (modelOf (now .state) l) (rowLent now r) c) e
       step-right (takes l g flags) q = go (hasRoom now r (takes l g flags)) refl
@@ -176,7 +196,7 @@ module _ (b : BuildLent) (first : List ℕ) (room : List ℕ × List ℤ) (ok : 
               (λ a. let o = q e a in
               let lent : _≡_ {A = Lends × (Lent Log × Lent (List ℕ))} (l, (g, r .reasons)) (ownModel b room, (own, own)) = λ i. (o .0 i, (o .1 i, o .2 i)) in
               ap (λ (z : Lends × (Lent Log × Lent (List ℕ))). ownAfter (z .1 .1) (movedReasons (z .0 .tables) (lentOf (z .0 .stored) (now .state .stored)) (latest (lentOf (z .1 .0) (now .state .log)) flags) (lentOf (z .1 .1) (now .reasons))) (now .reasons)) lent
-              ∙ take-laid flags (subst (λ (z : Lends × (Lent Log × Lent (List ℕ))). verdictOf (after b room cs) (takes (z .0) (z .1 .0) flags) ≡ accepted) lent (sym (verdict-is (takes l g flags)) ∙ a))
+              ∙ take-laid flags (subst (λ (z : Lends × (Lent Log × Lent (List ℕ))). verdictOf (now .state) (takes (z .0) (z .1 .0) flags) ≡ accepted) lent a)
               ∙ ap (λ ms. laid (fresh b room ms)) (sym (kept-moves (takes l g flags) accepted a (rest (history b room cs)))))
               (refused-moves (takes l g flags) (rest (history b room cs)))
           go false e = unmoved l g (take-roomy (now .state .session) (lentOf g (now .state .log)) (modelOf (now .state) l) (rowLent now r) flags) e
@@ -212,14 +232,14 @@ module _ (b : BuildLent) (first : List ℕ) (room : List ℕ × List ℤ) (ok : 
         by .given-by (g .0) (g .1)
         ∙ over-same (λ i. reasonAfter t (evaluates t (valuesIn t (s .stored)) (routeOf (c .route)) (movePairs (c .move)) (askedList c)) (newValues t (valuesIn t (s .stored)) (routeOf (c .route)) (movePairs (c .move)) (askedList c)) (nat (now .reasons)) (nat (c .askedVars) i))
         (c .asked) why (λ i. reasonOf t (nat (c .askedVars) i) (renewed b room cs (c .move)))
-        (λ i l. asked-reason b first room plain-ok cs (h .proper) (s .stored) (ap (λ (z : State). z .stored) (h .state)) (now .reasons) (h .held) (movePairs (c .move)) (routeOf (c .route)) (askedList c)
-        (nat (c .askedVars) i) (k .asked i l) (at-mem (c .asked) (c .askedVars) (k .asked-long) i l));
+        (λ i l. asked-reason b first room plain-ok cs (h .proper) (s .stored) (ap (λ (z : State). z .stored) (h .state)) (now .reasons) (h .held) (movePairs (c .move)) (k .determined) (routeOf (c .route)) (askedList c)
+        (mem-low (c .asked) (c .askedVars) (t .n) (k .asked)) (nat (c .askedVars) i) (at-mem (c .asked) (c .askedVars) (k .asked-long) i l));
     keep-accepted = λ c e.
         let s = now .state in let by = keep-roomy (s .session) (s .log) (modelOf s (ownModel b room)) (now .reasons) c in let g = by .good e in
-        by .given-by (g .0) (g .1) ∙ keep-laid b first room plain-ok now cs h c;
+        by .given-by (g .0) (g .1) ∙ keep-laid b first room plain-ok now cs h c (g .1);
     take-accepted = λ flags e.
         let s = now .state in let by = take-roomy (s .session) (s .log) (modelOf s (ownModel b room)) (now .reasons) flags in let g = by .good e in
-        by .given-by (g .0) (g .1) ∙ take-laid b first room plain-ok now cs h flags (sym (verdict-is b first room plain-ok now cs h (takes (ownModel b room) own flags)) ∙ g .1);
+        by .given-by (g .0) (g .1) ∙ take-laid b first room plain-ok now cs h flags (g .1);
   }
     where
       t : Tables

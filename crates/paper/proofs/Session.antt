@@ -17,6 +17,7 @@ use Rattle.paper.specs.Lists.{tally, nat, size, below, over}
 use Rattle.paper.specs.Formula.{blank}
 use Rattle.paper.specs.Net.{Net, Values, Route, input-to-output, afresh, new, moved, names, evaluated}
 use Rattle.paper.specs.Tables.{Tables, net, isMade, valuesIn}
+use Rattle.paper.specs.Chains.{worth, determined}
 use Rattle.paper.specs.Checks.{Verdict, accepted, refused, leaves, sized, within, movePairs}
 use Rattle.paper.specs.Log.{Log, logIn, logged, back, logGood, dropped}
 use Rattle.paper.specs.Calls.{Session, blanksAmong, Answer, Refused, numberOf, evaluationsOf, newValues, evaluates, BuildLent, BuildLeft, startValues, build, Model, Tried, TrialLeft, askedList, routeOf, trialVerdict, trialLeaves, trial, Kept, KeepLeft, storedValues, keptBlanks, keptStored, keepVerdict, keepLeaves, keep, latest, takeVerdict, takeLeaves, takeBack}
@@ -24,11 +25,11 @@ use Rattle.paper.specs.Demands.{keepAsWas, evaluatedBy, Lent, own, anoth
 use Rattle.paper.proofs.Verdicts.{refused-stays}
 use Rattle.paper.proofs.Lists.{and-right, each}
 use Rattle.paper.proofs.Buffers.{length-below, getD-below, over-front, over-over, ones-below}
-use Rattle.paper.proofs.Lawful.{lawful}
-use Rattle.paper.proofs.Accept.{made-below}
-use Rattle.paper.proofs.Fresh.{unnamed, afresh-equation, afresh-search}
-use Rattle.paper.proofs.Routes.{step-fresh}
-use Rattle.paper.proofs.Known.{BuildKnown, build-known, MoveKnown, named-below, KeepKnown, keep-known, TakeKnown, take-known, latest-known}
+use Rattle.paper.proofs.Sizes.{sized-facts}
+use Rattle.paper.proofs.Accept.{made-below, inputs-below}
+use Rattle.paper.proofs.Fresh.{Alike, moved-alike, unnamed}
+use Rattle.paper.proofs.Needs.{search-determined, determined-alike, step-worth}
+use Rattle.paper.proofs.Known.{BuildKnown, build-known, MoveKnown, named-below, trial-known, KeepKnown, keep-known, TakeKnown, take-known, latest-known}
 use Rattle.paper.proofs.Outcomes.{build-judged, trial-judged, keep-judged, take-judged}
 use Rattle.paper.proofs.Log.{Undoes, undoes-low, undoes-latest, good-log, dropped-logged, dropped-good, dropped-undoes, noted-logged, noted-good, noted-undoes}
 
@@ -60,10 +61,14 @@ module _ (b : BuildLent) (ok : numberOf (build b .answer) ≡ 0) where
   pub known : BuildKnown b
   known = build-known b (build-judged b .good ok)
 
+  some : 0 < b .tables .n
+  some = sized-facts t (known .sound .sized) .n-some
+
   -- ── a row of stored values that are fresh ──
-  -- the row has the fresh values of s, and s is 0 beyond the variables
+  -- the row has the fresh values of s, all of them determined, and s is 0 beyond the variables
   pub record Holds (row : List ℤ) (s : Values) : Type 0 where
     pub row-is : row ≡ over (t .n) (afresh N s (t .n)) (b .stored)
+    pub determined : (v : ℕ) → determined t s v ≡ true
     pub ended : (v : ℕ) → t .n ≤ v → s v ≡ pos 0
 
   values-in : (row : List ℤ) (s : Values) → Holds row s → valuesIn t row ≡ afresh N s (t .n)
@@ -73,11 +78,11 @@ module _ (b : BuildLent) (ok : numberOf (build b .answer) ≡ 0) where
       f = afresh N s (t .n)
 
       beyond : (v : ℕ) → t .n ≤ v → f v ≡ pos 0
-      beyond v l = afresh-equation N (lawful t) (t .n) (known .chains) s v ∙ side (isMade t v) refl
+      beyond v l = side (isMade t v) refl
         where
-          side : (x : Bool) → isMade t v ≡ x → cond x (N .form v f) (s v) ≡ pos 0
+          side : (x : Bool) → isMade t v ≡ x → f v ≡ pos 0
           side true e = let k = made-below t (known .sound) v e in absurd (lt-irrefl v (omega arith))
-          side false e = h .ended v l
+          side false e = search-determined t s v some e .1 ∙ h .ended v l
 
       go : (v : ℕ) (x : Bool) → ltb v (t .n) ≡ x → getD (below f (t .n)) v (pos 0) ≡ f v
       go v true e = getD-below f (t .n) v (pos 0) (ltb-true v (t .n) e)
@@ -85,20 +90,31 @@ module _ (b : BuildLent) (ok : numberOf (build b .answer) ≡ 0) where
           let l = ltb-false v (t .n) e in let k = length-below f (t .n) in
           List·getD-eq-default (below f (t .n)) (pos 0) (omega arith) ∙ sym (beyond v l)
 
-  -- over it each route's new values are fresh
-  new-fresh : (row : List ℤ) (s : Values) → Holds row s → (r : Route) (mv : List (ℕ × ℤ))
+  -- a move over it leaves every variable determined
+  abbrev Stays : List ℤ → List (ℕ × ℤ) → Type 0
+  Stays row mv = (v : ℕ) → determined t (moved mv (valuesIn t row)) v ≡ true
+
+  stays-determined : (row : List ℤ) (s : Values) → Holds row s → (mv : List (ℕ × ℤ)) → Stays row mv → (v : ℕ) → determined t (moved mv s) v ≡ true
+  stays-determined row s h mv det v =
+      let alike : Alike N (valuesIn t row) s = λ u e. ap (λ (f : Values). f u) (values-in row s h) ∙ search-determined t s u some e .1 in
+      sym (ap (λ (p : ℕ → Bool). p v) (determined-alike t (moved mv (valuesIn t row)) (moved mv s) (moved-alike N mv (valuesIn t row) s alike))) ∙ det v
+
+  -- then each route's new values are fresh
+  new-fresh : (row : List ℤ) (s : Values) → Holds row s → (r : Route) (mv : List (ℕ × ℤ)) → Stays row mv
       → new N r (valuesIn t row) (moved mv (valuesIn t row)) (t .n) ≡ afresh N (moved mv s) (t .n)
-  new-fresh row s h r mv =
+  new-fresh row s h r mv det =
       ap (λ o. new N r o (moved mv o) (t .n)) (values-in row s h)
-      ∙ fun-ext (step-fresh N (lawful t) (t .n) (known .chains) r mv (afresh N s (t .n)) s (λ v. refl))
+      ∙ fun-ext (step-worth t (inputs-below t (known .sound)) (made-below t (known .sound)) some r mv (worth t s) s (h .determined) (stays-determined row s h mv det) (λ v. refl))
 
   -- ── a move put into such a row by route 1, as keep and taking back do ──
-  move-holds : (row : List ℤ) (s : Values) → Holds row s → (c : Kept) → MoveKnown t (b .bounds) (c .move) → Holds (keptStored t row c) (moved (movePairs (c .move)) s)
-  move-holds row s h c move = record {
+  move-holds : (row : List ℤ) (s : Values) → Holds row s → (c : Kept) → MoveKnown t (b .bounds) (c .move) → Stays row (movePairs (c .move))
+      → Holds (keptStored t row c) (moved (movePairs (c .move)) s)
+  move-holds row s h c move det = record {
     row-is =
-        ap (λ f. over (t .n) f row) (new-fresh row s h input-to-output (movePairs (c .move)))
+        ap (λ f. over (t .n) f row) (new-fresh row s h input-to-output (movePairs (c .move)) det)
         ∙ ap (over (t .n) (afresh N (moved (movePairs (c .move)) s) (t .n))) (h .row-is)
         ∙ over-over (afresh N (moved (movePairs (c .move)) s) (t .n)) (t .n) (b .stored) (afresh N s (t .n));
+    determined = stays-determined row s h (movePairs (c .move)) det;
     ended = λ v l. go v l (names (movePairs (c .move)) v) refl;
   }
     where
@@ -107,8 +123,9 @@ module _ (b : BuildLent) (ok : numberOf (build b .answer) ≡ 0) where
       go v l false q = unnamed (movePairs (c .move)) s v q ∙ h .ended v l
 
   -- the number of blanks that it leaves
-  move-blanks : (row : List ℤ) (s : Values) → Holds row s → (c : Kept) → keptBlanks t row c ≡ blanksAmong (t .n) (afresh N (moved (movePairs (c .move)) s) (t .n))
-  move-blanks row s h c = ap (blanksAmong (t .n)) (new-fresh row s h input-to-output (movePairs (c .move)))
+  move-blanks : (row : List ℤ) (s : Values) → Holds row s → (c : Kept) → Stays row (movePairs (c .move))
+      → keptBlanks t row c ≡ blanksAmong (t .n) (afresh N (moved (movePairs (c .move)) s) (t .n))
+  move-blanks row s h c det = ap (blanksAmong (t .n)) (new-fresh row s h input-to-output (movePairs (c .move)) det)
 
   -- ── what holds after a run of that many calls, with these moves kept and not taken back ──
   -- the row has the fresh values, the record their number of blanks, the log is good and undoes the latest of the moves, and the number kept is
@@ -142,8 +159,8 @@ module _ (b : BuildLent) (ok : numberOf (build b .answer) ≡ 0) where
       keep-stands c e =
           subst⁻¹ (λ (x : KeepLeft). Stands (x .session .kept) (x .session .blanks) (x .stored) (x .log) (movePairs (c .move) ∷ moves) (suc calls)) (keep-judged (now .session) (now .log) (mine now) c .is accepted e)
           (let log = has .log in let within = h .within in record {
-            holds = move-holds (now .stored) (applied (startValues b) moves) (h .holds) c (has .move);
-            blank = move-blanks (now .stored) (applied (startValues b) moves) (h .holds) c;
+            holds = move-holds (now .stored) (applied (startValues b) moves) (h .holds) c (has .move) (has .determined);
+            blank = move-blanks (now .stored) (applied (startValues b) moves) (h .holds) c (has .determined);
             good = noted-good t (b .bounds) (now .log) (now .session .kept) (has .log) (storedValues (mine now)) (c .move) (has .move) (min (suc (now .session .kept)) 4294967295) (omega arith) full within-bounds;
             undoes = noted-undoes t (b .bounds) (now .log) (now .session .kept) (has .log) (storedValues (mine now)) (c .move) (has .move) (startValues b) moves same (h .undoes);
             counted = λ l. let k = h .counted (omega arith) in omega arith;
@@ -163,7 +180,7 @@ module _ (b : BuildLent) (ok : numberOf (build b .answer) ≡ 0) where
 
           same : (i : ℕ) → i < c .move .pairs → valuesIn (b .tables) (now .stored) (nat (c .move .vars) i) ≡ applied (startValues b) moves (nat (c .move .vars) i)
           same i l = let v = nat (c .move .vars) i in let s = applied (startValues b) moves in
-              ap (λ (f : Values). f v) (values-in (now .stored) s (h .holds)) ∙ afresh-search N (lawful t) (t .n) (known .chains) s v (has .move .search i l)
+              ap (λ (f : Values). f v) (values-in (now .stored) s (h .holds)) ∙ search-determined t s v some (has .move .search i l) .1
 
       -- an accepted taking back with the same
       take-stands : (flags : List ℕ) → takeVerdict (now .session) (now .log) (mine now) flags ≡ accepted
@@ -183,8 +200,8 @@ module _ (b : BuildLent) (ok : numberOf (build b .answer) ≡ 0) where
               → Stands fewer (keptBlanks (b .tables) (now .stored) (latest (now .log) flags)) (keptStored (b .tables) (now .stored) (latest (now .log) flags)) (dropped (now .log)) (rest moves) (suc calls)
           with-kept fewer low counted within = record {
             holds = subst (Holds (keptStored t (now .stored) (latest (now .log) flags))) (undone .0)
-                (move-holds (now .stored) (applied (startValues b) moves) (h .holds) (latest (now .log) flags) (latest-known (now .session) (now .log) (mine now) flags has));
-            blank = move-blanks (now .stored) (applied (startValues b) moves) (h .holds) (latest (now .log) flags) ∙ ap (λ s. blanksAmong (t .n) (afresh N s (t .n))) (undone .0);
+                (move-holds (now .stored) (applied (startValues b) moves) (h .holds) (latest (now .log) flags) (latest-known (now .session) (now .log) (mine now) flags has) (has .determined));
+            blank = move-blanks (now .stored) (applied (startValues b) moves) (h .holds) (latest (now .log) flags) (has .determined) ∙ ap (λ s. blanksAmong (t .n) (afresh N s (t .n))) (undone .0);
             good = dropped-good t (b .bounds) (now .log) (now .session .kept) (has .log) fewer low;
             undoes = dropped-undoes t (b .bounds) (now .log) (now .session .kept) (has .log) (startValues b) (rest moves) (undone .1);
             counted = counted;
@@ -241,7 +258,7 @@ module _ (b : BuildLent) (ok : numberOf (build b .answer) ≡ 0) where
     stands-first =
         subst⁻¹ (λ (x : BuildLeft). Stands (x .session .kept) (x .session .blanks) (x .stored) (logIn (x .logSizes) (room .0) (room .1)) [] 0) (build-judged b .is accepted (build-judged b .good ok))
         (record {
-          holds = record { row-is = refl; ended = λ v l. List·getD-eq-default (take (t .n) (b .starts)) (pos 0) (simp length-take (omega arith)) };
+          holds = record { row-is = refl; determined = known .determined; ended = λ v l. List·getD-eq-default (take (t .n) (b .starts)) (pos 0) (simp length-take (omega arith)) };
           blank = refl;
           good = good-log (logIn (set (b .logSizes) 0 0) (room .0) (room .1)) t (b .bounds) 0 (omega (arith, none)) (omega (arith, none)) (λ k l. let z = none in absurd (lt-irrefl 0 (omega arith)));
           undoes = subst⁻¹ (λ n. Undoes (startValues b) (back (logIn (set (b .logSizes) 0 0) (room .0) (room .1))) n []) none tt;
@@ -267,8 +284,13 @@ module _ (b : BuildLent) (ok : numberOf (build b .answer) ≡ 0) where
       pub old-is : valuesIn t (after b room cs .stored) ≡ old b room cs
       old-is = values-in (after b room cs .stored) (applied (startValues b) (history b room cs)) holds
 
-      pub new-is : (r : Route) (mv : List (ℕ × ℤ)) (asked : List ℕ) → newValues t (valuesIn t (after b room cs .stored)) r mv asked ≡ fresh b room (mv ∷ history b room cs)
-      new-is r mv asked = new-fresh (after b room cs .stored) (applied (startValues b) (history b room cs)) holds r mv
+      -- every variable is determined, by the stored values' own search variables
+      pub old-determined : (v : ℕ) → determined t (applied (startValues b) (history b room cs)) v ≡ true
+      old-determined = holds .determined
+
+      pub new-is : (r : Route) (mv : List (ℕ × ℤ)) (asked : List ℕ) → ((v : ℕ) → determined t (moved mv (valuesIn t (after b room cs .stored))) v ≡ true)
+          → newValues t (valuesIn t (after b room cs .stored)) r mv asked ≡ fresh b room (mv ∷ history b room cs)
+      new-is r mv asked det = new-fresh (after b room cs .stored) (applied (startValues b) (history b room cs)) holds r mv det
 
       set-is : (r : Route) (mv : List (ℕ × ℤ)) (asked : List ℕ)
           → evaluates t (valuesIn t (after b room cs .stored)) r mv asked ≡ evaluated N r (old b room cs) (moved mv (old b room cs)) asked (t .n)
@@ -294,10 +316,10 @@ module _ (b : BuildLent) (ok : numberOf (build b .answer) ≡ 0) where
 
       pub trial-right : (c : Tried) → numberOf (tried b room cs (ownModel b room) c .answer) ≡ 0 → TrialRight b room cs (ownModel b room) c
       trial-right c h = record {
-        results = ap (λ (x : TrialLeft). x .results) left ∙ ap (λ (f : Values). over (c .asked) (λ i. f (nat (c .askedVars) i)) (c .results)) (new-is r mv asked);
+        results = ap (λ (x : TrialLeft). x .results) left ∙ ap (λ (f : Values). over (c .asked) (λ i. f (nat (c .askedVars) i)) (c .results)) (new-is r mv asked det);
         row =
             ap (λ (x : TrialLeft). x .trial) left
-            ∙ ap (λ (f : Values). over (t .n) (λ v. cond (names mv v || evaluates t stored r mv asked v) (f v) (stored v)) (c .trial)) (new-is r mv asked)
+            ∙ ap (λ (f : Values). over (t .n) (λ v. cond (names mv v || evaluates t stored r mv asked v) (f v) (stored v)) (c .trial)) (new-is r mv asked det)
             ∙ ap (λ (q : ℕ → Bool). over (t .n) (λ v. cond (names mv v || q v) (renewed b room cs (c .move) v) (stored v)) (c .trial)) (set-is r mv asked)
             ∙ ap (λ (f : Values). over (t .n) (λ v. cond (names mv v || triedSet b room cs (ownModel b room) c v) (renewed b room cs (c .move) v) (f v)) (c .trial)) old-is;
         told = told-by (triedSet b room cs (ownModel b room) c) (c .flags) (set-is r mv asked) (ap (λ (x : TrialLeft). evaluationsOf (x .answer)) left) (ap (λ (x : TrialLeft). x .flags) left);
@@ -317,8 +339,14 @@ module _ (b : BuildLent) (ok : numberOf (build b .answer) ≡ 0) where
           stored : Values
           stored = valuesIn t (after b room cs .stored)
 
+          good : trialVerdict (after b room cs .session) (mine (after b room cs)) c ≡ accepted
+          good = trial-judged (after b room cs .session) (mine now) c .good h
+
+          det : (v : ℕ) → determined (b .tables) (moved (movePairs (c .move)) (valuesIn (b .tables) (after b room cs .stored))) v ≡ true
+          det = trial-known (now .session) (mine now) c good .determined
+
           left : tried b room cs (ownModel b room) c ≡ trialLeaves (mine now) c (after b room cs .session) accepted
-          left = trial-judged (after b room cs .session) (mine now) c .is accepted (trial-judged (after b room cs .session) (mine now) c .good h)
+          left = trial-judged (after b room cs .session) (mine now) c .is accepted good
 
       pub keep-right : (c : Kept) → numberOf (kept b room cs (ownModel b room) own c .answer) ≡ 0 → KeepRight b room cs (ownModel b room) own c
       keep-right c h = record {
@@ -329,7 +357,7 @@ module _ (b : BuildLent) (ok : numberOf (build b .answer) ≡ 0) where
             (ap (λ (x : KeepLeft). evaluationsOf (x .answer)) left) (ap (λ (x : KeepLeft). x .flags) left);
         session = ap (λ (x : KeepLeft). x .session) left ∙ sym (ap (λ (x : KeepLeft). record { kept = min (suc (now .session .kept)) 4294967295; evaluations = evaluationsOf (x .answer); blanks = keptBlanks t (now .stored) c }) left)
             ∙ ap (λ k. record { kept = min (suc (now .session .kept)) 4294967295; evaluations = evaluationsOf (kept b room cs (ownModel b room) own c .answer); blanks = k })
-            (move-blanks (now .stored) (applied (startValues b) (history b room cs)) holds c);
+            (move-blanks (now .stored) (applied (startValues b) (history b room cs)) holds c (has .determined));
         more =
             ap (λ (x : KeepLeft). logged (x .log)) left ∙ noted-logged t (b .bounds) (now .log) (now .session .kept) (has .log) (storedValues (mine now)) (c .move) (has .move) ∙ omega arith;
       }

@@ -10,9 +10,10 @@ use lib.ListN.{length, set, take, drop}
 use Rattle.integers.specs.Integers.{eqZ}
 use Rattle.paper.specs.Lists.{every, between, nat, size, over}
 use Rattle.paper.specs.Formula.{blank}
-use Rattle.paper.specs.Net.{Values, Route, input-to-output, output-to-input, mark-guided, number, afresh, new, evaluated, moved, names}
-use Rattle.paper.specs.Tables.{Tables, Index, net, valuesIn, ends, order, index}
-use Rattle.paper.specs.Checks.{Verdict, accepted, refused, check, require, leaves, sized, Bounds, tableChecks, numbered, indexed, startAllowed, storedAllowed, Move, movePairs, moveFits, pairWithin, moveChecks}
+use Rattle.paper.specs.Net.{Values, Route, input-to-output, output-to-input, mark-guided, new, evaluated, moved, names}
+use Rattle.paper.specs.Tables.{Tables, Index, net, valuesIn, index}
+use Rattle.paper.specs.Chains.{permitted, groupNumber, groupOrder, worth, determined, groupsNumbered}
+use Rattle.paper.specs.Checks.{Verdict, accepted, refused, check, require, leaves, sized, Bounds, tableChecks, indexed, startAllowed, storedAllowed, Move, movePairs, moveFits, pairWithin, moveChecks, freshChecks}
 use Rattle.paper.specs.Log.{Log, logged, back, logFits, logGood, noted, dropped}
 
 -- the session record: moves kept, evaluations of the last accepted call, and how many stored values are blank
@@ -107,15 +108,16 @@ module _ (l : BuildLent) where
 
   unfoldable pub buildVerdict : Verdict
   buildVerdict = let t = l .tables in
-      require 1 0 buildFits (tableChecks t (l .bounds) (check 6 (t .n) (ends t) (check 7 (t .n) (startAllowed t (l .bounds) startValues) accepted)))
+      require 1 0 buildFits (tableChecks t (l .bounds) (check 6 (t .n) (permitted t) (check 7 (t .n) (startAllowed t (l .bounds) startValues)
+      (check 20 (t .n) (determined t startValues) accepted))))
 
   abbrev pub buildLeaves : Verdict → BuildLeft
   buildLeaves v = let t = l .tables in record {
     answer = answered v (t .m);
-    session = leaves v (record { kept = 0; evaluations = t .m; blanks = blanksAmong (t .n) (afresh (net t) startValues (t .n)) }) (l .session);
-    numbers = leaves v (over (t .n) (number (net t) (t .n)) (l .numbers)) (l .numbers);
-    order = leaves v (order t ++ drop (t .m) (l .order)) (l .order);
-    stored = leaves v (over (t .n) (afresh (net t) startValues (t .n)) (l .stored)) (l .stored);
+    session = leaves v (record { kept = 0; evaluations = t .m; blanks = blanksAmong (t .n) (worth t startValues) }) (l .session);
+    numbers = leaves v (over (t .n) (groupNumber t) (l .numbers)) (l .numbers);
+    order = leaves v (groupOrder t ++ drop (t .m) (l .order)) (l .order);
+    stored = leaves v (over (t .n) (worth t startValues) (l .stored)) (l .stored);
     index = leaves v (index t (l .index)) (l .index);
     logSizes = leaves v (set (l .logSizes) 0 0) (l .logSizes);
   }
@@ -143,7 +145,7 @@ module _ (w : Model) where
   -- checks 2, 3, 4, 5, 8, 19, 7; `blanks` is the record's number of blanks
   abbrev pub modelChecks : ℕ → Verdict → Verdict
   modelChecks blanks next = let t = w .tables in
-      tableChecks t (w .bounds) (require 8 0 (numbered t (w .numbers) (w .order)) (require 8 0 (indexed t (w .index))
+      tableChecks t (w .bounds) (require 8 0 (groupsNumbered t (w .numbers) (w .order)) (require 8 0 (indexed t (w .index))
       (require 19 0 (eqb blanks (blanksAmong (t .n) storedValues)) (check 7 (t .n) (storedAllowed t (w .bounds) storedValues) next))))
 
   -- checks 10, 11, 12, 17 of a move
@@ -196,7 +198,7 @@ module _ (w : Model) (c : Tried) where
 unfoldable pub trialVerdict : Session → Model → Tried → Verdict
 trialVerdict s w c = let t = w .tables in
     require 1 0 (trialFits w c) (modelChecks w (s .blanks) (require 9 0 (between 1 (c .route) 3)
-    (changeChecks w (c .move) (check 13 (c .asked) (λ i. ltb (nat (c .askedVars) i) (t .n)) accepted))))
+    (changeChecks w (c .move) (check 13 (c .asked) (λ i. ltb (nat (c .askedVars) i) (t .n)) (freshChecks t (storedValues w) (c .move))))))
 
 unfoldable pub trial : Session → Model → Tried → TrialLeft
 trial s w c = trialLeaves w c s (trialVerdict s w c)
@@ -244,7 +246,8 @@ keepFits l w c = every (modelFits w ∷ moveFits (c .move) ∷ leb (w .tables .n
 module _ (s : Session) (l : Log) (w : Model) (c : Kept) where
   unfoldable pub keepVerdict : Verdict
   keepVerdict = let t = w .tables in
-      require 1 0 (keepFits l w c) (modelChecks w (s .blanks) (changeChecks w (c .move) (require 16 0 (logGood l t (w .bounds) (s .kept)) accepted)))
+      require 1 0 (keepFits l w c) (modelChecks w (s .blanks) (changeChecks w (c .move) (require 16 0 (logGood l t (w .bounds) (s .kept))
+      (freshChecks t (storedValues w) (c .move)))))
 
   -- one more move kept, and it is noted
   abbrev pub keepLeaves : Verdict → KeepLeft
@@ -263,7 +266,8 @@ takeFits l w flags = every (modelFits w ∷ leb (w .tables .n) (length flags) �
 module _ (s : Session) (l : Log) (w : Model) (flags : List ℕ) where
   unfoldable pub takeVerdict : Verdict
   takeVerdict = let t = w .tables in
-      require 1 0 (takeFits l w flags) (modelChecks w (s .blanks) (require 16 0 (logGood l t (w .bounds) (s .kept)) (require 15 0 (ltb 0 (logged l)) accepted)))
+      require 1 0 (takeFits l w flags) (modelChecks w (s .blanks) (require 16 0 (logGood l t (w .bounds) (s .kept)) (require 15 0 (ltb 0 (logged l))
+      (freshChecks t (storedValues w) (latest l flags .move)))))
 
   -- one move kept fewer unless the number stands at its ceiling, and the log is without it
   abbrev pub takeLeaves : Verdict → KeepLeft

@@ -10,8 +10,9 @@ use lib.ListN.{length, getD, take}
 use Rattle.integers.specs.Integers.{eqZ}
 use Rattle.paper.specs.Lists.{any, all, every, between, total, nat, firstFail, joined, allBelow, below}
 use Rattle.paper.specs.Formula.{blank, inRange}
-use Rattle.paper.specs.Net.{Values, number}
+use Rattle.paper.specs.Net.{Values, number, moved}
 use Rattle.paper.specs.Tables.{Tables, Index, part, isMade, net, ends, order, readers, readersStart}
+use Rattle.paper.specs.Chains.{determined, storedFresh}
 
 pub data Verdict : Type 0 where
   accepted : Verdict
@@ -127,7 +128,7 @@ module _ (t : Tables) where
   abbrev pub storedAllowed : Bounds → Values → ℕ → Bool
   storedAllowed b old v = storedGood old v && inBounds b old v
 
-  -- 8: chains of inputs end, and the lent numbers and order are what build gives
+  -- 8 where no chain of inputs closes: each ends, and the lent numbers and order are what build gives
   abbrev pub numbered : List ℕ → List ℕ → Bool
   numbered nums ord =
       every (
@@ -175,6 +176,10 @@ module _ (mv : Move) where
   -- checks 10 to 12
   abbrev pub moveChecks : Tables → Verdict → Verdict
   moveChecks t next = check 10 (mv .pairs) (movable t) (check 11 (mv .pairs) namedOnce (check 12 (mv .pairs) hasValue next))
+
+-- 21, and then 20 from the search variables' new values: over stored values `old`, with a move
+abbrev pub freshChecks : Tables → Values → Move → Verdict
+freshChecks t old mv = check 21 (t .n) (storedFresh t old) (check 20 (t .n) (determined t (moved (movePairs mv) old)) accepted)
 
 -- ── checks 1 to 5 are passed: what code may rely on ──
 pub record Sound (t : Tables) : Type 0 where

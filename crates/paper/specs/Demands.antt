@@ -1,16 +1,19 @@
 -- Runs of calls, and the three demands as statements over the definitions. `proofs/Demands.antt` proves them. Assumes nothing.
 use Prim.Native.Nat.{ℕ, suc, pred, min, _≤_, _<_}
-use mathlib.Core.Bool.{Bool, true, cond, not, _&&_, _||_}
+use mathlib.Core.Bool.{Bool, true, false, cond, not, _&&_, _||_}
 use mathlib.Core.List.{List, [], _∷_, _++_}
+use mathlib.Core.Logic.{_⊎_}
 use mathlib.Core.Path.{_≡_}
 use lib.IntN.{ℤ, pos}
 use lib.Dec.{eqb, leb, ltb}
 use lib.ListN.{length, getD, set, take, drop}
 use mir.Syntax.{w16, w32}
 use mir.Val.{SFits}
-use Rattle.paper.specs.Lists.{nat, size, tally, over}
-use Rattle.paper.specs.Net.{Net, Values, Route, Depends, numbering, number, valuation, afresh, moved, names, evaluated, input-to-output}
-use Rattle.paper.specs.Tables.{Tables, Index, lent, net, inputsOf, order, index}
+use Rattle.paper.specs.Lists.{between, nat, size, tally, over}
+use Rattle.paper.specs.Net.{Values, Route, valuation, afresh, moved, names, evaluated, input-to-output}
+use Rattle.paper.specs.Tables.{Tables, Index, lent, net, index}
+use Rattle.paper.specs.Chains.{groupNumbering, groupNumber, groupOrder, worth, determined}
+use Rattle.paper.specs.Permitted.{Chain}
 use Rattle.paper.specs.Checks.{Verdict, accepted, refused, require, leaves, Bounds, lowest, highest, tableChecks, Move, movePairs}
 use Rattle.paper.specs.Log.{Log, logIn, logged, logGood}
 use Rattle.paper.specs.Calls.{Session, blanksAmong, Answer, Accepted, numberOf, placeOf, evaluationsOf, BuildLent, BuildLeft, startValues, buildFits, build, Model, Tried, TrialLeft, askedList, routeOf, trial, trialVerdict, Kept, KeepLeft, keep, keepVerdict, latest, takeBack, takeVerdict}
@@ -28,17 +31,17 @@ trialAsWas s c answer = record { answer = answer; session = s; results = c .resu
 abbrev pub keepAsWas : Session → Log → Model → List ℕ → Answer → KeepLeft
 keepAsWas s l w flags answer = record { answer = answer; session = s; stored = w .stored; flags = flags; log = l }
 
--- build gives 1 to 7; trial all of 1 to 13 but 6, 17 and 19; keep the same except 9 and 13, and 16; taking back 1 to 8 but 6, 15, 16 and 19
+-- build gives 1 to 7 and 20; trial all of 1 to 13 but 6, 17 and 19 to 21; keep the same except 9 and 13, and 16; taking back 1 to 8 but 6, 15, 16 and 19 to 21
 pub record Demand1 : Type 0 where
-  pub build-number : (l : BuildLent) → leb (numberOf (build l .answer)) 7 ≡ true
+  pub build-number : (l : BuildLent) → let k = numberOf (build l .answer) in (leb k 7 || eqb k 20) ≡ true
   pub build-refused : (l : BuildLent) → (numberOf (build l .answer) ≡ 0 → ⊥) → build l ≡ buildAsWas l (build l .answer)
-  pub trial-number : (s : Session) (w : Model) (c : Tried) → let k = numberOf (trial s w c .answer) in ((leb k 13 && not (eqb k 6)) || eqb k 17 || eqb k 19) ≡ true
+  pub trial-number : (s : Session) (w : Model) (c : Tried) → let k = numberOf (trial s w c .answer) in ((leb k 13 && not (eqb k 6)) || eqb k 17 || between 19 k 21) ≡ true
   pub trial-refused : (s : Session) (w : Model) (c : Tried) → (numberOf (trial s w c .answer) ≡ 0 → ⊥) → trial s w c ≡ trialAsWas s c (trial s w c .answer)
   pub keep-number : (s : Session) (l : Log) (w : Model) (c : Kept) → let k = numberOf (keep s l w c .answer) in
-      ((leb k 12 && not (eqb k 6) && not (eqb k 9)) || eqb k 16 || eqb k 17 || eqb k 19) ≡ true
+      ((leb k 12 && not (eqb k 6) && not (eqb k 9)) || eqb k 16 || eqb k 17 || between 19 k 21) ≡ true
   pub keep-refused : (s : Session) (l : Log) (w : Model) (c : Kept) → (numberOf (keep s l w c .answer) ≡ 0 → ⊥) → keep s l w c ≡ keepAsWas s l w (c .flags) (keep s l w c .answer)
   pub take-number : (s : Session) (l : Log) (w : Model) (flags : List ℕ) → let k = numberOf (takeBack s l w flags .answer) in
-      ((leb k 8 && not (eqb k 6)) || eqb k 15 || eqb k 16 || eqb k 19) ≡ true
+      ((leb k 8 && not (eqb k 6)) || eqb k 15 || eqb k 16 || between 19 k 21) ≡ true
   pub take-refused : (s : Session) (l : Log) (w : Model) (flags : List ℕ) → (numberOf (takeBack s l w flags .answer) ≡ 0 → ⊥)
       → takeBack s l w flags ≡ keepAsWas s l w flags (takeBack s l w flags .answer)
   pub write-refused : (t : Tables) (starts : List ℤ) (bytes : List ℕ) → (write t starts bytes .0 ≡ accepted → ⊥) → write t starts bytes ≡ (refused 1 0, bytes)
@@ -49,29 +52,26 @@ pub record Demand1 : Type 0 where
   pub convert-refused : (from to : Version) (bytes file : List ℕ) → (convert from to bytes file .0 ≡ accepted → ⊥) → convert from to bytes file .1 ≡ (0, file)
 
 -- ── demand 2: numbers, values and files are what the paper says ──
-module _ (N : Net) where
-  -- a table of numbers meets the paper's sentence at v and at all that v depends on
-  pub record Meets (num : ℕ → ℕ) (v : ℕ) : Type 0 where
-    pub here : num v ≡ numbering N num v
-    pub further : (w : ℕ) → Depends (N .ins) v w → num w ≡ numbering N num w
+-- v is on a closed chain that is not permitted: it passes through no candidate, or through an index. A closed chain may begin at any of its variables
+pub record Barred (t : Tables) (v : ℕ) : Type 0 where
+  pub candidate : Bool
+  pub index : Bool
+  pub chain : Chain t v v candidate index
+  pub barred : (candidate ≡ false) ⊎ (index ≡ true)
 
-  -- v can have a topological number
-  abbrev pub CanHave : ℕ → Type 0
-  CanHave v = (num : ℕ → ℕ) × Meets num v
-
--- the least variable that can have no topological number
-pub record LeastUnnumbered (t : Tables) (place : ℕ) : Type 0 where
+-- the least variable on one
+pub record LeastBarred (t : Tables) (place : ℕ) : Type 0 where
   pub low : place < t .n
-  pub cannot : CanHave (net t) place → ⊥
-  pub can : (v : ℕ) → v < place → CanHave (net t) v
+  pub here : Barred t place
+  pub before : (v : ℕ) → v < place → Barred t v → ⊥
 
 module _ (b : BuildLent) where
   abbrev t : Tables
   t = b .tables
 
-  -- some variable depends on itself
+  -- some closed chain is not permitted
   abbrev pub Circular : Type 0
-  Circular = (v : ℕ) × Depends (inputsOf t) v v
+  Circular = (v : ℕ) × Barred t v
 
   -- checks 1 to 5 are passed
   abbrev pub FivePassed : Type 0
@@ -80,20 +80,22 @@ module _ (b : BuildLent) where
   pub record CircularExactly : Type 0 where
     pub given : FivePassed → Circular → numberOf (build b .answer) ≡ 6
     pub only : numberOf (build b .answer) ≡ 6 → FivePassed × Circular
-    pub place : numberOf (build b .answer) ≡ 6 → LeastUnnumbered t (placeOf (build b .answer))
+    pub place : numberOf (build b .answer) ≡ 6 → LeastBarred t (placeOf (build b .answer))
 
   pub record BuildRight : Type 0 where
     pub not-circular : Circular → ⊥
-    -- the numbers are the paper's: 0 at search variables, 1 plus the greatest of the inputs' at made ones
-    pub numbers : build b .numbers ≡ over (t .n) (number (net t) (t .n)) (b .numbers)
-    pub numbers-meet : (v : ℕ) → number (net t) (t .n) v ≡ numbering (net t) (number (net t) (t .n)) v
-    pub ordered : build b .order ≡ order t ++ drop (t .m) (b .order)
+    -- the numbers are the paper's: 0 at search variables, 1 plus the greatest among the inputs of a group from outside it at made ones
+    pub numbers : build b .numbers ≡ over (t .n) (groupNumber t) (b .numbers)
+    pub numbers-meet : (v : ℕ) → groupNumber t v ≡ groupNumbering t (groupNumber t) v
+    pub ordered : build b .order ≡ groupOrder t ++ drop (t .m) (b .order)
     -- the index has the rows that read each variable
     pub indexed : build b .index ≡ index t (b .index)
     -- the stored values are the start values at search variables, and the formula over the inputs' at made ones
-    pub stored : build b .stored ≡ over (t .n) (afresh (net t) (startValues b) (t .n)) (b .stored)
-    pub stored-meet : (v : ℕ) → afresh (net t) (startValues b) (t .n) v ≡ valuation (net t) (startValues b) (afresh (net t) (startValues b) (t .n)) v
-    pub session : build b .session ≡ record { kept = 0; evaluations = t .m; blanks = blanksAmong (t .n) (afresh (net t) (startValues b) (t .n)) }
+    pub stored : build b .stored ≡ over (t .n) (worth t (startValues b)) (b .stored)
+    pub stored-meet : (v : ℕ) → worth t (startValues b) v ≡ valuation (net t) (startValues b) (worth t (startValues b)) v
+    -- working any variable out ends
+    pub determined : (v : ℕ) → determined t (startValues b) v ≡ true
+    pub session : build b .session ≡ record { kept = 0; evaluations = t .m; blanks = blanksAmong (t .n) (worth t (startValues b)) }
     -- the log is empty
     pub empty : build b .logSizes ≡ set (b .logSizes) 0 0
     pub answer : build b .answer ≡ Accepted (t .m)

@@ -2,6 +2,8 @@ pub mod Lists
 pub mod Formula
 pub mod Net
 pub mod Tables
+pub mod Chains
+pub mod Permitted
 pub mod Reason
 pub mod Checks
 pub mod Log

@@ -1,5 +1,5 @@
--- The runs that the paper marks (p), and those of MIN and MAX over blank inputs, as one table with one test: each is a build of the tables, or
--- a trial over what build left, by the calls themselves. Assumes nothing.
+-- The runs that the paper marks (p), and those of MIN and MAX over blank inputs and of chains that ELEMENT closes, as one table with one test: each is a build of
+-- the tables, or a trial over what build left, by the calls themselves. Assumes nothing.
 use Prim.Native.Nat.{ℕ, suc}
 use mathlib.Core.Bool.{Bool, true, false, _&&_}
 use mathlib.Core.List.{List, [], _∷_, map, _++_}
@@ -112,6 +112,10 @@ itself = lent 1 1 1 (3 ∷ []) (0 ∷ []) (zerosZ 1) (0 ∷ []) (1 ∷ []) (0 �
 abbrev pub candidates : Tables
 candidates = lent 5 2 4 (1 ∷ 4 ∷ []) (3 ∷ 4 ∷ []) (pos 1 ∷ pos 0 ∷ []) (0 ∷ 1 ∷ []) (1 ∷ 3 ∷ []) (2 ∷ 0 ∷ 1 ∷ 3 ∷ []) (ones 4)
 
+-- variable 2 is ELEMENT of an index and two candidates, and 3 is made from 2: an input 3 closes a chain
+abbrev pub closing : ℕ → ℕ → ℕ → Tables
+closing index a b = lent 4 2 4 (4 ∷ 3 ∷ []) (2 ∷ 3 ∷ []) (zerosZ 2) (0 ∷ 3 ∷ []) (3 ∷ 1 ∷ []) (index ∷ a ∷ b ∷ 2 ∷ []) (ones 4)
+
 -- two windows with the same start and headway, 2; 4 and 5 are LAST of each, 6 is MAX of the two, 7 is MIN of them, 8 is MAX of 5 twice
 abbrev pub sunday : Tables
 sunday =
@@ -155,6 +159,10 @@ linear param coef z = gives 1 param (coef ∷ []) (0 ∷ []) (top ∷ []) z
 -- ELEMENT with index i and the candidates 7 and blank
 abbrev pub picks : ℤ → ℤ → ℕ → Run
 picks i z count = tries candidates (i ∷ pos 7 ∷ top ∷ []) [] (4 ∷ []) 2 (z ∷ []) count
+
+-- candidate 1 moved to 9 where the other, which is not chosen, closes a chain; 3 asked
+abbrev pub follows : ℕ → Run
+follows route = tries (closing 0 1 3) (pos 0 ∷ pos 7 ∷ []) ((1, pos 9) ∷ []) (3 ∷ []) route (pos 9 ∷ []) 2
 
 -- a move of variable v to x on that Sunday
 abbrev pub moves : ℕ → ℤ → List ℕ → ℕ → List ℤ → ℕ → Run
@@ -208,6 +216,13 @@ proved =
     -- circular
     ∷ refuses (two 1 0) 6 0
     ∷ refuses itself 6 0
+    -- ELEMENT closes a chain through a candidate that is not chosen, through one that is, and through its index
+    ∷ builds (closing 0 1 3) (pos 0 ∷ pos 7 ∷ []) (0 ∷ 0 ∷ 1 ∷ 1 ∷ []) (pos 0 ∷ pos 7 ∷ pos 7 ∷ pos 7 ∷ [])
+    ∷ follows 1
+    ∷ follows 2
+    ∷ follows 3
+    ∷ refuses (closing 0 3 1) 20 2
+    ∷ refuses (closing 3 0 1) 6 2
     ∷ []
 
 -- every run comes out as the paper says

@@ -68,8 +68,8 @@ module _ (t : Tables) where
   abbrev pub valuesIn : List ℤ → Values
   valuesIn l v = getD (take (t .n) l) v (pos 0)
 
-  -- ── topological numbers and the order ──
-  -- v can have a number
+  -- ── the order, where no chain of inputs closes ──
+  -- every chain of inputs down from v ends
   abbrev pub ends : ℕ → Bool
   ends = able inputsOf (t .n)
 

@@ -16,8 +16,9 @@ use Rattle.integers.specs.Integers.{eqZ}
 use Rattle.integers.proofs.Order.{eqZ-yes}
 use Rattle.paper.specs.Lists.{all}
 use Rattle.paper.specs.Formula.{blank}
-use Rattle.paper.specs.Net.{Values, runs, number, afresh}
+use Rattle.paper.specs.Net.{Values, runs, afresh}
 use Rattle.paper.specs.Tables.{Tables, net, isMade, inputsOf, rowOf, formOf, valuesIn}
+use Rattle.paper.specs.Chains.{groupNumber, worth}
 use Rattle.paper.specs.Checks.{Verdict, accepted, refused, require, leaves, Sound}
 use Rattle.paper.specs.Reason.{reasonOf}
 use Rattle.paper.specs.Calls.{BuildLent, BuildLeft, buildVerdict, buildLeaves, startValues}
@@ -26,7 +27,7 @@ use Rattle.paper.specs.File.{version1, Contents, plain, countedAs, column, nIn,
 use Rattle.paper.proofs.Buffers.{over-at}
 use Rattle.paper.proofs.Accept.{sound-row, made-row}
 use Rattle.paper.proofs.Sizes.{sized-facts}
-use Rattle.paper.proofs.Numbers.{number-le}
+use Rattle.paper.proofs.Groups.{group-le}
 use Rattle.paper.proofs.Known.{BuildKnown, build-known}
 use Rattle.paper.proofs.Verdicts.{require-rest}
 use Rattle.paper.proofs.Reason.{at-most-5}
@@ -101,12 +102,12 @@ module _ (reasons : Bool) (b : BuildLent) (row : List ℕ) (from : (v : ℕ) →
   listed : BuildKnown b → length (text (withReasons (buildLeaves b accepted) (builtReasons b row))) ≤ 90112
   listed k =
       let t = b .tables in
-      let numbers = number (net t) (t .n) in
-      let values = afresh (net t) (startValues b) (t .n) in
+      let numbers = groupNumber t in
+      let values = worth t (startValues b) in
       let whys : ℕ → ℕ = λ v. reasonOf t v values in
       let most = sized-facts t (k .sound .sized) .n-most in
       lines-length reasons (t .n) _ _ _ most
-      (λ v l. let e = over-at numbers (t .n) (b .numbers) v 0 l in let h = number-le (net t) (t .n) v in omega arith)
+      (λ v l. let e = over-at numbers (t .n) (b .numbers) v 0 l in let h = group-le t v in omega arith)
       (λ v l. rw (over-at values (t .n) (b .stored) v (pos 0) l) (good-near (values v) (afresh-good t (k .sound) (startValues b) (values-good t (b .starts) from) (t .n) v)))
       (λ v l. let e = over-at whys (t .n) row v 0 l in let h = reason-low t v values in omega arith)
 

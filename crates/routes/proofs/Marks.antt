@@ -17,11 +17,12 @@ use Rattle.integers.proofs.Order.{eqZ-self}
 use Rattle.paper.specs.Lists.{any, nat}
 use Rattle.paper.specs.Net.{Values, runs, able, differs, marked}
 use Rattle.paper.specs.Tables.{Tables, net, isMade, inputsOf, valuesIn}
+use Rattle.paper.specs.Checks.{Sound}
 use Rattle.paper.proofs.Lists.{clash, any-in, any-has}
 use Rattle.paper.proofs.Sizes.{sized-facts}
-use Rattle.paper.proofs.Accept.{sound-row, inputs-below}
+use Rattle.paper.proofs.Accept.{sound-row, made-below, inputs-below}
 use Rattle.paper.proofs.Lawful.{lawful}
-use Rattle.paper.proofs.Routes.{marked-equation}
+use Rattle.paper.proofs.Marks.{marked-equation}
 use Rattle.paper.proofs.Those.{those-in}
 use Rattle.order.specs.Numbering.{Clean}
 use Rattle.order.proofs.Visits.{left-none}
@@ -31,17 +32,20 @@ use Rattle.marks.specs.Reach.{Follows, Either, Reaching}
 use Rattle.marks.specs.Readers.{variables, readFrom, Upward, Markable, Movable, Moved, none}
 use Rattle.marks.proofs.Members.{mapped}
 use Rattle.marks.proofs.Readers.{able-fewer}
-use Rattle.routes.specs.Rows.{Ended, valuesOf}
+use Rattle.routes.specs.Rows.{valuesOf}
 use Rattle.routes.specs.Routed.{Begun, Named}
 use Rattle.routes.proofs.Read.{input-made, section-reads, section-input, input-section}
 
 -- ── the index of the tables ──
-module _ (t : Tables) (d : Ended t) (starts places : List ℕ) (x : Indexed t starts places) where
+module _ (t : Tables) (d : Sound t) (starts places : List ℕ) (x : Indexed t starts places) where
+  some : 0 < t .n
+  some = let z = sized-facts t (d .sized) .n-some in omega arith
+
   -- the starts of the variables, and that of the end
-  abbrev front : List ℕ
+  abbrev pub front : List ℕ
   front = take (t .n + 1) starts
 
-  abbrev from : ℕ → List ℕ
+  abbrev pub from : ℕ → List ℕ
   from = madeFrom (t .makes) front places
 
   front-long : length front ≡ suc (t .n)
@@ -66,28 +70,39 @@ module _ (t : Tables) (d : Ended t) (starts places : List ℕ) (x : Indexed t st
   section-low : (v r : ℕ) → List·Memᴰ r (section front places v) → r < t .m
   section-low v r m =
       let l = from-low v (nat (t .makes) r) (mapped (nat (t .makes)) (section front places v) m) in
-      section-reads t (d .sound) starts places x v l r (subst (List·Memᴰ r) (same-section v l) m) .0
+      section-reads t d starts places x v l r (subst (List·Memᴰ r) (same-section v l) m) .0
 
   -- u is made from v exactly if v is among its inputs
   from-input : (v u : ℕ) → List·Memᴰ u (from v) → List·Memᴰ v (inputsOf t u)
   from-input v u m =
       let l = from-low v u m in
-      section-input t (d .sound) starts places x v l u (subst (λ (rs : List ℕ). List·Memᴰ u (map (nat (t .makes)) rs)) (same-section v l) m)
+      section-input t d starts places x v l u (subst (λ (rs : List ℕ). List·Memᴰ u (map (nat (t .makes)) rs)) (same-section v l) m)
 
   input-from : (v u : ℕ) → List·Memᴰ v (inputsOf t u) → List·Memᴰ u (from v)
   input-from v u m =
-      let l = inputs-below t (d .sound) u v m in
-      subst (λ (rs : List ℕ). List·Memᴰ u (map (nat (t .makes)) rs)) (sym (same-section v l)) (input-section t (d .sound) starts places x v l u m)
+      let l = inputs-below t d u v m in
+      subst (λ (rs : List ℕ). List·Memᴰ u (map (nat (t .makes)) rs)) (sym (same-section v l)) (input-section t d starts places x v l u m)
 
-  pub upward : Upward (t .makes) front places
+  -- the index leads to rows and these to variables
+  pub inside : (v : ℕ) → suc v < length front → nat front (suc v) ≤ length places
+  inside v l = let long = front-long in rw (getD-take (t .n + 1) starts (suc v) 0 (omega arith)) (x .inside v (omega arith))
+
+  pub row : (v r : ℕ) → List·Memᴰ r (section front places v) → r < length (t .makes)
+  row v r m = let h = section-low v r m in let k = sized-facts t (d .sized) .makes in omega arith
+
+  pub below : (v r : ℕ) → List·Memᴰ r (section front places v) → suc (nat (t .makes) r) < length front
+  below v r m = let h = sound-row t d r (section-low v r m) .makes in let long = front-long in omega arith
+
+  -- and upward, where every chain ends
+  pub upward : ((v : ℕ) → able (inputsOf t) (t .n) v ≡ true) → Upward (t .makes) front places
   unfolding readFrom
-  upward = record {
-    inside = λ v l. let long = front-long in rw (getD-take (t .n + 1) starts (suc v) 0 (omega arith)) (x .inside v (omega arith));
-    row = λ v r m. let h = section-low v r m in let k = sized-facts t (d .sound .sized) .makes in omega arith;
-    below = λ v r m. let h = sound-row t (d .sound) r (section-low v r m) .makes in let long = front-long in omega arith;
+  upward chains = record {
+    inside = inside;
+    row = row;
+    below = below;
     ends = λ v.
         let n : t .n ≡ variables front = let long = front-long in omega arith in
-        subst (λ k. able (readFrom (t .makes) front places) k v ≡ true) n (able-fewer (inputsOf t) (readFrom (t .makes) front places) fewer (t .n) v (d .chains v));
+        subst (λ k. able (readFrom (t .makes) front places) k v ≡ true) n (able-fewer (inputsOf t) (readFrom (t .makes) front places) fewer (t .n) v (chains v));
   }
     where
       mem : (u : ℕ) (xs : List ℕ) → any (eqb u) xs ≡ true → List·Memᴰ u xs
@@ -112,13 +127,13 @@ module _ (t : Tables) (d : Ended t) (starts places : List ℕ) (x : Indexed t st
     }
 
     -- ── the marks of route 3 ──
-    abbrev old : Values
+    abbrev pub old : Values
     old = valuesIn t stored
 
-    abbrev new : Values
+    abbrev pub new : Values
     new = valuesIn t trial
 
-    abbrev is : ℕ → Bool
+    abbrev pub is : ℕ → Bool
     is = marked (net t) old new (t .n)
 
     same : (v : ℕ) → v < t .n → differs (valuesOf trial) (valuesOf stored) v ≡ differs new old v
@@ -131,12 +146,12 @@ module _ (t : Tables) (d : Ended t) (starts places : List ℕ) (x : Indexed t st
     go-on : Follows (λ u. true) from is
     go-on = record {
       on = λ a i h w m. let q = from-input a i m in
-          marked-equation (net t) (lawful t) (t .n) (d .chains) old new i
-          ∙ ap (λ b. cond b (any is (inputsOf t i)) (differs new old i)) (input-made t (d .sound) a i q) ∙ any-in is (inputsOf t i) q h;
+          marked-equation (net t) (lawful t) (t .n) (inputs-below t d) (made-below t d) some old new i
+          ∙ ap (λ b. cond b (any is (inputsOf t i)) (differs new old i)) (input-made t d a i q) ∙ any-in is (inputsOf t i) q h;
     }
 
     begin : (i : ℕ) → Moved moves stored trial i → is i ≡ true
-    begin i (m, h) = marked-equation (net t) (lawful t) (t .n) (d .chains) old new i ∙ go (isMade t i) refl
+    begin i (m, h) = marked-equation (net t) (lawful t) (t .n) (inputs-below t d) (made-below t d) some old new i ∙ go (isMade t i) refl
       where
         differ : differs new old i ≡ true
         differ = sym (same i (N .low i m)) ∙ h

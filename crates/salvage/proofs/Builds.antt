@@ -18,6 +18,7 @@ use Rattle.integers.specs.Integers.{eqZ}
 use Rattle.paper.specs.Lists.{any, nat, those}
 use Rattle.paper.specs.Formula.{blank}
 use Rattle.paper.specs.Tables.{Tables, isMade, ends, valuesIn}
+use Rattle.paper.specs.Chains.{permitted, determined}
 use Rattle.paper.specs.Checks.{accepted, sized, boundGood, within, startGood, inBounds, startAllowed, Sound}
 use Rattle.paper.specs.Calls.{BuildLent, startValues, buildFits, buildVerdict}
 use Rattle.paper.specs.File.{version1, plain, held, nIn, mIn, eIn}
@@ -27,6 +28,7 @@ use Rattle.paper.proofs.Buffers.{length-below, getD-below}
 use Rattle.paper.proofs.Verdicts.{check-next, require-next}
 use Rattle.paper.proofs.Sizes.{held-of}
 use Rattle.paper.proofs.Accept.{tables-next}
+use Rattle.paper.proofs.Closes.{not-closes, Opened, opened}
 use Rattle.paper.proofs.Reread.{reread, cut-back}
 use Rattle.paper.proofs.RoundTrips.{fitting-plain}
 use Rattle.kept.specs.Saved.{packed, given, startGiven, keptRows, stands, startWhole, savedTables, startKept, savedStarts, savedFile}
@@ -47,7 +49,9 @@ unfolding buildVerdict
 build-accepts t starts sound chains good small b e full fits =
     require-next 1 0 (buildFits b) _ fits
     ∙ tables-next u (b .bounds) own (λ v l. ap₂ (boundGood (isMade u v)) (full v l .0) (full v l .1) ∙ full-good (isMade u v)) _
-    ∙ check-next 6 (u .n) (ends u) _ own-chains ∙ check-next 7 (u .n) (startAllowed u (b .bounds) (startValues b)) accepted (λ v l. ap₂ _&&_ (own-good v l) (inside v l))
+    ∙ check-next 6 (u .n) (permitted u) _ (λ v l. straight .permitted v)
+    ∙ check-next 7 (u .n) (startAllowed u (b .bounds) (startValues b)) _ (λ v l. ap₂ _&&_ (own-good v l) (inside v l))
+    ∙ check-next 20 (u .n) (determined u (startValues b)) accepted (λ v l. straight .determined (startValues b) v)
   where
     u : Tables
     u = b .tables
@@ -57,6 +61,9 @@ build-accepts t starts sound chains good small b e full fits =
 
     own-chains : (v : ℕ) → v < b .tables .n → ends (b .tables) v ≡ true
     own-chains v l = sym (bare-ends (b .tables) own v) ∙ ap (λ x. ends (x .0) v) e ∙ bare-ends t sound v ∙ chains v
+
+    straight : Opened (b .tables)
+    straight = opened (b .tables) own (not-closes (b .tables) own-chains)
 
     low-too : (v : ℕ) → v < b .tables .n → v < t .n
     low-too v l = rw (ap (λ (x : Tables × List ℤ). x .0 .n) e) at l

@@ -1,4 +1,4 @@
--- A file that reading and build accept is saved whole: every row is kept, and all rows packed are the file's tables, so every row stands; every
+-- A file without a closed chain that reading and build accept is saved whole: every row is kept, and all rows packed are the file's tables, so every row stands; every
 -- start value is kept; and the file of these tables is the file. Assumes nothing.
 use Prim.Native.Nat.{ℕ, zero, suc, _+_, _≤_, _<_}
 use native.Mathlib.Nat.{le-refl}
@@ -20,6 +20,7 @@ use Rattle.paper.proofs.Lists.{all-yes}
 use Rattle.paper.proofs.Those.{those-same}
 use Rattle.paper.proofs.Buffers.{below-same, below-list}
 use Rattle.paper.proofs.Accept.{sound-row}
+use Rattle.paper.proofs.Closes.{opened}
 use Rattle.paper.proofs.Known.{BuildKnown, build-known}
 use Rattle.paper.proofs.Reading.{Headed, headed, read-headed}
 use Rattle.paper.proofs.Rewritten.{rewritten}
@@ -97,9 +98,9 @@ module _ (bytes : List ℕ) (small : (i : ℕ) → nat bytes i < 256) (good : he
   }
 
 pub undamaged-same : UndamagedSame
-undamaged-same bytes small t₀ starts₀ ok b e v =
+undamaged-same bytes small t₀ starts₀ ok b e straight v =
     same bytes small (read-headed version1 bytes (plain t₀ starts₀) ok) (subst (λ p. Sound (p .0)) is (bare-sound (b .tables) (k .sound)))
-    (λ u. subst (λ p. ends (p .0) u ≡ true) is (bare-ends (b .tables) (k .sound) u ∙ k .chains u))
+    (λ u. subst (λ p. ends (p .0) u ≡ true) is (bare-ends (b .tables) (k .sound) u ∙ opened (b .tables) (k .sound) straight .chains u))
     (subst (λ p. (u : ℕ) → u < p .0 .n → startGood (p .0) (valuesIn (p .0) (p .1)) u ≡ true) is (λ u l. bare-starts (b .tables) (b .starts) u ∙ k .starts u l))
   where
     k : BuildKnown b

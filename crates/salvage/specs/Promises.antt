@@ -1,12 +1,13 @@
--- What holds of what is saved, whatever the bytes are: build accepts it with full bounds, and a file that was not damaged comes back. `proofs/Builds` and
--- `proofs/Same` prove it. Assumes nothing.
+-- What holds of what is saved, whatever the bytes are: build accepts it with full bounds, and a file that was not damaged and has no closed chain comes back.
+-- `proofs/Builds` and `proofs/Same` prove it. Assumes nothing.
 use Prim.Native.Nat.{ℕ, _<_}
-use mathlib.Core.Bool.{true}
+use mathlib.Core.Bool.{true, false}
 use mathlib.Core.List.{List, []}
 use mathlib.Core.Path.{_≡_}
 use lib.IntN.{ℤ}
 use Rattle.paper.specs.Lists.{nat}
 use Rattle.paper.specs.Tables.{Tables}
+use Rattle.paper.specs.Chains.{closes}
 use Rattle.paper.specs.Checks.{accepted, Bounds, lowest, highest, low, high}
 use Rattle.paper.specs.Calls.{BuildLent, buildFits, buildVerdict}
 use Rattle.paper.specs.Demands.{cut}
@@ -30,7 +31,7 @@ pub record Builds (bytes : List ℕ) : Type 0 where
   pub builds : (b : BuildLent) → cut (b .tables, b .starts) ≡ cut (savedTables bytes, savedStarts bytes) → AllFull (b .tables .n) (b .bounds)
       → buildFits b ≡ true → buildVerdict b ≡ accepted
 
--- a file that reading and build accept comes back the same, and nothing is listed
+-- a file without a closed chain that reading and build accept comes back the same, and nothing is listed
 pub record Same (bytes : List ℕ) : Type 0 where
   pub file : savedFile bytes ≡ bytes
   pub none : savedList bytes ≡ []
@@ -41,4 +42,4 @@ SalvageBuilds = (bytes : List ℕ) → Readable bytes → Builds bytes
 abbrev pub UndamagedSame : Type 0
 UndamagedSame =
     (bytes : List ℕ) → ((i : ℕ) → nat bytes i < 256) → (t : Tables) (starts : List ℤ) → read bytes t starts .0 ≡ accepted
-    → (b : BuildLent) → (b .tables, b .starts) ≡ read bytes t starts .1 → buildVerdict b ≡ accepted → Same bytes
+    → (b : BuildLent) → (b .tables, b .starts) ≡ read bytes t starts .1 → closes (b .tables) ≡ false → buildVerdict b ≡ accepted → Same bytes

@@ -85,6 +85,7 @@ pub fn take_back_core(
         counts,
         vars,
         coefs,
+        numbers,
         order,
         stored,
         reader_starts,

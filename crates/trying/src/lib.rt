@@ -87,6 +87,7 @@ pub fn trial_core(
         counts,
         vars,
         coefs,
+        numbers,
         order,
         stored,
         reader_starts,

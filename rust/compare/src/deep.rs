@@ -25,6 +25,7 @@ pub fn deepest_models<E: Engine + Send + 'static>(engine: E) {
             }
         }
         edges::the_longest_chain(&engine);
+        rings().iter().for_each(|ring| round_a_ring(&engine, ring));
     };
     let thread = thread::Builder::new().stack_size(STACK).spawn(through).expect("a thread");
     thread.join().expect("every call comes back");
@@ -61,9 +62,9 @@ pub fn models() -> Vec<Case> {
 /// end asked.
 pub fn calls(engine: &dyn Engine, model: &Case) -> [(&'static str, Case); 13] {
     let built = built(engine, model);
-    let numbered = |wanted| built.numbers.iter().position(|&number| number == wanted).unwrap_or(0) as u16;
-    let moved = [(numbered(0), 2)];
-    let route = |route| trial(&built, &moved, &[numbered(4095)], route);
+    let search = built.numbers.iter().position(|&number| number == 0).unwrap_or(0) as u16;
+    let moved = [(search, 2)];
+    let route = |route| trial(&built, &moved, &[model.makes[4094]], route);
     let kept = keep(&built, &moved);
     let write = edges::file(model);
     let read = Case { call: Call::Read, ..Side::of(engine, &write).left };
@@ -93,6 +94,40 @@ fn chain_of_indices() -> Case {
         part.copy_from_slice(&[above, 0, 0, 0]);
     }
     model
+}
+
+/// The longest closed chains, as builds: rows of ELEMENT or of MAX, the first an ELEMENT that reads the last; its second
+/// candidate leads round.
+#[must_use]
+pub fn rings() -> Vec<Case> {
+    let ring = |kind: u16| {
+        let mut ring = chain(kind, 4095, 4, 0);
+        (ring.kinds[0], ring.vars[2]) = (4, 4095);
+        ring
+    };
+    [4, 3].into_iter().flat_map(|kind| [upside_down(&ring(kind)), ring(kind)]).collect()
+}
+
+/// Asserts that every call goes along a whole ring, and that a move round it is refused.
+fn round_a_ring(engine: &dyn Engine, ring: &Case) {
+    for (name, case) in calls(engine, ring).iter().filter(|(name, _)| *name != "salvage") {
+        let answer = Side::of(engine, case).answer;
+        every_row(name, answer);
+        if ["route 1", "keep", "taking back"].contains(name) {
+            assert_eq!(answer.evaluations, 4095, "{name}");
+        }
+    }
+    let model = built(engine, ring);
+    assert_eq!(model.numbers.iter().filter(|&&number| number == 1).count(), 4095, "one group");
+    let search = model.numbers.iter().position(|&number| number == 0).unwrap_or(0);
+    let mut round = ring.clone();
+    round.starts[search] = 1;
+    let moved = [(search as u16, 1)];
+    let routes = [1, 2, 3].map(|route| trial(&model, &moved, &[], route));
+    for case in routes.iter().chain([&keep(&model, &moved), &round]) {
+        let answer = Side::of(engine, case).answer;
+        assert_eq!((answer.number, answer.place), (20, u32::from(search == 0)), "{:?}", case.call);
+    }
 }
 
 /// The same model with its variables named from the last to the first.

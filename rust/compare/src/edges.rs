@@ -446,9 +446,9 @@ fn refusal_5(engine: &dyn Engine) {
 
 fn refusal_6(engine: &dyn Engine) {
     let above = of_rows(vec![0, 0, 5], &[Row::plain(1, 0, &[1]), Row::plain(2, 1, &[2, 1])]);
-    gives(engine, "a variable above the closed chain", &above, 6, 0);
+    gives(engine, "a variable above the closed chain is not on it", &above, 6, 1);
     let below = of_rows(vec![0, 0, 5], &[Row::plain(1, 0, &[2]), Row::plain(2, 1, &[0, 1])]);
-    gives(engine, "a variable below it has a number", &below, 6, 1);
+    gives(engine, "nor is a variable below it", &below, 6, 1);
     the_longest_chain(engine);
 }
 

@@ -3,6 +3,7 @@
 
 use crate::runs::model_a;
 use crate::salvages;
+use crate::tests::any_model;
 use crate::{
     Call, Case, Difference, Engine, Random, Second, Sizes, calls_on, compare, keep_of, model, scramble, seed, shrink,
     take_back_of, trial_of,
@@ -73,7 +74,7 @@ pub fn scrambled_buffers(engine: &dyn Engine) {
 /// The calls on the model of a seed, each with several things wrong.
 fn scrambled_calls(engine: &dyn Engine, seed: u64) {
     let mut random = Random::new(seed);
-    let model = Sizes::any_model(&mut random);
+    let model = any_model(&mut random);
     for mut case in calls_on(&mut random, &model) {
         scramble(&mut random, &mut case);
         agree(engine, &case, || format!("calls {seed}"));

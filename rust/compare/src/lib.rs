@@ -4,13 +4,14 @@
 //! it in place. [`compare`] lets two engines answer the same case and compares the answers, the session record, every
 //! element of every buffer, and the guards. [`run`] does so for as many random cases as it is told, from a seed, and
 //! [`shrink`] makes a case on which two engines differ smaller. [`sessions`] keeps and takes back over long sessions,
-//! [`reasons`] asks why values are blank, and [`salvages`] saves damaged files. [`versions`] reads and
+//! [`reasons`] asks why values are blank, [`chains`] leads round closed chains, and [`salvages`] saves damaged files. [`versions`] reads and
 //! writes files of version 2, and moves files from one version to the other. [`tests_of!`] is everything that an engine must pass.
 #![forbid(unsafe_code)]
 #![warn(missing_docs)]
 
 mod bounds;
 mod case;
+pub mod chains;
 mod damage;
 pub mod deep;
 mod difference;
@@ -19,6 +20,7 @@ mod engine;
 pub mod files;
 pub mod fuzz;
 mod guarded;
+mod interlined;
 mod logs;
 mod models;
 mod plan;
@@ -38,6 +40,7 @@ pub use damage::{damage, lengthen, one_short, scramble, shorten};
 pub use difference::{Difference, Side, agreed, compare};
 pub use engine::{Calls, Engine, Second, Test};
 pub use guarded::{Buffer, Element, Guarded};
+pub use interlined::{any_interlined, has_closed_chain, interlined};
 pub use logs::draw_log;
 pub use models::{Row, Sizes, chain, model, model_of, of_rows, value};
 pub use plan::{Tally, calls_on, draw_move, keep_of, run, seed, take_back_of, trial_of};

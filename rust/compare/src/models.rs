@@ -175,7 +175,7 @@ impl Case {
 }
 
 /// Fills the record and the buffers that a build fills with what means nothing.
-fn junk(random: &mut Random, case: &mut Case) {
+pub(crate) fn junk(random: &mut Random, case: &mut Case) {
     case.numbers = Guarded::junk(random, case.n);
     case.order = Guarded::junk(random, case.m);
     case.stored = Guarded::junk(random, case.n);

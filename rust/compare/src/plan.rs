@@ -6,8 +6,8 @@ use crate::bounds::move_outside;
 use crate::logs::is_search;
 use crate::shrink::rebuilt;
 use crate::{
-    Call, Case, Difference, Engine, Guarded, Random, Second, Side, Sizes, agreed, chain, damage, draw_log, lengthen,
-    model, model_of, shorten, shrink, value, within,
+    Call, Case, Difference, Engine, Guarded, Random, Second, Side, Sizes, agreed, chain, damage, draw_log,
+    has_closed_chain, lengthen, model, model_of, shorten, shrink, value, within,
 };
 
 /// The seed of a run without another.
@@ -23,7 +23,7 @@ pub fn seed() -> u64 {
 #[derive(Clone, Copy, Debug, Default, PartialEq, Eq)]
 pub struct Tally {
     /// The calls by number.
-    pub by_number: [usize; 20],
+    pub by_number: [usize; 22],
     /// The accepted calls by call: build, trial, keep, taking back, read, write. Salvage is tried by itself.
     pub accepted: [usize; 6],
     /// The calls refused with 8 by the index of readers alone.
@@ -32,6 +32,9 @@ pub struct Tally {
     pub unfit: [usize; 2],
     /// The accepted keeps that pushed a move out of the log.
     pub pushed: usize,
+    /// Of the calls on models with a closed chain, by call: build, trial, keep, taking back: the accepted ones, those refused
+    /// with 20, and those with 21.
+    pub chained: [[usize; 3]; 4],
     /// The reasons that accepted calls gave, by call: build, trial, keep, taking back.
     pub by_reason: [[usize; 6]; 4],
     /// The stored bytes that are no reason and that accepted calls left or handed on, by call.
@@ -54,6 +57,11 @@ impl Tally {
             self.accepted[case.call as usize] += 1;
             self.pushed += usize::from(case.call == Call::Keep && case.logged() == MOST_LOGGED);
             self.note_reasons(&made.left);
+        }
+        if let (Some(by_number), Some(which)) =
+            (self.chained.get_mut(case.call as usize), [0, 20, 21].iter().position(|&came| came == number))
+        {
+            by_number[which] += usize::from(has_closed_chain(case));
         }
         if number == 16 {
             self.unfit[usize::from(case.call == Call::TakeBack)] += 1;
@@ -91,11 +99,15 @@ impl Tally {
     pub fn assert_wide(&self) {
         println!("{self:?}");
         let often = |number: usize| self.by_number[number] > 100 || number == 18;
-        assert!((0..20).all(often), "every number that a check has comes back often: {self:?}");
+        assert!((0..22).all(often), "every number that a check has comes back often: {self:?}");
         assert!(self.accepted.iter().all(|&calls| calls > 1_000), "every call is accepted often: {self:?}");
         assert!(self.by_index > 1_000, "the index alone is often wrong: {self:?}");
         assert!(self.unfit.iter().all(|&calls| calls > 1_000), "a log is often unfit: {self:?}");
         assert!(self.pushed > 1_000, "a log is often full: {self:?}");
+        let [built, others @ ..] = self.chained;
+        let often = |calls: &usize| *calls > 100;
+        assert!(built[..2].iter().chain(others.as_flattened()).all(often), "closed chains come often: {self:?}");
+        assert_eq!(built[2], 0, "a build does not look at stored values: {self:?}");
         assert!(self.by_reason.as_flattened().iter().all(|&given| given > 100), "every reason is given: {self:?}");
         assert!(self.no_reason[1..].iter().all(|&left| left > 100), "stored bytes are any: {self:?}");
         assert_eq!(self.no_reason[0], 0, "a build leaves nothing but reasons: {self:?}");
@@ -168,6 +180,9 @@ pub fn calls_on(random: &mut Random, build: &Case) -> Vec<Case> {
         calls.push(damaged(random, &taken));
         calls.push(taken);
     }
+    if has_closed_chain(build) {
+        calls.extend(choosing(random, build, &built));
+    }
     calls.extend(files_of(random, build));
     for case in &mut calls {
         if random.once_in(3) {
@@ -178,6 +193,34 @@ pub fn calls_on(random: &mut Random, build: &Case) -> Vec<Case> {
         }
     }
     calls
+}
+
+/// Calls on a model with a closed chain whose values choose among candidates: a build, a trial, a keep and a taking back.
+fn choosing(random: &mut Random, build: &Case, built: &Case) -> [Case; 4] {
+    let mut again = build.clone();
+    for variable in 0..build.n {
+        if random.once_in(2) && !build.makes.contains(&(variable as u16)) {
+            again.starts[variable] = choice(random, build, variable, build.starts[variable]);
+        }
+    }
+    let moving = |random: &mut Random, mut case: Case| {
+        for pair in 0..case.pairs {
+            case.move_values[pair] = choice(random, &case, case.move_vars[pair].into(), case.move_values[pair]);
+        }
+        case
+    };
+    let (tried, kept) = (trial_of(random, built), keep_of(random, built));
+    let mut taken = take_back_of(random, built);
+    for place in taken.logged_places() {
+        taken.log_values[place] = choice(random, &taken, taken.log_vars[place].into(), taken.log_values[place]);
+    }
+    [again, moving(random, tried), moving(random, kept), taken]
+}
+
+/// A value that chooses a candidate, if the bounds of its variable allow it, else this one.
+fn choice(random: &mut Random, case: &Case, variable: usize, value: i32) -> i32 {
+    let (low, high) = case.bounds(variable);
+    Some(random.between(-1, 3)).filter(|choice| (low..=high).contains(choice)).unwrap_or(value)
 }
 
 /// The same move beyond a bound if it can be, alone and with one or two things wrong.

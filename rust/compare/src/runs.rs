@@ -282,16 +282,18 @@ fn the_last_bus(engine: &dyn Engine) {
     tries(engine, &trial(&model, &[(2, 0)], &[6, 7], 2), &[BLANK, BLANK], &[4, 5, 6, 7]);
 }
 
-/// Variables that depend on themselves are refused, also through a candidate that is not chosen.
+/// Variables that depend on themselves are refused; through a candidate that is not chosen they are accepted, and refused
+/// otherwise where it is.
 fn circular_models(engine: &dyn Engine) {
     let self_made = of_rows(vec![0], &[Row::plain(1, 0, &[0])]);
     let each_other = of_rows(vec![0, 0], &[Row::plain(1, 0, &[1]), Row::plain(1, 1, &[0])]);
-    let unchosen = of_rows(vec![0, 7, 0, 0], &[Row::plain(4, 2, &[0, 1, 3]), Row::plain(1, 3, &[2])]);
-    for (case, place) in [(self_made, 0), (each_other, 0), (unchosen, 2)] {
+    let closing = |index| of_rows(vec![index, 7, 0, 0], &[Row::plain(4, 2, &[0, 1, 3]), Row::plain(1, 3, &[2])]);
+    for (case, number, place) in [(self_made, 6, 0), (each_other, 6, 0), (closing(1), 20, 2)] {
         let side = Side::of(engine, &case);
-        assert_eq!((side.answer.number, side.answer.place), (6, place));
+        assert_eq!((side.answer.number, side.answer.place), (number, place));
         assert_eq!(side.left, case);
     }
+    stores(engine, &closing(0), &[0, 7, 7, 7]);
 }
 
 /// Routes 2 and 3 ask the index and the chosen candidate alone; route 1 evaluates by any input.

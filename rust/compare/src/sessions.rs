@@ -10,8 +10,8 @@ use std::collections::VecDeque;
 use second::{BLANK, MOST_LOGGED};
 
 use crate::{
-    Call, Case, Difference, Engine, Guarded, Random, Second, Side, Sizes, agreed, compare, draw_move, model, seed,
-    shrink, trial_of,
+    Call, Case, Difference, Engine, Guarded, Random, Second, Side, Sizes, agreed, compare, draw_move, has_closed_chain,
+    interlined, model, seed, shrink, trial_of,
 };
 
 /// How many sessions, and the calls of each.
@@ -23,6 +23,22 @@ const CALLS: usize = 300;
 /// # Panics
 /// If the engine differs from the second implementation, or if a session is not as it must be.
 pub fn long_sessions(engine: &dyn Engine) {
+    let tally = sessions(engine, draw);
+    assert!(tally.round == 0 && tally.unfresh == 0, "no chain is closed: {tally:?}");
+}
+
+/// Runs as many sessions over models with closed chains: a move that leads round one is refused, and so is every call over
+/// stored values that are not the fresh ones.
+///
+/// # Panics
+/// If the engine differs from the second implementation, or if a session is not as it must be.
+pub fn sessions_over_closed_chains(engine: &dyn Engine) {
+    let tally = sessions(engine, draw_chained);
+    assert!(tally.round > 200 && tally.unfresh > 50, "closed chains matter often: {tally:?}");
+}
+
+/// Runs sessions over models that are drawn so.
+fn sessions(engine: &dyn Engine, draw: fn(&mut Random) -> Case) -> Tally {
     let seed = seed();
     println!("seed {seed}");
     let mut random = Random::new(seed);
@@ -36,11 +52,24 @@ pub fn long_sessions(engine: &dyn Engine) {
         tally.add(&session.tally);
     }
     println!("{tally:?}");
-    let Tally { kept, pushed, taken, spent, more, fewer, outside, blank } = tally;
-    assert!(kept > 10_000 && pushed > 2_000 && taken > 5_000 && spent > 100, "every turn comes often: {tally:?}");
+    let Tally { kept, pushed, taken, spent, more, fewer, outside, blank, .. } = tally;
+    assert!(kept > 10_000 && pushed > 1_000 && taken > 5_000 && spent > 100, "every turn comes often: {tally:?}");
     assert!(more > 300 && fewer > 300, "blanks come and go: {tally:?}");
-    assert!(outside > 100, "moves outside the bounds are refused: {tally:?}");
+    assert!(outside > 50, "moves outside the bounds are refused: {tally:?}");
     assert!(blank > 100, "trials say why a value is blank: {tally:?}");
+    tally
+}
+
+/// A model with a closed chain that build accepts.
+fn draw_chained(random: &mut Random) -> Case {
+    let sizes = |variables, entries, inputs| Sizes { variables, entries, inputs };
+    loop {
+        let sizes = random.pick(&[sizes(9, 36, 5), sizes(9, 36, 5), sizes(40, 160, 8), sizes(200, 400, 8)]);
+        let drawn = interlined(random, sizes);
+        if has_closed_chain(&drawn) && Side::of(&Second, &drawn).answer.number == 0 {
+            return drawn;
+        }
+    }
 }
 
 /// A model of some size, with more search variables than a move has pairs at times.
@@ -51,7 +80,8 @@ fn draw(random: &mut Random) -> Case {
 }
 
 /// What happened: keeps, keeps that pushed a move out of the log, takings back, and those with nothing left; calls that left
-/// more blanks, and fewer; moves outside the bounds; blank values that trials gave a reason for.
+/// more blanks, and fewer; moves outside the bounds; blank values that trials gave a reason for; moves that lead round a
+/// closed chain, and calls over stored values that are not fresh.
 #[derive(Clone, Copy, Debug, Default)]
 struct Tally {
     kept: usize,
@@ -62,6 +92,8 @@ struct Tally {
     fewer: usize,
     outside: usize,
     blank: usize,
+    round: usize,
+    unfresh: usize,
 }
 
 impl Tally {
@@ -74,17 +106,21 @@ impl Tally {
         self.fewer += other.fewer;
         self.outside += other.outside;
         self.blank += other.blank;
+        self.round += other.round;
+        self.unfresh += other.unfresh;
     }
 }
 
 /// A byte that stands behind the stored reasons.
 const BEHIND: u8 = 0xEE;
 
-/// A session: the model as the calls left it, and the values and reasons before each move that can be taken back.
+/// A session: the model as the calls left it, whether it has a closed chain, and the values and reasons before each move that
+/// can be taken back.
 struct Session<'a> {
     engine: &'a dyn Engine,
     model: Case,
     before: VecDeque<(Vec<i32>, Vec<u8>)>,
+    chained: bool,
     kept: u32,
     tally: Tally,
 }
@@ -94,7 +130,8 @@ impl<'a> Session<'a> {
     fn of(engine: &'a dyn Engine, build: Case) -> Session<'a> {
         let mut model = Case { flags: vec![7; build.n].into(), ..build.with_log() };
         model.reasons.edit(|reasons| reasons.push(BEHIND));
-        let mut session = Session { engine, model, before: VecDeque::new(), kept: 0, tally: Tally::default() };
+        let chained = has_closed_chain(&model);
+        let mut session = Session { engine, model, before: VecDeque::new(), chained, kept: 0, tally: Tally::default() };
         session.make(Call::Build, 0);
         session
     }
@@ -107,6 +144,7 @@ impl<'a> Session<'a> {
             _ => random.once_in(8),
         };
         match random.below(60) {
+            0 if self.chained && random.once_in(2) => self.unfresh(random),
             0 => self.refused(random),
             1..=4 => self.tried(random),
             5 if random.once_in(10) => self.built_anew(),
@@ -131,6 +169,12 @@ impl<'a> Session<'a> {
         let before = (self.model.stored.to_vec(), self.model.reasons.to_vec());
         draw_move(random, &mut self.model);
         self.model.flags = Guarded::junk(random, self.model.n);
+        if let Some(place) = self.leads_round(&self.model) {
+            self.make(Call::Keep, 20);
+            assert_eq!(Side::of(self.engine, &self.model).answer.place, place, "the least variable");
+            self.tally.round += 1;
+            return;
+        }
         self.make(Call::Keep, 0);
         self.before.push_back(before);
         if self.before.len() > MOST_LOGGED {
@@ -194,6 +238,13 @@ impl<'a> Session<'a> {
     /// A trial is not lent the log. By every route it gives the values and the reasons that a keep of its move would store.
     fn tried(&mut self, random: &mut Random) {
         let tried = trial_of(random, &self.model);
+        if let Some(place) = self.leads_round(&tried) {
+            for route in 1..=3 {
+                let side = Side::of(self.engine, &Case { route, ..tried.clone() });
+                assert_eq!((side.answer.number, side.answer.place), (20, place), "route {route}");
+            }
+            return;
+        }
         let kept = Side::of(self.engine, &Case { call: Call::Keep, ..tried.clone() }).left;
         let left_of = |&asked: &u16| (kept.stored[usize::from(asked)], kept.reasons[usize::from(asked)]);
         let (values, reasons): (Vec<i32>, Vec<u8>) = tried.asked_vars.iter().map(left_of).unzip();
@@ -213,6 +264,37 @@ impl<'a> Session<'a> {
         self.kept = 0;
         self.holds();
         self.make(Call::TakeBack, 15);
+    }
+
+    /// The least variable that is not determined after the move of a case: where a build of the model with the new values of its
+    /// search variables is refused for it.
+    fn leads_round(&self, moving: &Case) -> Option<u32> {
+        let mut starts: Vec<i32> = self.model.stored.iter().take(self.model.n).copied().collect();
+        let pairs = moving.move_vars.iter().zip(&*moving.move_values).take(moving.pairs);
+        pairs.for_each(|(&variable, &value)| starts[usize::from(variable)] = value);
+        self.model.makes.iter().for_each(|&made| starts[usize::from(made)] = 0);
+        let build = Case { call: Call::Build, starts: starts.into(), ..self.model.clone() };
+        let answer = Side::of(&Second, &build).answer;
+        (answer.number == 20).then_some(answer.place)
+    }
+
+    /// A stored value that is not the fresh one refuses every call on a model with a closed chain.
+    fn unfresh(&mut self, random: &mut Random) {
+        if self.before.is_empty() {
+            return;
+        }
+        let variable = usize::from(self.model.makes[random.below(self.model.m)]);
+        let (stored, blanks) = (self.model.stored[variable], self.model.session.blanks);
+        self.model.stored[variable] = if stored == BLANK { 0 } else { stored ^ 1 };
+        self.model.count_blanks();
+        (self.model.pairs, self.model.move_vars, self.model.move_values) = (0, vec![].into(), vec![].into());
+        for call in [Call::Keep, Call::TakeBack] {
+            self.make(call, 21);
+            assert_eq!(Side::of(self.engine, &self.model).answer.place, variable as u32, "the variable");
+        }
+        (self.model.stored[variable], self.model.session.blanks) = (stored, blanks);
+        self.tally.unfresh += 1;
+        self.holds();
     }
 
     /// The model built anew from the values that its search variables have now.

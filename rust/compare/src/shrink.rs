@@ -292,9 +292,18 @@ fn number(case: &mut Case) {
     }
 }
 
-/// The model of a case built anew over full bounds and start values of 0, if it can be.
+/// The model of a case built anew over full bounds and start values of 0, or else -1, if it can be: where -1 is the index
+/// nothing is chosen.
 pub(crate) fn rebuilt(case: &Case) -> Option<Case> {
-    let (starts, log_sizes) = (vec![0; case.stored.len()].into(), vec![0; LOG_SIZES].into());
-    let mut model = Case { call: Call::Build, starts, log_sizes, ..case.clone() }.with_full_bounds();
-    (Second.answer(&mut model).number == 0).then_some(model)
+    let mut made = vec![false; case.stored.len()];
+    case.makes
+        .iter()
+        .take(case.m)
+        .for_each(|&makes| made.iter_mut().skip(makes.into()).take(1).for_each(|made| *made = true));
+    [0, -1].into_iter().find_map(|start| {
+        let starts = made.iter().map(|&made| if made { 0 } else { start }).collect::<Vec<i32>>().into();
+        let log_sizes = vec![0; LOG_SIZES].into();
+        let mut model = Case { call: Call::Build, starts, log_sizes, ..case.clone() }.with_full_bounds();
+        (Second.answer(&mut model).number == 0).then_some(model)
+    })
 }

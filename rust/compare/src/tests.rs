@@ -1,6 +1,6 @@
 //! Everything that an engine must pass, written once for every engine.
 
-use crate::{Engine, Second, Sizes, Test, run, seed};
+use crate::{Case, Engine, Random, Second, Sizes, Test, any_interlined, run, seed};
 
 /// Runs tests one after another, each with its name printed.
 pub fn hold(engine: &dyn Engine, tests: &[Test]) {
@@ -10,6 +10,11 @@ pub fn hold(engine: &dyn Engine, tests: &[Test]) {
     }
 }
 
+/// A model of every size, a third of them with closed chains.
+pub(crate) fn any_model(random: &mut Random) -> Case {
+    if random.once_in(3) { any_interlined(random) } else { Sizes::any_model(random) }
+}
+
 /// The engine and the second implementation on 200,000 random calls: answer, record and every byte of every buffer.
 ///
 /// # Panics
@@ -17,13 +22,13 @@ pub fn hold(engine: &dyn Engine, tests: &[Test]) {
 pub fn random_calls(engine: &dyn Engine) {
     let seed = seed();
     println!("seed {seed}");
-    let tally = run(engine, &Second, seed, 200_000, Sizes::any_model);
+    let tally = run(engine, &Second, seed, 200_000, any_model);
     let tally =
         tally.unwrap_or_else(|difference| panic!("seed {seed}: the engine is one, the second the other\n{difference}"));
     tally.assert_wide();
 }
 
-/// The tests of an engine: the runs that the specification names, why values are blank, both sides of the edge of every
+/// The tests of an engine: the runs that the specification names, why values are blank, closed chains, both sides of the edge of every
 /// refusal, files there and back, the deepest models on a small stack, random calls beside the second implementation, long sessions of keeps
 /// and takings back, the fuzz runs, files of both versions, and damaged files that are saved.
 /// The second expression is the engine whose calls have a stack of 2 MiB if their thread has.
@@ -43,6 +48,11 @@ macro_rules! tests_of {
         #[test]
         fn reasons() {
             $crate::hold(&$engine, $crate::reasons::REASONS);
+        }
+
+        #[test]
+        fn closed_chains() {
+            $crate::hold(&$engine, $crate::chains::CHAINS);
         }
 
         #[test]
@@ -68,6 +78,11 @@ macro_rules! tests_of {
         #[test]
         fn long_sessions_of_keeps_and_takings_back() {
             $crate::sessions::long_sessions(&$engine);
+        }
+
+        #[test]
+        fn long_sessions_over_closed_chains() {
+            $crate::sessions::sessions_over_closed_chains(&$engine);
         }
 
         #[test]

@@ -11,7 +11,7 @@ pub use ::lent::{
 };
 
 /// Fills numbers, order, stored values, the index of readers and the reasons from tables and start values, and empties the
-/// log; gives the evaluations, m. Refusals 1 to 7.
+/// log; gives the evaluations, m. Refusals 1 to 7, and then 20.
 #[rustfmt::skip]
 pub fn build(session: &mut Session, tables: Tables<'_>, bounds: Bounds<'_>, starts: &[i32], built: Built<'_>) -> Outcome {
     let Tables { n, m, e, kinds, makes, params, firsts, counts, vars, coefs } = tables;
@@ -34,7 +34,7 @@ pub fn build(session: &mut Session, tables: Tables<'_>, bounds: Bounds<'_>, star
 }
 
 /// Tries a move by a route, and fills results and their reasons, trial values and flags; gives the evaluations. Refusals 1
-/// to 13 without 6, and 17 and 19.
+/// to 13 without 6, and 17 and 19; then 21 and 20.
 #[rustfmt::skip]
 pub fn trial(session: &mut Session, tables: Tables<'_>, bounds: Bounds<'_>, lent: Trial<'_>) -> Outcome {
     let Tables { n, m, e, kinds, makes, params, firsts, counts, vars, coefs } = tables;
@@ -61,7 +61,8 @@ pub fn trial(session: &mut Session, tables: Tables<'_>, bounds: Bounds<'_>, lent
 }
 
 /// Keeps a move by route 1: changes the stored values and reasons, fills the flags, and notes the move in the log; gives
-/// the evaluations. Refusals 1 to 12 without 6 and 9, and 16, 17 and 19.
+/// the evaluations. Refusals 1 to 12 without 6 and 9, and 16, 17 and 19; then 21
+/// and 20.
 #[rustfmt::skip]
 pub fn keep(session: &mut Session, tables: Tables<'_>, bounds: Bounds<'_>, lent: Keep<'_>) -> Outcome {
     let Tables { n, m, e, kinds, makes, params, firsts, counts, vars, coefs } = tables;
@@ -87,7 +88,8 @@ pub fn keep(session: &mut Session, tables: Tables<'_>, bounds: Bounds<'_>, lent:
 }
 
 /// Takes the latest kept move back by route 1: changes the stored values and reasons, fills the flags, and takes the move off
-/// the log; gives the evaluations. Refusals 1 to 5, 7, 8, 16, 19, and 15 if the log holds no move.
+/// the log; gives the evaluations. Refusals 1 to 5, 7, 8, 16, 19, and 15 if the log holds no move; then
+/// 21 and 20.
 #[rustfmt::skip]
 pub fn take_back(session: &mut Session, tables: Tables<'_>, bounds: Bounds<'_>, lent: TakeBack<'_>) -> Outcome {
     let Tables { n, m, e, kinds, makes, params, firsts, counts, vars, coefs } = tables;

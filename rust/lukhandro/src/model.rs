@@ -136,10 +136,17 @@ impl Model {
     /// let circular = [Row::min(0, &[1]), Row::min(1, &[0])];
     /// let refused = Model::build(&[0, 0], &circular).unwrap_err();
     /// assert_eq!((refused.number, refused.place), (6, 0));
+    ///
+    /// // Variable 2 is 1, or what 3 is made from it, as index 0 chooses.
+    /// let chosen = [Row::element(2, 0, &[1, 3]), Row::min(3, &[2])];
+    /// assert_eq!(Model::build(&[0, 7, 0, 0], &chosen)?.stored(), [0, 7, 7, 7]);
+    /// let refused = Model::build(&[1, 7, 0, 0], &chosen).unwrap_err();
+    /// assert_eq!((refused.number, refused.place), (20, 2));
+    /// # Ok::<(), lukhandro::Refused>(())
     /// ```
     ///
     /// # Errors
-    /// Refusals 1 to 7.
+    /// Refusals 1 to 7, and 20 if the start values lead round a closed chain.
     pub fn build(starts: &[i32], rows: &[Row]) -> Result<Model, Refused> {
         Model::empty(starts.len(), rows.len()).with_rows(rows).built(starts)
     }
@@ -164,7 +171,7 @@ impl Model {
     /// ```
     ///
     /// # Errors
-    /// Refusals 1 to 7: 1 for fewer bounds than variables, and 4 for bounds that are not in order or not full.
+    /// Refusals 1 to 7 and 20: 1 for fewer bounds than variables, and 4 for bounds that are not in order or not full.
     pub fn build_within(starts: &[i32], bounds: &[(i32, i32)], rows: &[Row]) -> Result<Model, Refused> {
         Model::empty(starts.len(), rows.len()).with_bounds(bounds).with_rows(rows).built(starts)
     }
@@ -207,7 +214,7 @@ impl Model {
     /// ```
     ///
     /// # Errors
-    /// Refusal 14 for the file, and refusals 2 to 7 for what is in it.
+    /// Refusal 14 for the file, and refusals 2 to 7 and 20 for what is in it.
     pub fn read(bytes: &[u8]) -> Result<Model, Refused> {
         let (model, starts) = Model::of_file(|tables| lent::read(bytes, tables))?;
         model.built(&starts)
@@ -225,7 +232,8 @@ impl Model {
     /// ```
     ///
     /// # Errors
-    /// Refusal 14 for the file, refusals 2 to 7 for what is in it and for the bounds, and 1 for fewer bounds than variables.
+    /// Refusal 14 for the file, refusals 2 to 7 and 20 for what is in it and for the bounds, and 1 for fewer bounds than
+    /// variables.
     pub fn read_within(bytes: &[u8], bounds: &[(i32, i32)]) -> Result<Model, Refused> {
         let (model, starts) = Model::of_file(|tables| lent::read(bytes, tables))?;
         model.with_bounds(bounds).built(&starts)
@@ -244,7 +252,7 @@ impl Model {
     /// ```
     ///
     /// # Errors
-    /// Refusal 14 for the file, and refusals 2 to 7 for what is in it, its bounds too.
+    /// Refusal 14 for the file, and refusals 2 to 7 and 20 for what is in it, its bounds too.
     pub fn read_bounded(bytes: &[u8]) -> Result<Model, Refused> {
         let (mut lows, mut highs) = (vec![0; MOST_VARIABLES], vec![0; MOST_VARIABLES]);
         let bounds = BoundsMut { lows: &mut lows, highs: &mut highs };
@@ -286,7 +294,8 @@ impl Model {
     /// and changes none that is stored.
     ///
     /// # Errors
-    /// Refusal 1 for more than 64 pairs or more than 32 asked variables, and refusals 10 to 13 and 17.
+    /// Refusal 1 for more than 64 pairs or more than 32 asked variables, refusals 10 to 13 and 17, and 20 for a move that leads
+    /// round a closed chain.
     pub fn trial(&mut self, pairs: &[(u16, i32)], asked: &[u16], route: Route) -> Result<Trial<'_>, Refused> {
         let moved = Pairs::of(pairs);
         let trial = lent::Trial {
@@ -331,7 +340,7 @@ impl Model {
     /// ```
     ///
     /// # Errors
-    /// Refusal 1 for more than 64 pairs, and refusals 10 to 12 and 17.
+    /// Refusal 1 for more than 64 pairs, refusals 10 to 12 and 17, and 20 for a move that leads round a closed chain.
     pub fn keep(&mut self, pairs: &[(u16, i32)]) -> Result<u32, Refused> {
         let moved = Pairs::of(pairs);
         let keep = Keep {

@@ -10,7 +10,7 @@ use std::fmt;
 /// ```
 #[derive(Clone, Copy, Debug, PartialEq, Eq)]
 pub struct Refused {
-    /// Which check refused, 1 to 19.
+    /// Which check refused, 1 to 21.
     pub number: u32,
     /// The smallest row, variable, pair, asked place or byte that offends.
     pub place: u32,
@@ -32,7 +32,10 @@ impl fmt::Display for Refused {
                 "row {place} has a coefficient or a parameter outside its bound; or if no row has, variable {place} has bounds that are blank, not in order, or not full though a row makes it"
             ),
             5 => write!(f, "row {place} makes a variable that an earlier row makes already"),
-            6 => write!(f, "variable {place} depends on itself, or on one that does"),
+            6 => write!(
+                f,
+                "variable {place} depends on itself by a closed chain that passes no candidate of an ELEMENT, or the index of one"
+            ),
             7 => write!(
                 f,
                 "variable {place} has no value or one outside its bounds and no row makes it, or a row makes it and it starts at another value than 0"
@@ -49,6 +52,14 @@ impl fmt::Display for Refused {
             17 => write!(f, "pair {place} of the move has a value outside its variable's bounds"),
             18 => write!(f, "variable {place} has bounds that a file of version 1 cannot hold"),
             19 => write!(f, "the record's number of blanks is not that of the stored values"),
+            20 => write!(
+                f,
+                "variable {place} cannot be worked out: the candidates that are chosen lead round a closed chain"
+            ),
+            21 => write!(
+                f,
+                "variable {place} has another stored value than the one worked out afresh, in a model with a closed chain"
+            ),
             _ => write!(f, "no check has this number"),
         }
     }

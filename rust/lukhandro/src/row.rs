@@ -68,7 +68,8 @@ impl Row {
         Row::plain(Kind::Max, makes, inputs)
     }
 
-    /// The candidate that an index from 0 chooses.
+    /// The candidate that an index from 0 chooses. A candidate may depend on the variable made, the index may not; a call
+    /// after which the candidates that are chosen lead round is refused with 20.
     #[must_use]
     pub fn element(makes: u16, index: u16, candidates: &[u16]) -> Row {
         Row::plain(Kind::Element, makes, &[&[index], candidates].concat())

@@ -13,7 +13,8 @@ pub struct Salvage {
     pub values: Vec<u16>,
 }
 
-/// Saves what is whole and good in a damaged model file. An undamaged file comes back the same, with nothing listed.
+/// Saves what is whole and good in a damaged model file. An undamaged file without a closed chain comes back the same, with
+/// nothing listed.
 ///
 /// ```
 /// use lukhandro::{Model, Row};

@@ -302,14 +302,45 @@ fn models_that_are_too_large() {
     assert_eq!(Model::build(&[1; 4097], &[]).unwrap_err(), refused(1, 0));
 }
 
+/// Two trips that start at a depot or at the other's end: indices 0 and 1, the depot's time 2, starts 3 and 5, ends 4 and 6.
+fn two_trips(first: i32, second: i32) -> Result<Model, Refused> {
+    let rows = [
+        Row::linear(4, 600, &[(3, 1)]),
+        Row::element(3, 0, &[2, 6]),
+        Row::linear(6, 900, &[(5, 1)]),
+        Row::element(5, 1, &[2, 4]),
+    ];
+    Model::build(&[first, second, 25200, 0, 0, 0, 0], &rows)
+}
+
+#[test]
+fn trips_take_their_start_from_each_other() {
+    let mut trips = two_trips(0, 0).expect("both start at the depot");
+    assert_eq!(trips.stored()[3..], [25200, 25800, 25200, 26100]);
+    assert_eq!(two_trips(1, 1).unwrap_err(), refused(20, 3));
+    for route in [Route::InputToOutput, Route::OutputToInput, Route::MarkGuided] {
+        assert_eq!(trips.trial(&[(0, 1)], &[4], route).expect("the first behind the second").results, [26700]);
+        assert_eq!(trips.trial(&[(0, 1), (1, 1)], &[4], route).unwrap_err(), refused(20, 3));
+    }
+    assert_eq!(trips.keep(&[(0, 1)]), Ok(3));
+    assert_eq!(trips.keep(&[(1, 1)]), Err(refused(20, 3)));
+    assert_eq!(trips.stored()[3..], [26100, 26700, 25200, 26100]);
+    assert_eq!(trips.keep(&[(0, 0), (1, 1)]), Ok(4));
+    assert_eq!(trips.stored()[3..], [25200, 25800, 25800, 26700]);
+    assert_eq!((trips.take_back(), trips.take_back()), (Ok(4), Ok(3)));
+    assert_eq!(trips.stored()[3..], [25200, 25800, 25200, 26100]);
+    let through_an_index = [Row::element(1, 2, &[0]), Row::linear(2, 0, &[(1, 1)])];
+    assert_eq!(Model::build(&[5, 0, 0], &through_an_index).unwrap_err(), refused(6, 1));
+}
+
 #[test]
 fn every_refusal_has_a_sentence() {
-    for number in 1..=19 {
+    for number in 1..=21 {
         let sentence = refused(number, 7).to_string();
         assert!(sentence.starts_with(&format!("refused {number} 7: ")), "{sentence}");
         assert!(!sentence.contains("no check"), "{sentence}");
     }
-    for number in [0, 20] {
+    for number in [0, 22] {
         assert!(refused(number, 0).to_string().contains("no check"));
     }
 }

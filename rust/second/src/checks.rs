@@ -23,7 +23,7 @@ pub(crate) fn require(good: bool, number: u32) -> Result<(), Refused> {
 }
 
 /// A check whose place is the first index that offends, if one does.
-fn first(number: u32, offends: Option<usize>) -> Result<(), Refused> {
+pub(crate) fn first(number: u32, offends: Option<usize>) -> Result<(), Refused> {
     offends.map_or(Ok(()), |place| Err(Refused::at(number, place)))
 }
 

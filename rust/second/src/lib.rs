@@ -11,8 +11,10 @@
 mod bounds;
 mod calls;
 mod checks;
+mod choices;
 mod file;
 mod formulas;
+mod groups;
 mod log;
 mod order;
 mod parts;

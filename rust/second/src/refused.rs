@@ -5,7 +5,7 @@ use std::fmt;
 /// A refusal: its number and the smallest offending index.
 #[derive(Clone, Copy, Debug, PartialEq, Eq)]
 pub struct Refused {
-    /// 1 to 19.
+    /// 1 to 21.
     pub number: u32,
     /// The row, variable, pair, asked index or byte that offends.
     pub place: u32,

@@ -2,7 +2,7 @@
 
 use crate::checks::Makers;
 use crate::formulas::{ELEMENT, chosen, row_value};
-use crate::parts::{Row, pairs_of, row_of};
+use crate::parts::{Row, pairs_of, row_of, rows_of};
 use crate::readers::Readers;
 use lent::{Move, Tables};
 
@@ -64,6 +64,25 @@ pub(crate) fn sweep(
         flags[row.makes] = 1;
         evaluations += 1;
         due.left -= 1;
+    }
+    evaluations
+}
+
+/// Route 1 where there is a closed chain: flags the variables of the rows with some input, chosen or not, whose new value
+/// differs from the stored one.
+pub(crate) fn flag_differing(tables: &Tables<'_>, stored: &[i32], new: &[i32], flags: &mut [u8]) {
+    for row in rows_of(tables) {
+        let differs = |&variable: &u16| stored[usize::from(variable)] != new[usize::from(variable)];
+        flags[row.makes] = u8::from(row.vars.iter().any(differs));
+    }
+}
+
+/// Takes over the new values of the variables that are flagged, and gives their number.
+pub(crate) fn take_over(new: &[i32], values: &mut [i32], flags: &[u8]) -> u32 {
+    let mut evaluations = 0;
+    for ((value, &new), _) in values.iter_mut().zip(new).zip(flags).filter(|&(_, &flag)| flag == 1) {
+        *value = new;
+        evaluations += 1;
     }
     evaluations
 }

@@ -3,15 +3,22 @@
 mod naive;
 
 use compare::salvages::tiny_damaged_files;
-use compare::{Answer, Call, Case, Engine, Random, Second, Sizes, compare, model, run, seed};
+use compare::{
+    Answer, Call, Case, Engine, Random, Second, Side, Sizes, compare, has_closed_chain, interlined, model, run, seed,
+};
 use naive::Naive;
 use second::{BLANK, HIGHEST, LOWEST};
+
+/// A tiny model, every third with closed chains.
+fn tiny_model(random: &mut Random) -> Case {
+    if random.once_in(3) { interlined(random, Sizes::TINY) } else { model(random, Sizes::TINY) }
+}
 
 #[test]
 fn agrees_with_the_definitions() {
     let seed = seed();
     println!("seed {seed}");
-    let tally = run(&Second, &Naive, seed, 200_000, |random| model(random, Sizes::TINY));
+    let tally = run(&Second, &Naive, seed, 200_000, tiny_model);
     let tally = tally.unwrap_or_else(|difference| panic!("seed {seed}\n{difference}"));
     tally.assert_wide();
 }
@@ -566,4 +573,125 @@ fn finds_wrong_bounds_that_are_refused_otherwise() {
     };
     assert!(found_among(&OtherRefusal(after_5), made_twice).m <= 3);
     assert!(found_among(&OtherRefusal(at_the_last), two_wrong).m <= 1);
+}
+
+/// A small case on which an engine differs from the definitions, over models with closed chains.
+fn found_round(engine: &dyn Engine) -> Case {
+    found_among(engine, |random| interlined(random, Sizes::TINY))
+}
+
+/// Where a build from the stored values of the search variables, and the new ones of a move, is refused with 20.
+fn round_after_the_move(case: &Case) -> Option<u32> {
+    let mut starts = case.stored.to_vec();
+    let pairs = case.move_vars.iter().zip(&*case.move_values).take(case.pairs);
+    pairs.for_each(|(&variable, &value)| starts[usize::from(variable)] = value);
+    case.makes.iter().take(case.m).for_each(|&made| starts[usize::from(made)] = 0);
+    let log_sizes = vec![0; 65].into();
+    let answer =
+        Side::of(&Second, &Case { call: Call::Build, starts: starts.into(), log_sizes, ..case.clone() }).answer;
+    (answer.number == 20).then_some(answer.place)
+}
+
+#[test]
+fn finds_20_before_21() {
+    let before: fn(&Case, Answer) -> Answer = |case, answer| match (case.call, answer.number) {
+        (Call::Trial | Call::Keep, 21) => {
+            round_after_the_move(case).map_or(answer, |place| Answer { number: 20, place, ..answer })
+        }
+        _ => answer,
+    };
+    assert!(found_round(&OtherRefusal(before)).m <= 5);
+}
+
+#[test]
+fn finds_places_that_are_not_the_least() {
+    for number in [6, 20, 21] {
+        let told: fn(&Case, Answer) -> Answer = match number {
+            6 => |case, answer| last_made(6, case, answer),
+            20 => |case, answer| last_made(20, case, answer),
+            _ => |case, answer| last_made(21, case, answer),
+        };
+        assert!(found_round(&OtherRefusal(told)).m <= 5, "{number}");
+    }
+}
+
+/// Names the greatest made variable where a call is refused with this number.
+fn last_made(number: u32, case: &Case, answer: Answer) -> Answer {
+    let greatest = case.makes.iter().take(case.m).max();
+    match greatest {
+        Some(&place) if answer.number == number => Answer { place: place.into(), ..answer },
+        _ => answer,
+    }
+}
+
+/// An engine that refuses every closed chain, or takes every chain through a candidate.
+struct OtherChains {
+    none: bool,
+}
+
+impl Engine for OtherChains {
+    fn answer(&self, case: &mut Case) -> Answer {
+        let lent = case.clone();
+        let answer = Second.answer(case);
+        if self.none && case.call == Call::Build && answer.number == 0 && has_closed_chain(&lent) {
+            *case = lent;
+            return Answer { number: 6, ..Answer::default() };
+        }
+        if !self.none && answer.number == 6 && lent.kinds.contains(&4) {
+            return Answer { number: 20, ..answer };
+        }
+        answer
+    }
+}
+
+#[test]
+fn finds_other_chains_that_are_permitted() {
+    assert!(found_round(&OtherChains { none: true }).m <= 5);
+    assert!(found_round(&OtherChains { none: false }).m <= 5);
+}
+
+/// Takes the flag off a variable made by an ELEMENT whose index and chosen candidate have not changed, after a keep.
+fn follow_choices(lent: &Case, case: &mut Case) {
+    for row in (0..case.m).filter(|&row| case.call == Call::Keep && case.kinds[row] == 4) {
+        let (first, made) = (usize::from(case.firsts[row]), usize::from(case.makes[row]));
+        let same = |entry: usize| {
+            let input = usize::from(case.vars[entry]);
+            lent.stored[input] == case.stored[input]
+        };
+        let index = case.stored[usize::from(case.vars[first])];
+        let chosen = (0..i32::from(case.counts[row]) - 1).contains(&index).then(|| first + 1 + index as usize);
+        if has_closed_chain(lent) && case.flags[made] == 1 && same(first) && chosen.is_none_or(same) {
+            case.flags[made] = 0;
+            case.session.evaluations -= 1;
+        }
+    }
+}
+
+#[test]
+fn finds_a_route_1_that_follows_the_choices() {
+    assert!(found_round(&Faulty(follow_choices)).m <= 5);
+}
+
+/// An engine that works stored values out anew where they are not the fresh ones.
+struct Refreshing;
+
+impl Engine for Refreshing {
+    fn answer(&self, case: &mut Case) -> Answer {
+        let answer = Second.answer(case);
+        let still = Case { pairs: 0, ..case.clone() };
+        if case.call != Call::Keep || answer.number != 21 || round_after_the_move(&still).is_some() {
+            return answer;
+        }
+        let mut starts = case.stored.to_vec();
+        case.makes.iter().take(case.m).for_each(|&made| starts[usize::from(made)] = 0);
+        let fresh = Side::of(&Second, &Case { call: Call::Build, starts: starts.into(), ..case.clone() }).left;
+        case.stored = fresh.stored;
+        case.count_blanks();
+        Second.answer(case)
+    }
+}
+
+#[test]
+fn finds_stored_values_that_are_worked_out_anew() {
+    assert!(found_round(&Refreshing).m <= 5);
 }

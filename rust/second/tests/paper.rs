@@ -2,13 +2,14 @@
 
 mod naive;
 
+use compare::chains::CHAINS;
 use compare::deep::deepest_models;
 use compare::edges::EDGES;
 use compare::files::FILES;
 use compare::reasons::REASONS;
 use compare::runs::{RUNS, model_a};
 use compare::salvages::{SALVAGES, damaged_files};
-use compare::sessions::long_sessions;
+use compare::sessions::{long_sessions, sessions_over_closed_chains};
 use compare::takings::TAKINGS;
 use compare::versions::{VERSIONS, random_files};
 use compare::{Case, Engine, Second, Test};
@@ -34,6 +35,21 @@ fn keeps_and_takings_back() {
 #[test]
 fn long_sessions_of_keeps_and_takings_back() {
     long_sessions(&Second);
+}
+
+#[test]
+fn long_sessions_over_closed_chains() {
+    sessions_over_closed_chains(&Second);
+}
+
+#[test]
+fn closed_chains() {
+    hold(CHAINS, &Second);
+}
+
+#[test]
+fn closed_chains_by_the_definitions() {
+    hold(CHAINS, &Naive);
 }
 
 #[test]

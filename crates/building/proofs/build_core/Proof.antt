@@ -3,8 +3,7 @@ use native.Mathlib.Nat.{le-refl}
 use native.Mathlib.Omega.{arith}
 use mathlib.Core.Path.{_≡_, refl, sym, ap, _∙_}
 use Rattle.paper.specs.Checks.{accepted, refused}
-use Rattle.paper.specs.Net.{afresh}
-use Rattle.paper.specs.Tables.{net}
+use Rattle.paper.specs.Chains.{worth}
 use Rattle.paper.specs.Calls.{BuildLent, startValues, buildVerdict}
 use Rattle.paper.proofs.Outcomes.{build-meets}
 use Rattle.paper.proofs.Sizes.{Sized}
@@ -12,6 +11,7 @@ use Rattle.paper.proofs.Known.{build-known}
 use Rattle.tables.proofs.Judged.{accepted-is, refused-is}
 use Rattle.order.proofs.Sweeps.{clean-new}
 use Rattle.fits.specs.Lent.{noRecord, toBuild}
+use Rattle.permits.proofs.Kinded.{permitted-kinded}
 use Rattle.records.specs.Left.{answerIn, recordIn}
 use Rattle.builds.proofs.Judging.{any-session, fitting}
 use Rattle.accepts.proofs.Accepts.{filled-long, blanks-over}
@@ -73,7 +73,11 @@ fill-model-requires c κs =
     let k = build-known l (passed e) in let fit = fitting l (k .fits) in
     record {
       sound = k .sound;
-      chains = k .chains;
+      grouped = record {
+        permitted = λ v h. ap (λ f. f v) (permitted-kinded (l .tables)) ∙ k .permitted v h;
+        shared = judged .shared (accepted-is 0 (said .0 .0) _ (sym (judged .verdict) ∙ said .1));
+      };
+      determined = k .determined;
       in-starts = fit .starts;
       in-numbers = fit .numbers;
       in-order = fit .order;
@@ -81,7 +85,6 @@ fill-model-requires c κs =
       index-starts = fit .index-starts;
       index-places = fit .index-places;
       in-log = fit .log;
-      numbered = judged .numbered (accepted-is 0 (said .0 .0) _ (sym (judged .verdict) ∙ said .1));
     }
 
 cast-evaluations : tie.Need-cast-evaluations
@@ -113,7 +116,7 @@ same-length-12 c = search needs
 returns-2 : tie.Need-returns-2
 returns-2 c =
     let e = c .before .before .before .before .before .before .before .before .before .before .before .before .before .before .before .before .before .before .before .before .before in let l = lent (start e) in let left = c .before .before .before .before .before .before .before .before .before .before .before .before .before .fill-model .ensures in
-    build-meets l _ accepted (passed e) refl (ap (λ k. record { kept = 0; evaluations = l .tables .m; blanks = k }) (c .blanks-among .ensures ∙ blanks-over (l .tables .n) (afresh (net (l .tables)) (startValues l) (l .tables .n)) (l .stored) _ (left .1 .1 .0)))
+    build-meets l _ accepted (passed e) refl (ap (λ k. record { kept = 0; evaluations = l .tables .m; blanks = k }) (c .blanks-among .ensures ∙ blanks-over (l .tables .n) (worth (l .tables) (startValues l)) (l .stored) _ (left .1 .1 .0)))
     (left .0) (left .1 .0) (left .1 .1 .0) (left .1 .1 .1 .0) (left .1 .1 .1 .1)
 
 pub build-core-spec : {M : Type 1} → statement M

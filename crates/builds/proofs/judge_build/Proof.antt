@@ -6,18 +6,18 @@ use mathlib.Core.Path.{_≡_, refl, sym, ap, _∙_}
 use borrow.Author.Needs.{needs}
 use borrow.Author.Tests.{not-true, not-false}
 use Rattle.paper.specs.Lists.{firstFail}
-use Rattle.paper.specs.Tables.{ends}
-use Rattle.paper.specs.Checks.{accepted, tableChecks, Sound}
-use Rattle.paper.specs.Calls.{BuildLent, buildFits}
+use Rattle.paper.specs.Chains.{permitted}
+use Rattle.paper.specs.Checks.{accepted, tableChecks, startAllowed, Sound}
+use Rattle.paper.specs.Calls.{BuildLent, buildFits, startValues}
 use Rattle.paper.proofs.Verdicts.{Past}
 use Rattle.tables.specs.Answers.{answerOf}
-use Rattle.tables.specs.Makers.{Makers}
 use Rattle.tables.proofs.Judged.{accepted-is, refused-is}
 use Rattle.paper.proofs.Sizes.{sized-of}
 use Rattle.paper.proofs.Accept.{tables-passed}
-use Rattle.order.proofs.Bare.{formed-of, makers-bare, ends-bare}
+use Rattle.order.proofs.Bare.{formed-of}
+use Rattle.permits.proofs.Kinded.{kindedOf, formed-kinded, makers-kinded, permitted-kinded}
 use Rattle.fits.specs.Lent.{noRecord, toBuild}
-use Rattle.builds.proofs.Judging.{judged-refused, fitting, stops-1, stops-tables, stops-6, stops-7, passes}
+use Rattle.builds.proofs.Judging.{grouped-past, judged-refused, fitting, stops-1, stops-tables, stops-6, stops-7, stops-20, passes}
 use Rattle.builds.proofs.judge_build.Statement.{statement}
 use Rattle.builds.proofs.judge_build.Tie as tie
 
@@ -72,14 +72,14 @@ passed c = let said = c .enum-told .given in accepted-is 0 (said .0 .0) _ (sym (
 sound : (c : tie.After-enum-told) → Sound (l₅ c .tables)
 sound c = let l = l₅ c in tables-passed (l .tables) (l .bounds) (sized-of (l .tables) (fitting l (fits (c .before .before .before .before .before)) .held)) accepted (passed c) .0
 
-slice-aggregate-find-numbers : tie.Need-slice-aggregate-find-numbers
-slice-aggregate-find-numbers c = search needs
+slice-aggregate-number-all : tie.Need-slice-aggregate-number-all
+slice-aggregate-number-all c = search needs
 
-find-numbers-requires : tie.Need-find-numbers-requires
-find-numbers-requires c κs =
-    let e = c .before .before in let l = l₅ e in let t = l .tables in let n = fitting l (fits (e .before .before .before .before .before)) .held .n-most in
+number-all-requires : tie.Need-number-all-requires
+number-all-requires c κs =
+    let e = c .before .before in let l = l₅ e in let t = l .tables in let held = fitting l (fits (e .before .before .before .before .before)) .held in let n = held .n-most in
     let clean = c .before .before .before .before .before .before .before .before .before .before .before .before .before .before .before .before .before .before .before .pre in
-    (formed-of t (sound e), (makers-bare t _ (e .before .before .before .table-checks .ensures .makers (passed e)), record { long = omega (arith, clean .long); at = clean .at }))
+    (formed-kinded t (formed-of t (sound e)), (held .kinds, (makers-kinded t _ (e .before .before .before .table-checks .ensures .makers (passed e)), record { long = omega (arith, clean .long); at = clean .at })))
 
 refused-requires-2 : tie.Need-refused-requires-2
 refused-requires-2 c κs = let n = fitting (l₅ (c .before .before .before .before)) (fits (c .before .before .before .before .before .before .before .before .before)) .held .n-most in omega arith
@@ -87,11 +87,11 @@ refused-requires-2 c κs = let n = fitting (l₅ (c .before .before .before .bef
 returns-3 : tie.Need-returns-3
 returns-3 c =
     let e = c .before .before .before .before .before in let l = l₅ e in let t = l .tables in
-    judged-refused l _ _ 6 _ (c .refused2 .ensures) (stops-6 l (fits (e .before .before .before .before .before)) (passed e) _ (c .before .before .find-numbers .ensures .least ∙ ap (λ f. firstFail f (t .n)) (ends-bare t)) (c .before .if2 .taken))
+    judged-refused l _ _ 6 _ (c .refused2 .ensures) (stops-6 l (fits (e .before .before .before .before .before)) (passed e) _ (c .before .before .number-all .ensures .0 ∙ ap (λ f. firstFail f (t .n)) (permitted-kinded t)) (c .before .if2 .taken))
 
 -- ── past check 6 ──
-past₆ : (c : tie.Else2) → let t = l₅ (c .before .before .before .before) .tables in Past (ends t) (t .n) (c .before .find-numbers .result)
-past₆ c = let t = l₅ (c .before .before .before .before) .tables in (c .before .find-numbers .ensures .least ∙ ap (λ f. firstFail f (t .n)) (ends-bare t), c .if2 .left)
+past₆ : (c : tie.Else2) → let t = l₅ (c .before .before .before .before) .tables in Past (permitted t) (t .n) (c .before .number-all .result)
+past₆ c = let t = l₅ (c .before .before .before .before) .tables in (c .before .number-all .ensures .0 ∙ ap (λ f. firstFail f (t .n)) (permitted-kinded t), c .if2 .left)
 
 slice-aggregate-first-bad-value : tie.Need-slice-aggregate-first-bad-value
 slice-aggregate-first-bad-value c = search needs
@@ -108,14 +108,35 @@ returns-4 c =
     judged-refused l _ _ 7 _ (c .refused3 .ensures)
     (stops-7 l (fits (e .before .before .before .before .before)) (passed e) _ (past₆ (c .before .before .before .before)) _ (c .before .before .first-bad-value .ensures .of t refl (e .before .before .before .table-checks .ensures .makers (passed e))) (c .before .if3 .taken))
 
+-- ── past check 7 ──
+past₇ : (c : tie.Else3) → let l = l₅ (c .before .before .before .before .before .before .before) in Past (startAllowed (l .tables) (l .bounds) (startValues l)) (l .tables .n) (c .before .first-bad-value .result)
+past₇ c = let e = c .before .before .before .before .before .before .before in (c .before .first-bad-value .ensures .of (l₅ e .tables) refl (e .before .before .before .table-checks .ensures .makers (passed e)), c .if3 .left)
+
+slice-aggregate-first-undetermined : tie.Need-slice-aggregate-first-undetermined
+slice-aggregate-first-undetermined c = search needs
+
+first-undetermined-requires : tie.Need-first-undetermined-requires
+first-undetermined-requires c κs =
+    let e = c .before .before .before .before .before .before .before .before .before in let l = l₅ e in let found = c .before .before .before .before .before .before .number-all .ensures in
+    (sound e, (e .before .before .before .table-checks .ensures .makers (passed e), (grouped-past (kindedOf (l .tables)) _ (found .0, c .before .before .before .before .before .if2 .left) (found .1), fitting l (fits (e .before .before .before .before .before)) .starts)))
+
+refused-requires-4 : tie.Need-refused-requires-4
+refused-requires-4 c κs = let e = c .before .before .before .before .before .before .before .before .before .before .before in let n = fitting (l₅ e) (fits (e .before .before .before .before .before)) .held .n-most in omega arith
+
 returns-5 : tie.Need-returns-5
 returns-5 c =
-    let e = c .before .before .before .before .before .before .before in let l = l₅ e in let t = l .tables in
+    let e = c .before .before .before .before .before .before .before .before .before .before .before .before in let l = l₅ e in
+    judged-refused l _ _ 20 _ (c .refused4 .ensures)
+    (stops-20 l (fits (e .before .before .before .before .before)) (passed e) _ (past₆ (c .before .before .before .before .before .before .before .before)) _ (past₇ (c .before .before .before .before .before)) _ (c .before .before .first-undetermined .ensures) (c .before .if4 .taken))
+
+returns-6 : tie.Need-returns-6
+returns-6 c =
+    let e = c .before .before .before .before .before .before .before .before .before .before .before in let l = l₅ e in
     record {
       verdict =
           e .before .before .before .table-checks .ensures .verdict
-          ∙ ap (answerOf 0) (passed e ∙ sym (passes l (fits (e .before .before .before .before .before)) (passed e) _ (past₆ (c .before .before .before)) _ (c .before .first-bad-value .ensures .of t refl (e .before .before .before .table-checks .ensures .makers (passed e)), c .if3 .left)));
-      numbered = λ _. c .before .before .before .before .find-numbers .ensures .numbered (c .before .before .before .if2 .left);
+          ∙ ap (answerOf 0) (passed e ∙ sym (passes l (fits (e .before .before .before .before .before)) (passed e) _ (past₆ (c .before .before .before .before .before .before .before)) _ (past₇ (c .before .before .before .before)) _ (c .before .first-undetermined .ensures, c .if4 .left)));
+      shared = λ _. c .before .before .before .before .before .before .before .before .number-all .ensures .1;
     }
 
 pub judge-build-spec : {M : Type 1} → statement M
@@ -130,12 +151,16 @@ judge-build-spec =
     enum-told
     enum-told-2
     returns-2
-    slice-aggregate-find-numbers
-    find-numbers-requires
+    slice-aggregate-number-all
+    number-all-requires
     refused-requires-2
     returns-3
     slice-aggregate-first-bad-value
     first-bad-value-requires
     refused-requires-3
     returns-4
-    returns-5)
+    slice-aggregate-first-undetermined
+    first-undetermined-requires
+    refused-requires-4
+    returns-5
+    returns-6)

@@ -53,7 +53,7 @@ returns-2 c =
     }
 
 -- ── past check 17 ──
-past₁₇ : (c : tie.After-enum-told) (t : Tables) → t .n ≡ c .before .before .before .before .before .before .before .args .n → Makers t (c .before .before .before .before .before .before .before .args .by .now) → let s = c .before .before .before .before .before .before .before in let w = tried s in let bs = bounds s in askChecks w t bs ≡ fromThirteen w bs t
+past₁₇ : (c : tie.After-enum-told) (t : Tables) → t .n ≡ c .before .before .before .before .before .before .before .args .n → Makers t (c .before .before .before .before .before .before .before .args .by .now) → let s = c .before .before .before .before .before .before .before in let w = tried s in let bs = bounds s in askChecks w t bs accepted ≡ fromThirteen w bs t
 past₁₇ c t q k =
     let s = c .before .before .before .before .before .before .before in let w = tried s in let bs = bounds s in let said = c .enum-told .given in
     past-9 w bs t (past₉ (c .before .before .before)) ∙ answer-next (pairChecks (w .move) bs t accepted) _ (c .before .before .move-checks .ensures .of t q k) (fromThirteen w bs t) (said .0 .0) (said .1)

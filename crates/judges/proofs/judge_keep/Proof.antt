@@ -1,19 +1,20 @@
--- Check 1 and the checks of the model stop the call, and past them those of the move and of the log decide. Assumes nothing.
+-- Check 1, the checks of the model and those of the move and of the log stop the call, and past them those of fresh values decide. Assumes nothing.
 use native.Mathlib.Omega.{arith}
 use mathlib.Core.Bool.{true}
 use mathlib.Core.Path.{_≡_, sym, _∙_}
 use borrow.Author.Needs.{needs}
 use borrow.Author.Tests.{not-true, not-false}
 use Rattle.paper.specs.Tables.{Tables}
-use Rattle.paper.specs.Checks.{Verdict, accepted}
+use Rattle.paper.specs.Checks.{Verdict}
 use Rattle.paper.specs.Log.{Log, logIn}
 use Rattle.paper.specs.Calls.{Model, Kept, keepFits, keepVerdict}
 use Rattle.paper.proofs.Lists.{each}
-use Rattle.moves.specs.Moves.{pairChecks}
+use Rattle.paper.proofs.Verdicts.{Chain}
 use Rattle.fits.specs.Lent.{toModel, toKeep}
-use Rattle.chains.specs.Chains.{logChecks}
+use Rattle.chains.specs.Chains.{keepChecks}
+use Rattle.chains.proofs.Chains.{keep-then}
 use Rattle.models.proofs.Judging.{model-fitting}
-use Rattle.judges.proofs.JudgingMoves.{move-ready, call-stops-1, call-stops, call-next}
+use Rattle.judges.proofs.JudgingMoves.{pairs-fit, model-makers, model-sound, model-grouped, move-ready, call-stops-1, call-stops, call-stops-2, call-passed, call-last}
 use Rattle.judges.proofs.judge_keep.Statement.{statement}
 use Rattle.judges.proofs.judge_keep.Tie as tie
 
@@ -29,8 +30,11 @@ abbrev kept : tie.Start → Kept
 kept s = let a = s .args in toKeep (a .pairs) (a .move-vars .now) (a .move-values .now) (a .flags .now)
 
 -- checks 10 to 12, 17 and 16
-abbrev rest : tie.Start → Tables → Verdict
-rest s = λ t. pairChecks (kept s .move) (model s .bounds) t (logChecks (log s) t (model s .bounds) (s .args .kept) accepted)
+abbrev rest : tie.Start → Tables → Verdict → Verdict
+rest s = λ u. keepChecks (log s) (kept s .move) (s .args .kept) u (model s .bounds)
+
+chain : (s : tie.Start) (u : Tables) → Chain (rest s u)
+chain s u = keep-then (model s .bounds) u (log s) (kept s .move) (s .args .kept)
 
 keep-fits-requires : tie.Need-keep-fits-requires
 keep-fits-requires c κs = search needs
@@ -42,7 +46,7 @@ returns : tie.Need-returns
 unfolding keepVerdict
 returns c =
     let s = c .before .before .before .before .before .before .before .before .before .before .before .before .before .before .before .before in
-    call-stops-1 (model s) (s .args .blanks) (keepFits (log s) (model s) (kept s)) (rest s) _ (c .refused .ensures) (sym (c .before .before .keep-fits .ensures) ∙ not-true _ (c .before .if1 .taken))
+    call-stops-1 (model s) (s .args .blanks) (keepFits (log s) (model s) (kept s)) (rest s) (chain s) (kept s .move) _ (c .refused .ensures) (sym (c .before .before .keep-fits .ensures) ∙ not-true _ (c .before .if1 .taken))
 
 -- ── past check 1 ──
 fits : (c : tie.Else1) → let s = c .before .before .before .before .before .before .before .before .before .before .before .before .before .before .before in keepFits (log s) (model s) (kept s) ≡ true
@@ -64,7 +68,7 @@ returns-2 : tie.Need-returns-2
 unfolding keepVerdict
 returns-2 c =
     let s = c .before .before .before .before .before .before .before .before .before .before .before .before .before .before .before .before .before .before .before .before in let said = c .enum-told2 .given in
-    call-stops (model s) (s .args .blanks) (keepFits (log s) (model s) (kept s)) (rest s) (fits (c .before .before .before .before .before)) _ _ (c .before .before .before .model-checks .ensures) (said .0 .0) (said .0 .1 .0) (said .1)
+    call-stops (model s) (s .args .blanks) (keepFits (log s) (model s) (kept s)) (rest s) (chain s) (kept s .move) (fits (c .before .before .before .before .before)) _ _ (c .before .before .before .model-checks .ensures) (said .0 .0) (said .0 .1 .0) (said .1)
 
 -- ── the model accepted ──
 slice-aggregate-keep-checks : tie.Need-slice-aggregate-keep-checks
@@ -75,11 +79,45 @@ keep-checks-requires c κs =
     let s = c .before .before .before .before .before .before .before .before .before .before .before .before .before .before .before .before .before .before .before .before .before in let said = c .before .enum-told .given in let f = each _ (fits (c .before .before .before .before .before .before)) in
     (move-ready (model s) (s .args .blanks) _ _ (c .before .before .before .before .model-checks .ensures) (said .0 .0) (said .1) (kept s .move) (f .1 .0), f .1 .1 .1 .0)
 
+enum-told-3 : tie.Need-enum-told-3
+enum-told-3 c = search needs
+
+enum-told-4 : tie.Need-enum-told-4
+enum-told-4 c = search needs
+
 returns-3 : tie.Need-returns-3
 unfolding keepVerdict
 returns-3 c =
-    let s = c .before .before .before .before .before .before .before .before .before .before .before .before .before .before .before .before .before .before .before .before .before .before in let said = c .before .before .enum-told .given in
-    call-next (model s) (s .args .blanks) (keepFits (log s) (model s) (kept s)) (rest s) (fits (c .before .before .before .before .before .before .before)) _ _ (c .before .before .before .before .before .model-checks .ensures) (said .0 .0) (said .1) _ (c .keep-checks .ensures)
+    let s = c .before .before .before .before .before .before .before .before .before .before .before .before .before .before .before .before .before .before .before .before .before .before .before .before in let said = c .before .before .before .before .enum-told .given in let refusal = c .enum-told4 .given in
+    call-stops-2 (model s) (s .args .blanks) (keepFits (log s) (model s) (kept s)) (rest s) (chain s) (kept s .move) (fits (c .before .before .before .before .before .before .before .before .before)) _ _ (c .before .before .before .before .before .before .before .model-checks .ensures) (said .0 .0) (said .1) _ (c .before .before .keep-checks .ensures) (refusal .0 .0) (refusal .0 .1 .0) (refusal .1)
+
+-- ── and what comes next ──
+slice-aggregate-fresh-checks : tie.Need-slice-aggregate-fresh-checks
+slice-aggregate-fresh-checks c = search needs
+
+fresh-checks-requires : tie.Need-fresh-checks-requires
+fresh-checks-requires c κs =
+    let s = c .before .before .before .before .before .before .before .before .before .before .before .before .before .before .before .before .before .before .before .before .before .before .before .before .before in let said = c .before .before .before .before .before .enum-told .given in let more = c .before .enum-told3 .given in
+    let judged = c .before .before .before .before .before .before .before .before .model-checks .ensures in let f = each _ (fits (c .before .before .before .before .before .before .before .before .before .before)) in
+    let passed = call-passed (model s) (s .args .blanks) (keepFits (log s) (model s) (kept s)) (rest s) (chain s) (kept s .move) (fits (c .before .before .before .before .before .before .before .before .before .before)) _ _ (c .before .before .before .before .before .before .before .before .model-checks .ensures) (said .0 .0) (said .1) _ (c .before .before .before .keep-checks .ensures) (more .0 .0) (more .1) in (
+      model-sound (model s) (s .args .blanks) _ _ judged (said .0 .0) (said .1),
+      (
+        model-makers (model s) (s .args .blanks) _ _ judged (said .0 .0) (said .1),
+        (
+          model-grouped (model s) (s .args .blanks) _ _ judged (said .0 .0) (said .1),
+          (
+            model-fitting (model s) (s .args .blanks) (f .0) .stored,
+            pairs-fit (model s .tables) (model s .bounds) (kept s .move) _ (f .1 .0) passed,
+          ),
+        ),
+      ),
+    )
+
+returns-4 : tie.Need-returns-4
+unfolding keepVerdict
+returns-4 c =
+    let s = c .before .before .before .before .before .before .before .before .before .before .before .before .before .before .before .before .before .before .before .before .before .before .before .before .before .before in let said = c .before .before .before .before .before .before .enum-told .given in let more = c .before .before .enum-told3 .given in
+    call-last (model s) (s .args .blanks) (keepFits (log s) (model s) (kept s)) (rest s) (chain s) (kept s .move) (fits (c .before .before .before .before .before .before .before .before .before .before .before)) _ _ (c .before .before .before .before .before .before .before .before .before .model-checks .ensures) (said .0 .0) (said .1) _ (c .before .before .before .before .keep-checks .ensures) (more .0 .0) (more .1) _ (c .fresh-checks .ensures)
 
 pub judge-keep-spec : {M : Type 1} → statement M
 judge-keep-spec =
@@ -95,4 +133,9 @@ judge-keep-spec =
     returns-2
     slice-aggregate-keep-checks
     keep-checks-requires
-    returns-3)
+    enum-told-3
+    enum-told-4
+    returns-3
+    slice-aggregate-fresh-checks
+    fresh-checks-requires
+    returns-4)

@@ -1,21 +1,19 @@
 -- Each check stops the chain or is passed, and then the rest decides; sound tables have makers, and over these checks 8 and 7 are made.
 -- Assumes nothing.
-use native.Mathlib.Omega.{arith}
 use mathlib.Core.Bool.{true}
-use mathlib.Core.List.{List}
 use mathlib.Core.Path.{_≡_, refl, sym, ap, _∙_}
-use Prim.Native.Nat.{ℕ}
 use borrow.Author.Needs.{needs}
 use borrow.Author.Tests.{not-true, not-false}
-use Rattle.paper.specs.Lists.{over}
-use Rattle.paper.specs.Checks.{accepted, tableChecks, numbered, indexed, Sound}
+use Rattle.paper.specs.Checks.{accepted, tableChecks, indexed, Sound}
+use Rattle.paper.specs.Chains.{groupsNumbered}
 use Rattle.paper.specs.Calls.{Model}
 use Rattle.tables.specs.Answers.{answerOf}
-use Rattle.tables.specs.Makers.{Makers}
 use Rattle.tables.proofs.Judged.{accepted-is, refused-is}
 use Rattle.paper.proofs.Sizes.{sized-of}
 use Rattle.paper.proofs.Accept.{tables-passed}
-use Rattle.order.proofs.Bare.{formed-of, makers-bare, numbered-bare}
+use Rattle.order.proofs.Bare.{formed-of}
+use Rattle.permits.proofs.Kinded.{formed-kinded, makers-kinded, eight-kinded}
+use Rattle.paper.proofs.Closes.{groups-permitted, groups-numbers}
 use Rattle.fits.specs.Lent.{toModel}
 use Rattle.readers.proofs.Known.{entries-laid}
 use Rattle.models.proofs.Judging.{ModelFitting, model-fitting, model-refused, stops-tables, stops-8, stops-index, from-stored}
@@ -58,10 +56,10 @@ passed c = let said = c .enum-told .given in accepted-is 0 (said .0 .0) _ (sym (
 sound : (c : tie.After-enum-told) → Sound (model (start₅ c) .tables)
 sound c = let w = model (start₅ c) in tables-passed (w .tables) (w .bounds) (sized-of (w .tables) (long (start₅ c) .held)) accepted (passed c) .0
 
-numbered-right-requires : tie.Need-numbered-right-requires
-numbered-right-requires c κs =
+shared-right-requires : tie.Need-shared-right-requires
+shared-right-requires c κs =
     let e = c .before in let s = start₅ e in let t = model s .tables in
-    (formed-of t (sound e), (makers-bare t _ (e .before .before .before .before .table-checks .ensures .makers (passed e)), (long s .numbers, long s .order)))
+    (formed-kinded t (formed-of t (sound e)), (long s .held .kinds, (makers-kinded t _ (e .before .before .before .before .table-checks .ensures .makers (passed e)), (long s .numbers, long s .order))))
 
 refused-requires : tie.Need-refused-requires
 refused-requires c κs = search needs
@@ -72,11 +70,11 @@ same-length-2 c = search needs
 returns-2 : tie.Need-returns-2
 returns-2 c =
     let e = c .before .before .before .before in let s = start₅ e in let w = model s in
-    model-refused w (s .args .blanks) _ _ 8 0 (c .refused .ensures) (stops-8 w (s .args .blanks) (passed e) (sym (c .before .before .numbered-right .ensures ∙ numbered-bare (w .tables) (w .numbers) (w .order)) ∙ not-true _ (c .before .if1 .taken)))
+    model-refused w (s .args .blanks) _ _ 8 0 (c .refused .ensures) (stops-8 w (s .args .blanks) (passed e) (sym (c .before .before .shared-right .ensures ∙ eight-kinded (w .tables) (w .numbers) (w .order)) ∙ not-true _ (c .before .if1 .taken)))
 
 -- ── past check 8 ──
-past₈ : (c : tie.Else1) → let w = model (start₅ (c .before .before .before)) in numbered (w .tables) (w .numbers) (w .order) ≡ true
-past₈ c = let w = model (start₅ (c .before .before .before)) in sym (c .before .numbered-right .ensures ∙ numbered-bare (w .tables) (w .numbers) (w .order)) ∙ not-false _ (c .if1 .left)
+past₈ : (c : tie.Else1) → let w = model (start₅ (c .before .before .before)) in groupsNumbered (w .tables) (w .numbers) (w .order) ≡ true
+past₈ c = let w = model (start₅ (c .before .before .before)) in sym (c .before .shared-right .ensures ∙ eight-kinded (w .tables) (w .numbers) (w .order)) ∙ not-false _ (c .if1 .left)
 
 readers-right-requires : tie.Need-readers-right-requires
 readers-right-requires c κs = let e = c .before .before .before in let s = start₅ e in (entries-laid (model s .tables) (sound e), (long s .starts, long s .places))
@@ -111,6 +109,11 @@ returns-4 c =
           c .stored-checks .ensures .of (w .tables) refl (e .before .before .before .before .table-checks .ensures .makers (passed e))
           ∙ ap (answerOf 0) (sym (from-stored w (s .args .blanks) (passed e) (past₈ (c .before .before .before .before)) (past-index (c .before .before))));
       makers = λ _. e .before .before .before .before .table-checks .ensures .makers (passed e);
+      sound = λ _. sound e;
+      grouped = λ _. let eight = past₈ (c .before .before .before .before) in record {
+        permitted = groups-permitted (w .tables) (w .numbers) (w .order) eight;
+        shared = record { long = long s .numbers; at = groups-numbers (w .tables) (w .numbers) (w .order) eight };
+      };
     }
 
 pub model-checks-spec : {M : Type 1} → statement M
@@ -122,7 +125,7 @@ model-checks-spec =
     enum-told-2
     same-length
     returns
-    numbered-right-requires
+    shared-right-requires
     refused-requires
     same-length-2
     returns-2

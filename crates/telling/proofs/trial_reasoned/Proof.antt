@@ -1,6 +1,6 @@
 -- Without room nothing is written; with it the core's equation holds of all but the reasons, which are read over the row and flags that an accepted core left. Assumes nothing.
-use Prim.Native.Nat.{ℕ, _-_}
-use mathlib.Core.Bool.{true, false, _&&_}
+use Prim.Native.Nat.{_-_}
+use mathlib.Core.Bool.{true, _&&_}
 use mathlib.Core.Path.{_≡_, sym, ap, _∙_}
 use lib.Dec.{leb}
 use lib.ListN.{length, take}
@@ -8,11 +8,12 @@ use lib.Seq.{length-take-le}
 use native.Mathlib.Omega.{arith}
 use borrow.Author.Needs.{needs}
 use borrow.Author.Tests.{leb-true, not-true, not-false}
+use Rattle.paper.specs.Net.{moved}
 use Rattle.paper.specs.Checks.{accepted, movePairs}
 use Rattle.paper.specs.Calls.{Session, trialRow, flagRow, Model, storedValues, Tried, TrialLeft, askedList, routeOf, trialVerdict}
 use Rattle.paper.specs.Demands.{trialAsWas}
 use Rattle.paper.proofs.Lists.{and-left, and-right}
-use Rattle.paper.proofs.Known.{trial-known}
+use Rattle.paper.proofs.Known.{model-meets, trial-known}
 use Rattle.paper.proofs.Outcomes.{trial-judged}
 use Rattle.fits.specs.Lent.{toModel, toTry}
 use Rattle.records.specs.Left.{recordIn, answerIn}
@@ -125,8 +126,9 @@ returns-3 : tie.Need-returns-3
 returns-3 c =
     let e = c .before .before .before .before .before .before .before in let b = core e in let s = start b in let k = trial-known (session s) (model s) (asking s) (passed e) in
     met-accepted (trial-roomy (session s) (model s) (s .args .reasons .now) (asking s) (s .args .why .now)) (room b) (b .trial-core .ensures) (passed e)
-    (asked-given (model s .tables) (k .model .sound) (k .model .chains) (routeOf (s .args .route)) (storedValues (model s)) (movePairs (asking s .move)) (askedList (asking s))
-    _ (s .args .trial .now) (row e) _ (s .args .flags .now) (flags e) (s .args .reasons .now) (s .args .asked-vars .now) _ (s .args .why .now) _ (s .args .asked) (let z : s .args .asked - 0 ≡ s .args .asked = omega arith in ap (λ k. take k (s .args .asked-vars .now)) z)
+    (asked-given (model s .tables) (k .model .sound) (routeOf (s .args .route)) (storedValues (model s)) (movePairs (asking s .move)) (askedList (asking s))
+    (model-meets (model s) (k .model) (k .fresh) (moved (movePairs (asking s .move)) (storedValues (model s))) (k .determined) (routeOf (s .args .route)))
+    (trying-of (session s) (model s) (asking s) (passed e) .asked) _ (s .args .trial .now) (row e) _ (s .args .flags .now) (flags e) (s .args .reasons .now) (s .args .asked-vars .now) _ (s .args .why .now) _ (s .args .asked) (let z : s .args .asked - 0 ≡ s .args .asked = omega arith in ap (λ k. take k (s .args .asked-vars .now)) z)
     (trying-of (session s) (model s) (asking s) (passed e) .in-asked) (k .asked) (c .before .before .asked-reasons .ensures))
 
 pub trial-reasoned-spec : {M : Type 1} → statement M

@@ -18,7 +18,7 @@
 //! entry variables, coefficients, numbers, order, stored values, of the index of readers the starts and the places, of the
 //! log the sizes, the variables and the values, and the lowest and the highest allowed numbers. A taking back is 4 and
 //! zeros. All keeps and takings back of a session have one log, which the last files try over sessions of many calls; two
-//! of these have narrow bounds. Reasons are not recorded.
+//! of these have narrow bounds. The files before them have models with closed chains. Reasons are not recorded.
 //!
 //! The text has a line `read NUMBER PLACE N M E`; if that is accepted a line `build`; and if that is accepted a line for
 //! each call: `trial`, `keep`, `back` or `change ROW PLACE FIELD`. `build`, `trial`, `keep` and `back` go on with `NUMBER
@@ -32,8 +32,8 @@ use std::path::Path;
 use std::{env, fs, io};
 
 use compare::{
-    Answer, Call, Case, Engine, Guarded, Random, Second, Sizes, damage, model, model_of, move_outside, near_a_bound,
-    trial_of, value,
+    Answer, Call, Case, Engine, Guarded, Random, Second, Sizes, damage, interlined, model, model_of, move_outside,
+    near_a_bound, trial_of, value,
 };
 use lent::{LOG_SIZES, Session};
 use second::{BLANK, HIGHEST, LOWEST};
@@ -41,9 +41,12 @@ use second::{BLANK, HIGHEST, LOWEST};
 /// Where the random numbers start.
 const SEED: u64 = 20_261_115;
 
-/// The files, and the sessions of each; then files of one long session each, and its turns.
+/// The files, and the sessions of each; then files of sessions over models with closed chains; then files of one long
+/// session each, and its turns.
 const FILES: usize = 26;
 const SESSIONS: u32 = 13;
+const CHAINED_FILES: usize = 11;
+const CHAINED_SESSIONS: u32 = 10;
 const LONG_FILES: usize = 4;
 const TURNS: usize = 230;
 
@@ -72,14 +75,15 @@ fn main() -> io::Result<()> {
     fs::create_dir_all(folder.join("data"))?;
     let mut random = Random::new(SEED);
     let (mut names, mut lines) = (String::new(), String::new());
-    for file in 1..=FILES + LONG_FILES {
-        let sessions = if file > FILES { 1 } else { SESSIONS };
+    for file in 1..=FILES + CHAINED_FILES + LONG_FILES {
+        let long = file > FILES + CHAINED_FILES;
+        let sessions = if long { 1 } else { [SESSIONS, CHAINED_SESSIONS][usize::from(file > FILES)] };
         let mut data = sessions.to_le_bytes().to_vec();
         for _ in 0..sessions {
-            let recorded = if file > FILES {
+            let recorded = if long {
                 Recording::of_long_session(&mut random, file % 2 == 0)
             } else {
-                Recording::of_session(&mut random)
+                Recording::of_session(&mut random, file > FILES)
             };
             data.extend(recorded.data());
             lines += &recorded.lines;
@@ -102,13 +106,14 @@ struct Recording {
     calls: Vec<u8>,
     lines: String,
     recounted: usize,
+    chained: bool,
 }
 
 impl Recording {
-    /// The session of a random model: a read, a build, and calls one after another.
-    fn of_session(random: &mut Random) -> Recording {
-        let file = reading(random);
-        let mut session = Recording::of_file(&file);
+    /// The session of a random model, with closed chains or of any kind: a read, a build, and calls one after another.
+    fn of_session(random: &mut Random, chained: bool) -> Recording {
+        let file = reading(random, chained);
+        let mut session = Recording { chained, ..Recording::of_file(&file) };
         if let Some(mut model) = session.read_and_build(file) {
             for _ in 0..2 + random.below(11) {
                 session.turn(random, &mut model);
@@ -185,7 +190,10 @@ impl Recording {
 
     /// A call on the model, at times between a change of one field and the change back.
     fn turn(&mut self, random: &mut Random, model: &mut Case) {
-        let changed = random.once_in(2).then(|| Change::random(random, model));
+        let changed = random.once_in(2).then(|| match self.chained && random.once_in(2) {
+            true => Change::of_chosen(random, model),
+            false => Change::random(random, model),
+        });
         if let Some(change) = changed {
             let before = change.put(model);
             self.change(change);
@@ -222,6 +230,9 @@ impl Recording {
     /// A trial, a keep or a taking back on the model, which is then as the call leaves it.
     fn call(&mut self, random: &mut Random, model: &mut Case, name: Call, spoilt: bool) {
         let mut case = cut(Case { call: name, ..trial_of(random, model) });
+        if self.chained {
+            choose(random, &mut case);
+        }
         if spoilt {
             spoil(random, &mut case);
         }
@@ -260,18 +271,22 @@ impl Recording {
 }
 
 /// The read of a random model's file, at times damaged, into tables as long as the program's.
-fn reading(random: &mut Random) -> Case {
+fn reading(random: &mut Random, chained: bool) -> Case {
     let sizes = Sizes { variables: 12, entries: 48, inputs: 5 };
-    let mut case = if random.once_in(16) { model_of(random, ROWS + 1, sizes) } else { model(random, sizes) };
+    let mut case = match random.below(16) {
+        _ if chained => interlined(random, sizes),
+        0 => model_of(random, ROWS + 1, sizes),
+        _ => model(random, sizes),
+    };
     let length = length_of(&case);
-    match random.below(12) {
+    match random.below(if chained { 48 } else { 12 }) {
         0 => case.makes.put(random.below(case.m), case.makes.first().copied().unwrap_or(0)),
         1 => case.kinds.put(random.below(case.m), random.pick(&[0, 10])),
         2..=5 => damage(random, &mut case),
         _ => {}
     }
     case = written(case, length);
-    if random.once_in(8) {
+    if !chained && random.once_in(8) {
         damage(random, &mut case);
     }
     into_program(case)
@@ -312,6 +327,17 @@ fn cut(mut case: Case) -> Case {
     case.asked_vars.edit(|vars| vars.resize(MOST, 0));
     let why = vec![0; MOST].into();
     Case { results: vec![0; MOST].into(), trial: vec![0; ROWS].into(), flags: vec![0; ROWS].into(), why, ..case }
+}
+
+/// Gives some pairs of the move values that choose a candidate, where their bounds allow them.
+fn choose(random: &mut Random, case: &mut Case) {
+    for pair in 0..case.pairs {
+        let (low, high) = case.bounds(case.move_vars[pair].into());
+        let choice = random.between(-1, 3);
+        if (low..=high).contains(&choice) && random.once_in(2) {
+            case.move_values[pair] = choice;
+        }
+    }
 }
 
 /// Makes the move, the asked list, the route or a count wrong, or only other than it was.
@@ -408,6 +434,16 @@ impl Change {
             _ => variable,
         };
         Change { row, place: place as u32, field }
+    }
+
+    /// A stored value, which then is not the fresh one, or the first value of the latest logged move, which then may choose
+    /// another candidate.
+    fn of_chosen(random: &mut Random, model: &Case) -> Change {
+        let held = model.logged().checked_sub(1).filter(|&latest| model.log_sizes[latest + 1] > 0);
+        match held.filter(|_| random.once_in(2)) {
+            Some(latest) => Change { row: VALUES, place: 64 * latest as u32, field: random.between(-1, 3) as u32 },
+            None => Change { row: STORED, place: random.below(model.n) as u32, field: random.between(-1, 3) as u32 },
+        }
     }
 
     /// A stored or a logged value of a search variable one beyond a bound, if some variable has such a value.

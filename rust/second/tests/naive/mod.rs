@@ -25,10 +25,20 @@ struct Row {
     inputs: Inputs,
 }
 
-/// A model: n variables and the rows, whose tables have passed checks 1 to 3.
+/// A model: n variables and the rows, whose tables have passed checks 1 to 3; and the chains that lead on from each variable.
 struct Model {
     n: usize,
     rows: Vec<Row>,
+    chains: Vec<BTreeSet<Chain>>,
+}
+
+/// A chain of one link or more from a variable: where it ends, and whether it passes a candidate and an index of ELEMENT.
+/// Of chains that are equal in this one stands for all.
+#[derive(Clone, Copy, PartialEq, Eq, PartialOrd, Ord)]
+struct Chain {
+    end: usize,
+    candidate: bool,
+    index: bool,
 }
 
 /// The bounds that allow every number.
@@ -97,7 +107,7 @@ fn verdict(case: &Case) -> Option<Refused> {
                 checks.push(model.check_16(case));
             }
         }
-        first(checks)
+        first(checks).or_else(|| model.checks_of_choices(case))
     })
 }
 
@@ -212,7 +222,62 @@ impl Model {
                 inputs: (first..first + usize::from(case.counts[row])).map(entry).collect(),
             }
         };
-        Model { n: case.n, rows: (0..case.m).map(row).collect() }
+        let mut model = Model { n: case.n, rows: (0..case.m).map(row).collect(), chains: Vec::new() };
+        model.chains = (0..case.n).map(|variable| model.chains_from(variable)).collect();
+        model
+    }
+
+    /// The links of a variable: one to each input of its row.
+    fn links(&self, variable: usize) -> Vec<Chain> {
+        let Some(row) = self.maker(variable) else { return Vec::new() };
+        let element = row.kind == 4;
+        let link = |(place, &(end, _)): (usize, &(usize, i128))| Chain {
+            end,
+            candidate: element && place > 0,
+            index: element && place == 0,
+        };
+        row.inputs.iter().enumerate().map(link).collect()
+    }
+
+    /// All chains from a variable, each made longer by every link.
+    fn chains_from(&self, variable: usize) -> BTreeSet<Chain> {
+        let mut found = BTreeSet::new();
+        let mut longer = self.links(variable);
+        while let Some(chain) = longer.pop() {
+            if found.insert(chain) {
+                longer.extend(self.links(chain.end).into_iter().map(|link| Chain {
+                    end: link.end,
+                    candidate: chain.candidate || link.candidate,
+                    index: chain.index || link.index,
+                }));
+            }
+        }
+        found
+    }
+
+    /// The closed chains through a variable.
+    fn closed(&self, variable: usize) -> impl Iterator<Item = &Chain> {
+        self.chains[variable].iter().filter(move |chain| chain.end == variable)
+    }
+
+    /// Whether the model has a closed chain.
+    fn has_closed(&self) -> bool {
+        (0..self.n).any(|variable| self.closed(variable).next().is_some())
+    }
+
+    /// Whether a variable is on a closed chain, or leads to one.
+    fn leads_round(&self, variable: usize) -> bool {
+        self.chains[variable].iter().any(|chain| self.closed(chain.end).next().is_some())
+    }
+
+    /// Whether a variable leads to another.
+    fn leads(&self, from: usize, to: usize) -> bool {
+        self.chains[from].iter().any(|chain| chain.end == to)
+    }
+
+    /// Whether a variable is another, or each leads to the other.
+    fn together(&self, one: usize, other: usize) -> bool {
+        one == other || (self.leads(one, other) && self.leads(other, one))
     }
 
     /// The row that makes a variable.
@@ -220,28 +285,64 @@ impl Model {
         self.rows.iter().find(|row| row.makes == variable)
     }
 
-    /// The topological number of a variable, unless more than this many steps lead on from it.
-    fn number(&self, variable: usize, steps: usize) -> Option<usize> {
-        let Some(row) = self.maker(variable) else { return Some(0) };
-        let steps = steps.checked_sub(1)?;
-        let mut greatest = 0;
-        for &(input, _) in &row.inputs {
-            greatest = greatest.max(self.number(input, steps)?);
+    /// The topological number of a variable: 1 plus the greatest among the inputs of its group that are outside it.
+    fn number(&self, variable: usize) -> usize {
+        if self.maker(variable).is_none() {
+            return 0;
         }
-        Some(1 + greatest)
+        let group = (0..self.n).filter(|&member| self.together(variable, member));
+        let inputs = group.flat_map(|member| self.links(member)).map(|link| link.end);
+        1 + inputs.filter(|&input| !self.together(variable, input)).map(|input| self.number(input)).max().unwrap_or(0)
     }
 
-    /// The order: rows by number, ties by row; none if the model is circular.
-    fn order(&self) -> Option<Vec<usize>> {
-        let numbers: Option<Vec<usize>> = self.rows.iter().map(|row| self.number(row.makes, self.n)).collect();
-        let numbers = numbers?;
+    /// The order: rows by number, ties by row.
+    fn order(&self) -> Vec<usize> {
         let mut order: Vec<usize> = (0..self.rows.len()).collect();
-        order.sort_by_key(|&row| (numbers[row], row));
-        Some(order)
+        order.sort_by_key(|&row| (self.number(self.rows[row].makes), row));
+        order
     }
 
+    /// A closed chain must pass a candidate and no index.
     fn check_6(&self) -> Check {
-        places(6, self.n, |variable| self.number(variable, self.n).is_none())
+        places(6, self.n, |variable| self.closed(variable).any(|chain| chain.index || !chain.candidate))
+    }
+
+    /// Checks 21 and 20, of a case that has passed all others.
+    fn checks_of_choices(&self, case: &Case) -> Option<Refused> {
+        let moved = match case.call {
+            Call::TakeBack => Moved::back(case, usize::from(case.log_sizes[0]) - 1),
+            Call::Build => Moved { pairs: Vec::new() },
+            _ => Moved::of(case),
+        };
+        let route = Route { model: self, case, moved: &moved };
+        let new = |search: usize| if case.call == Call::Build { case.starts[search] } else { route.moved(search) };
+        let stored = |variable: usize| Some(case.stored[variable]);
+        let fresh = |variable: usize| self.worked_out(variable, &|search| case.stored[search], self.n);
+        let held = case.call != Call::Build && self.has_closed();
+        first([
+            places(21, self.n, |variable| held && fresh(variable) != stored(variable)),
+            places(20, self.n, |variable| self.worked_out(variable, &new, self.n).is_none()),
+        ])
+    }
+
+    /// The value of a variable by following the choices from the values of the search variables, unless more than this many
+    /// steps lead on from it.
+    fn worked_out(&self, variable: usize, search: &dyn Fn(usize) -> i32, steps: usize) -> Option<i32> {
+        let Some(row) = self.maker(variable) else { return Some(search(variable)) };
+        let steps = steps.checked_sub(1)?;
+        let input = |place: usize| self.worked_out(row.inputs[place].0, search, steps);
+        let mut values = vec![BLANK; row.inputs.len()];
+        if row.kind == 4 {
+            values[0] = input(0)?;
+            if let Some(chosen) = chosen(row, values[0]) {
+                values[chosen] = input(chosen)?;
+            }
+        } else {
+            for (place, value) in values.iter_mut().enumerate() {
+                *value = input(place)?;
+            }
+        }
+        Some(formula(row, &|place| values[place]))
     }
 
     fn check_4_of_bounds(&self, case: &Case) -> Check {
@@ -265,11 +366,12 @@ impl Model {
     }
 
     fn check_8(&self, case: &Case) -> Check {
-        let numbered = (0..self.n).all(|variable| self.number(variable, self.n) == Some(case.numbers[variable].into()));
+        let permitted = self.check_6().1.is_empty();
+        let numbered = (0..self.n).all(|variable| self.number(variable) == usize::from(case.numbers[variable]));
         let lent: Vec<usize> = case.order[..case.m].iter().map(|&row| usize::from(row)).collect();
         let (starts, places) = self.index();
         let indexed = case.reader_starts[..=case.n] == *starts && case.reader_places.starts_with(&places);
-        fixed(8, numbered && self.order() == Some(lent) && indexed)
+        fixed(8, permitted && numbered && self.order() == lent && indexed)
     }
 
     /// The rows that read a variable, ascending.
@@ -407,8 +509,8 @@ fn build(case: &mut Case, model: &Model) -> Answer {
     let fresh = |variable| route.fresh(variable, &|search| case.starts[search]);
     let values: Vec<i32> = (0..case.n).map(fresh).collect();
     let reasons: Vec<u8> = (0..case.n).map(|variable| model.reason(variable, &fresh)).collect();
-    let numbers: Vec<u16> = (0..case.n).map(|variable| model.number(variable, case.n).unwrap() as u16).collect();
-    let order: Vec<u16> = model.order().unwrap().into_iter().map(|row| row as u16).collect();
+    let numbers: Vec<u16> = (0..case.n).map(|variable| model.number(variable) as u16).collect();
+    let order: Vec<u16> = model.order().into_iter().map(|row| row as u16).collect();
     case.stored[..values.len()].copy_from_slice(&values);
     case.reasons[..reasons.len()].copy_from_slice(&reasons);
     case.numbers[..numbers.len()].copy_from_slice(&numbers);
@@ -441,12 +543,14 @@ impl Route<'_> {
         pair.map_or(self.old(variable), |&(_, value)| value)
     }
 
-    /// The value from the formulas alone, given the search variables.
+    /// The value from the formulas alone, given the search variables. It is determined.
     fn fresh(&self, variable: usize, search: &dyn Fn(usize) -> i32) -> i32 {
-        match self.model.maker(variable) {
-            None => search(variable),
-            Some(row) => formula(row, &|input| self.fresh(input, search)),
-        }
+        self.model.worked_out(variable, search, self.model.n).expect("a value")
+    }
+
+    /// The value from the formulas alone after the move.
+    fn freshly(&self, variable: usize) -> i32 {
+        self.fresh(variable, &|search| self.moved(search))
     }
 
     /// Route 1: whether some input's new value differs from the old one.
@@ -454,29 +558,29 @@ impl Route<'_> {
         row.inputs.iter().any(|&(input, _)| self.swept(input) != self.old(input))
     }
 
-    /// Route 1: the new value.
+    /// Route 1: the new value. In a model with a closed chain no rule leads to it step by step: it is the fresh one.
     fn swept(&self, variable: usize) -> i32 {
         match self.model.maker(variable) {
+            _ if self.model.has_closed() => self.freshly(variable),
             None => self.moved(variable),
-            Some(row) if self.differs(row) => formula(row, &|input| self.swept(input)),
+            Some(row) if self.differs(row) => formula_of(row, &|input| self.swept(input)),
             Some(_) => self.old(variable),
         }
     }
 
-    /// Route 3: whether a variable is marked.
+    /// Route 3: whether a variable is marked, as one that leads to a search variable whose new value differs.
     fn marked(&self, variable: usize) -> bool {
-        match self.model.maker(variable) {
-            None => self.moved(variable) != self.old(variable),
-            Some(row) => row.inputs.iter().any(|&(input, _)| self.marked(input)),
-        }
+        let differs = |search: usize| self.model.maker(search).is_none() && self.moved(search) != self.old(search);
+        differs(variable) || self.model.chains[variable].iter().any(|chain| differs(chain.end))
     }
 
     /// Route 3: the new value.
     fn guided(&self, variable: usize) -> i32 {
         match self.model.maker(variable) {
+            _ if self.model.has_closed() => self.freshly(variable),
             None => self.moved(variable),
             Some(_) if !self.marked(variable) => self.old(variable),
-            Some(row) => formula(row, &|input| self.guided(input)),
+            Some(row) => formula_of(row, &|input| self.guided(input)),
         }
     }
 
@@ -484,7 +588,7 @@ impl Route<'_> {
     fn new_value(&self, route: u32, variable: usize) -> i32 {
         match route {
             1 => self.swept(variable),
-            2 => self.fresh(variable, &|search| self.moved(search)),
+            2 => self.freshly(variable),
             _ => self.guided(variable),
         }
     }
@@ -548,7 +652,7 @@ impl Model {
 /// Why the formula of a row has no value over the values of variables, 0 if it has one: each reason by itself, and the first
 /// of those that hold.
 fn reason(row: &Row, value: &dyn Fn(usize) -> i32) -> u8 {
-    if formula(row, value) != BLANK {
+    if formula_of(row, value) != BLANK {
         return 0;
     }
     let inputs: Vec<i32> = row.inputs.iter().map(|&(variable, _)| value(variable)).collect();
@@ -566,13 +670,20 @@ fn reason(row: &Row, value: &dyn Fn(usize) -> i32) -> u8 {
     reasons.into_iter().find(|&(_, holds)| holds).map_or(0, |(number, _)| number)
 }
 
+/// The place of the candidate that an index chooses, if there is one.
+fn chosen(row: &Row, index: i32) -> Option<usize> {
+    (1..row.inputs.len()).find(|&place| i64::from(index) == place as i64 - 1)
+}
+
 /// The formula of a row over the values of variables.
-fn formula(row: &Row, value: &dyn Fn(usize) -> i32) -> i32 {
-    let input = |place: usize| row.inputs.get(place).map_or(BLANK, |&(variable, _)| value(variable));
+fn formula_of(row: &Row, value: &dyn Fn(usize) -> i32) -> i32 {
+    formula(row, &|place| value(row.inputs[place].0))
+}
+
+/// The formula of a row over the values at its places.
+fn formula(row: &Row, input: &dyn Fn(usize) -> i32) -> i32 {
     if row.kind == 4 {
-        let index = i64::from(input(0));
-        let chosen = 0 <= index && index < row.inputs.len() as i64 - 1;
-        return if chosen { input(1 + index as usize) } else { BLANK };
+        return chosen(row, input(0)).map_or(BLANK, input);
     }
     let inputs: Vec<i32> = (0..row.inputs.len()).map(input).collect();
     if ![2, 3].contains(&row.kind) && inputs.contains(&BLANK) {

@@ -86,7 +86,7 @@ fn rows(found: &Found) -> (Vec<Row>, Vec<usize>) {
     }
     let all: Vec<Row> = kept.iter().map(|(_, whole)| whole.clone()).collect();
     let model = Model::of(&of_rows(vec![0; found.n], &all));
-    kept.retain(|(_, whole)| model.number(usize::from(whole.makes), found.n).is_some());
+    kept.retain(|(_, whole)| !model.leads_round(whole.makes.into()));
     let dropped = (0..found.m).filter(|row| kept.iter().all(|(stays, _)| stays != row)).collect();
     (kept.into_iter().map(|(_, whole)| whole).collect(), dropped)
 }

@@ -3,7 +3,7 @@
 
 use std::ops::Range;
 
-use compare::deep::{STACK, calls, models};
+use compare::deep::{STACK, calls, models, rings};
 use compare::{Case, Second};
 use served::Served;
 
@@ -15,7 +15,7 @@ const LEAST: usize = 128 << 10;
 
 fn main() {
     println!("KiB of stack for the deepest models, on {}:", std::env::consts::ARCH);
-    let models: Vec<_> = models().iter().map(|model| calls(&Second, model)).collect();
+    let models: Vec<_> = models().iter().chain(&rings()).map(|model| calls(&Second, model)).collect();
     for which in 0..models[0].len() {
         let name = models[0][which].0;
         let cases: Vec<&Case> = models.iter().map(|calls| &calls[which].1).collect();

@@ -8,10 +8,10 @@ use Rattle.figures.proofs.batch.clear.Statement.{statement}
 use Rattle.figures.proofs.batch.clear.Tie as tie
 
 abbrev Inv-loop : tie.InvT-loop
-Inv-loop by-number₀ k₀ by-number k = (k ≤ 20) × Filled (λ w. 0) by-number₀ by-number k
+Inv-loop by-number₀ k₀ by-number k = (k ≤ 22) × Filled (λ w. 0) by-number₀ by-number k
 
 abbrev μ-loop : tie.MeasureT-loop
-μ-loop by-number₀ k₀ by-number k = 20 - k
+μ-loop by-number₀ k₀ by-number k = 22 - k
 
 loop-holds : tie.Need-loop-holds Inv-loop μ-loop
 loop-holds c = (omega arith, filled-start _ _)
@@ -35,7 +35,7 @@ same-length : tie.Need-same-length Inv-loop μ-loop
 same-length c = search needs
 
 returns : tie.Need-returns Inv-loop μ-loop
-returns c = filled-end _ _ _ _ 20 (c .before .loop .inv .1) (omega arith)
+returns c = filled-end _ _ _ _ 22 (c .before .loop .inv .1) (omega arith)
 
 pub clear-spec : {M : Type 1} → statement M
 clear-spec =

@@ -1,13 +1,13 @@
--- The move is worked out by route 1 in a row of 4096 values, and what stands there is stored (`keep-filled`). Assumes nothing.
+-- The move is worked out by route 1, with nothing asked, in a row of 4096 values, and what stands there is stored (`keep-filled`). Assumes nothing.
 use Prim.Native.Nat.{_≤_}
 use native.Mathlib.Omega.{arith}
-use mathlib.Core.Path.{sym}
+use mathlib.Core.Path.{refl, sym}
 use borrow.Author.Needs.{needs}
 use Rattle.paper.specs.Tables.{Tables, Index, indexIn, lent}
 use Rattle.paper.specs.Calls.{Kept}
 use Rattle.fits.specs.Lent.{toKeep}
 use Rattle.fills.proofs.Writes.{held, count-fits, keep-filled}
-use Rattle.fills.proofs.Ran.{moves-long, begun, named}
+use Rattle.fills.proofs.Ran.{moves-long, begun, running, named}
 use Rattle.fills.proofs.keep.fill_keep.Statement.{statement}
 use Rattle.fills.proofs.keep.fill_keep.Tie as tie
 
@@ -23,38 +23,47 @@ abbrev index : tie.Start → Index
 index s = indexIn (s .args .reader-starts .now) (s .args .reader-places .now)
 
 room : (s : tie.Start) → s .args .n ≤ 4096
-room s = held (tables s) (s .args .order .now) (index s) (s .args .stored .now) (kept s) (s .pre) .n-most
+room s = held (tables s) (s .args .numbers .now) (s .args .order .now) (index s) (s .args .stored .now) (kept s) (s .pre) .n-most
 
 slice-aggregate-begin-route : tie.Need-slice-aggregate-begin-route
 slice-aggregate-begin-route c = search needs
 
 begin-route-requires : tie.Need-begin-route-requires
-begin-route-requires c κs =
-    let s = c .before .before .before .before .before .before .before .before .before .before .before .before .before in
+begin-route-requires c κs = let s = (c .before .before .before .before .before .before .before .before .before .before .before .before .before .before) in
     record { in-stored = s .pre .in-stored; in-trial = room s; in-flags = s .pre .in-flags; pairs = s .pre .pairs }
 
-slice-aggregate-input-to-output : tie.Need-slice-aggregate-input-to-output
-slice-aggregate-input-to-output c = let s = c .before .before .before .before .before .before .before .before .before .before .before .before .before .before .before .before .before .before in sym (moves-long (tables s) (s .args .order .now) (index s) (s .args .stored .now) (kept s) (s .pre))
+slice-aggregate-run-route : tie.Need-slice-aggregate-run-route
+slice-aggregate-run-route c = let s = (c .before .before .before .before .before .before .before .before .before .before .before .before .before .before .before .before .before .before .before) in sym (moves-long (tables s) (s .args .numbers .now) (s .args .order .now) (index s) (s .args .stored .now) (kept s) (s .pre))
 
-slice-aggregate-input-to-output-2 : tie.Need-slice-aggregate-input-to-output-2
-slice-aggregate-input-to-output-2 c = search needs
+slice-aggregate-run-route-2 : tie.Need-slice-aggregate-run-route-2
+slice-aggregate-run-route-2 c = search needs
 
-input-to-output-requires : tie.Need-input-to-output-requires
-input-to-output-requires c κs =
-    let s = c .before .before .before .before .before .before .before .before .before .before .before .before .before .before .before .before .before .before .before .before .before in let b = c .before .before .before .before .before .before .before .begin-route .ensures in
-    (s .pre .along, (s .pre .indexed, (begun (tables s) (s .args .order .now) (index s) (s .args .stored .now) (kept s) (s .pre) _ _ _ (room s) (b .0) (b .1), named (tables s) (s .args .order .now) (index s) (s .args .stored .now) (kept s) (s .pre) _ _ _ (room s) (b .0) (b .1))))
+slice-aggregate-run-route-3 : tie.Need-slice-aggregate-run-route-3
+slice-aggregate-run-route-3 c = search needs
+
+run-route-requires : tie.Need-run-route-requires
+run-route-requires c κs = let s = (c .before .before .before .before .before .before .before .before .before .before .before .before .before .before .before .before .before .before .before .before .before .before .before) in let b = (c .before .before .before .before .before .before .before .before) .begin-route .ensures in (
+  running (tables s) (s .args .numbers .now) (s .args .order .now) (index s) (s .args .stored .now) (kept s) (s .pre) _ _ _ (room s) (b .0) (b .1),
+  (
+    s .pre .indexed,
+    (
+      named (tables s) (s .args .numbers .now) (s .args .order .now) (index s) (s .args .stored .now) (kept s) (s .pre) _ _ _ (room s) (b .0) (b .1),
+      (begun (tables s) (s .args .numbers .now) (s .args .order .now) (index s) (s .args .stored .now) (kept s) (s .pre) _ _ _ (room s) (b .0) (b .1), refl),
+    ),
+  ),
+)
 
 slice-aggregate-copy-values : tie.Need-slice-aggregate-copy-values
 slice-aggregate-copy-values c = search needs
 
 copy-values-requires : tie.Need-copy-values-requires
-copy-values-requires c κs = let s = c .before .before .before .before .before .before .before .before .before .before .before .before .before .before .before .before .before .before .before .before .before .before .before .before .before .before .before in (omega (arith, room s, c .before .before .before .before .before .before .before .before .before .before .before .before .before .begin-route .kept .1 .1 .1 .1 .1 .0, c .before .before .before .before .before .input-to-output .kept .1 .1 .1 .1 .1 .1 .1 .1 .1 .1 .1 .1 .1 .1 .1 .0), omega (arith, s .pre .in-stored))
+copy-values-requires c κs = let s = (c .before .before .before .before .before .before .before .before .before .before .before .before .before .before .before .before .before .before .before .before .before .before .before .before .before .before .before .before .before) in (omega (arith, room s, (c .before .before .before .before .before .before .before .before .before .before .before .before .before .before) .begin-route .kept .1 .1 .1 .1 .1 .0, (c .before .before .before .before .before) .run-route .kept .1 .1 .1 .1 .1 .1 .1 .1 .1 .1 .1 .1 .1 .1 .1 .1 .1 .1 .0), omega (arith, s .pre .in-stored))
 
 evaluations-requires : tie.Need-evaluations-requires
-evaluations-requires c κs = let s = c .before .before .before .before .before .before .before .before .before .before .before .before .before .before .before .before .before .before .before .before .before .before .before .before .before .before .before .before .before .before in omega (arith, s .pre .in-flags, c .before .before .before .before .before .before .before .before .before .before .before .before .before .before .before .before .begin-route .kept .1 .1 .1 .1 .1 .1 .0, c .before .before .before .before .before .before .before .before .input-to-output .kept .1 .1 .1 .1 .1 .1 .1 .1 .1 .1 .1 .1 .1 .1 .1 .1 .0)
+evaluations-requires c κs = let s = (c .before .before .before .before .before .before .before .before .before .before .before .before .before .before .before .before .before .before .before .before .before .before .before .before .before .before .before .before .before .before .before .before) in omega (arith, s .pre .in-flags, (c .before .before .before .before .before .before .before .before .before .before .before .before .before .before .before .before .before) .begin-route .kept .1 .1 .1 .1 .1 .1 .0, (c .before .before .before .before .before .before .before .before) .run-route .kept .1 .1 .1 .1 .1 .1 .1 .1 .1 .1 .1 .1 .1 .1 .1 .1 .1 .1 .1 .0)
 
 cast-result : tie.Need-cast-result
-cast-result c = let s = c .before .before .before .before .before .before .before .before .before .before .before .before .before .before .before .before .before .before .before .before .before .before .before .before .before .before .before .before .before .before .before in record { fits = count-fits _ (s .args .n) _ (room s) (c .evaluations .ensures) }
+cast-result c = let s = (c .before .before .before .before .before .before .before .before .before .before .before .before .before .before .before .before .before .before .before .before .before .before .before .before .before .before .before .before .before .before .before .before .before) in record { fits = count-fits _ (s .args .n) _ (room s) (c .evaluations .ensures) }
 
 same-length : tie.Need-same-length
 same-length c = search needs
@@ -63,9 +72,8 @@ same-length-2 : tie.Need-same-length-2
 same-length-2 c = search needs
 
 returns : tie.Need-returns
-returns c =
-    let s = c .before .before .before .before .before .before .before .before .before .before .before .before .before .before .before .before .before .before .before .before .before .before .before .before .before .before .before .before .before .before .before in let b = c .before .before .before .before .before .before .before .before .before .before .before .before .before .before .before .before .before .begin-route .ensures in
-    keep-filled (tables s) (s .args .order .now) (index s) (s .args .stored .now) (kept s) (s .pre) _ _ _ _ _ _ _ (room s) (b .0) (b .1) (c .before .before .before .before .before .before .before .before .before .input-to-output .ensures) (c .before .before .before .copy-values .ensures) (c .evaluations .ensures)
+returns c = let s = (c .before .before .before .before .before .before .before .before .before .before .before .before .before .before .before .before .before .before .before .before .before .before .before .before .before .before .before .before .before .before .before .before .before) in let b = (c .before .before .before .before .before .before .before .before .before .before .before .before .before .before .before .before .before .before) .begin-route .ensures in
+    keep-filled (tables s) (s .args .numbers .now) (s .args .order .now) (index s) (s .args .stored .now) (kept s) (s .pre) _ _ _ _ _ _ _ (room s) (b .0) (b .1) ((c .before .before .before .before .before .before .before .before .before) .run-route .ensures) ((c .before .before .before) .copy-values .ensures) (c .evaluations .ensures)
 
 pub fill-keep-spec : {M : Type 1} → statement M
 fill-keep-spec =
@@ -73,9 +81,10 @@ fill-keep-spec =
     (tie.spec
     slice-aggregate-begin-route
     begin-route-requires
-    slice-aggregate-input-to-output
-    slice-aggregate-input-to-output-2
-    input-to-output-requires
+    slice-aggregate-run-route
+    slice-aggregate-run-route-2
+    slice-aggregate-run-route-3
+    run-route-requires
     slice-aggregate-copy-values
     copy-values-requires
     evaluations-requires

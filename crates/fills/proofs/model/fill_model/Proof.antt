@@ -3,10 +3,12 @@ use native.Mathlib.Omega.{arith}
 use mathlib.Core.List.{[]}
 use mathlib.Core.Path.{refl}
 use Rattle.paper.specs.Calls.{BuildLent}
+use Rattle.paper.proofs.Sizes.{sized-facts}
 use Rattle.order.proofs.Bare.{formed-of}
 use Rattle.fits.specs.Lent.{noRecord, toBuild}
 use Rattle.readers.proofs.Known.{entries-laid}
-use Rattle.fills.proofs.Built.{numbers-left, order-left, along, stored-long, stored-left}
+use Rattle.permits.proofs.Kinded.{formed-kinded}
+use Rattle.fills.proofs.Built.{numbers-left, order-left, workable, stored-left}
 use borrow.Author.Needs.{needs}
 use Rattle.fills.proofs.model.fill_model.Statement.{statement}
 use Rattle.fills.proofs.model.fill_model.Tie as tie
@@ -16,11 +18,11 @@ lent s =
     let a = s .args in
     toBuild noRecord (a .n) (a .m) (a .e) (a .kinds .now) (a .makes .now) (a .params .now) (a .firsts .now) (a .counts .now) (a .vars .now) (a .coefs .now) [] [] (a .starts .now) (a .numbers .now) (a .order .now) (a .stored .now) (a .reader-starts .now) (a .reader-places .now) (a .log-sizes .now)
 
-write-numbers-requires : tie.Need-write-numbers-requires
-write-numbers-requires c κs = let s = c .before .before .before .before .before .before .before .before .before .before .before in (s .pre .numbered, s .pre .in-numbers)
+copy-numbers-requires : tie.Need-copy-numbers-requires
+copy-numbers-requires c κs = let s = c .before .before .before .before .before .before .before .before .before .before .before in (sized-facts (lent s .tables) (s .pre .sound .sized) .n-most, s .pre .in-numbers)
 
-write-order-requires : tie.Need-write-order-requires
-write-order-requires c κs = let s = c .before .before .before .before .before .before .before .before .before .before .before .before .before .before .before in let l = lent s in (formed-of (l .tables) (s .pre .sound), (s .pre .numbered, s .pre .in-order))
+write-shared-order-requires : tie.Need-write-shared-order-requires
+write-shared-order-requires c κs = let s = c .before .before .before .before .before .before .before .before .before .before .before .before .before .before .before in let l = lent s in (formed-kinded (l .tables) (formed-of (l .tables) (s .pre .sound)), (s .pre .grouped .shared, s .pre .in-order))
 
 write-readers-requires : tie.Need-write-readers-requires
 write-readers-requires c κs =
@@ -30,10 +32,10 @@ write-readers-requires c κs =
 copy-values-requires : tie.Need-copy-values-requires
 copy-values-requires c κs = let s = c .before .before .before .before .before .before .before .before .before .before .before .before .before .before .before .before .before .before .before .before .before .before .before .before .before .before in let r = s .pre in (r .in-starts, r .in-stored)
 
-work-out-requires : tie.Need-work-out-requires
-work-out-requires c κs =
+work-all-requires : tie.Need-work-all-requires
+work-all-requires c κs =
     let s = c .before .before .before .before .before .before .before .before .before .before .before .before .before .before .before .before .before .before .before .before .before .before .before .before .before .before .before .before .before .before in let l = lent s in
-    (along l _ (s .pre) _ (c .before .before .before .before .before .before .before .before .before .before .before .before .before .before .write-order .ensures), stored-long l _ (s .pre) _ (c .before .before .before .copy-values .ensures))
+    workable l _ (s .pre) _ (c .before .before .before .copy-values .ensures) _ (c .before .before .before .before .before .before .before .before .before .before .before .before .before .before .write-shared-order .ensures)
 
 slice-write-log-sizes : tie.Need-slice-write-log-sizes
 slice-write-log-sizes c = let s = c .before .before .before .before .before .before .before .before .before .before .before .before .before .before .before .before .before .before .before .before .before .before .before .before .before .before .before .before .before .before .before .before in let long = s .pre .in-log in omega arith
@@ -59,17 +61,17 @@ same-length-6 c = search needs
 returns : tie.Need-returns
 returns c =
     let s = c .before .before .before .before .before .before .before .before .before .before .before .before .before .before .before .before .before .before .before .before .before .before .before .before .before .before .before .before .before .before .before .before in let l = lent s in
-    (numbers-left l _ (s .pre) _ (c .before .before .before .before .before .before .before .before .before .before .before .before .before .before .before .before .before .before .before .before .write-numbers .ensures), (order-left l _ (s .pre) _ (c .before .before .before .before .before .before .before .before .before .before .before .before .before .before .before .before .write-order .ensures), (stored-left l _ (s .pre) _ _ (c .before .before .before .before .before .copy-values .ensures) (c .before .work-out .ensures), (c .before .before .before .before .before .before .before .before .before .before .before .write-readers .ensures, refl))))
+    (numbers-left l _ (s .pre) _ (c .before .before .before .before .before .before .before .before .before .before .before .before .before .before .before .before .before .before .before .before .copy-numbers .ensures), (order-left l _ (s .pre) _ (c .before .before .before .before .before .before .before .before .before .before .before .before .before .before .before .before .write-shared-order .ensures), (stored-left l _ (s .pre) _ (c .before .before .before .before .before .copy-values .ensures) _ (c .before .work-all .ensures), (c .before .before .before .before .before .before .before .before .before .before .before .write-readers .ensures, refl))))
 
 pub fill-model-spec : {M : Type 1} → statement M
 fill-model-spec =
     tie.close
     (tie.spec
-    write-numbers-requires
-    write-order-requires
+    copy-numbers-requires
+    write-shared-order-requires
     write-readers-requires
     copy-values-requires
-    work-out-requires
+    work-all-requires
     slice-write-log-sizes
     same-length
     same-length-2

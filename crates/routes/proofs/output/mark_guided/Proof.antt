@@ -37,7 +37,7 @@ slice-aggregate-mark-moved-2 c = search needs
 mark-moved-requires : tie.Need-mark-moved-requires
 mark-moved-requires c κs =
     let s = c .before .before .before .before .before .before .before .before .before .before .before .before .before in let t = tables s in let x = s .pre .1 .0 in
-    (upward t (s .pre .0) _ _ x, (named-movable t (s .pre .0) _ _ x _ _ _ _ (s .pre .1 .1 .1 .0) (s .pre .1 .1 .0), clean-markable t (s .pre .0) _ _ x _ (clean s)))
+    (upward t (s .pre .0 .sound) _ _ x (s .pre .0 .chains), (named-movable t (s .pre .0 .sound) _ _ x _ _ _ _ (s .pre .1 .1 .1 .0) (s .pre .1 .1 .0), clean-markable t (s .pre .0 .sound) _ _ x _ (clean s)))
 
 slice-aggregate-ask-marked : tie.Need-slice-aggregate-ask-marked
 slice-aggregate-ask-marked c = search needs
@@ -45,7 +45,7 @@ slice-aggregate-ask-marked c = search needs
 ask-marked-requires : tie.Need-ask-marked-requires
 ask-marked-requires c κs =
     let s = c .before .before .before .before .before .before .before .before .before .before .before .before .before .before .before .before .before .before in let t = tables s in let b = s .pre .1 .1 .1 .0 in
-    let room = marks-long t (s .pre .0) _ _ (s .pre .1 .0) _ _ _ _ b (s .pre .1 .1 .0) _ _ (clean s) (c .before .before .before .before .mark-moved .ensures) in
+    let room = marks-long t (s .pre .0 .sound) _ _ (s .pre .1 .0) _ _ _ _ b (s .pre .1 .1 .0) _ _ (clean s) (c .before .before .before .before .mark-moved .ensures) in
     (s .pre .0, (room, (s .pre .1 .1 .1 .1, ready t (s .pre .0) _ (s .args .trial .now) (s .args .flags .now) (b .in-trial) (b .in-flags) (b .clear))))
 
 same-length : tie.Need-same-length
@@ -57,7 +57,7 @@ same-length-2 c = search needs
 returns : tie.Need-returns
 returns c =
     let s = c .before .before .before .before .before .before .before .before .before .before .before .before .before .before .before .before .before .before .before .before .before .before in let t = tables s in let b = s .pre .1 .1 .1 .0 in
-    let marks = marks-are t (s .pre .0) _ _ (s .pre .1 .0) _ _ _ _ b (s .pre .1 .1 .0) _ _ (clean s) (c .before .before .before .before .before .before .before .before .mark-moved .ensures) in
+    let marks = marks-are t (s .pre .0 .sound) _ _ (s .pre .1 .0) _ _ _ _ b (s .pre .1 .1 .0) _ _ (clean s) (c .before .before .before .before .before .before .before .before .mark-moved .ensures) in
     routed t (s .pre .0) _ mark-guided (s .args .stored .now) (s .args .trial .now) (s .args .flags .now) (s .args .asked .now) b
     (guides-marked t (s .args .stored .now) (s .args .trial .now) _ marks) _ _ (c .before .before .before .ask-marked .ensures)
 

@@ -6,8 +6,7 @@ use native.Mathlib.Omega.{arith}
 use borrow.Author.Needs.{needs}
 use borrow.Author.Tests.{leb-true, le-leb, lt-leb}
 use Rattle.paper.specs.Lists.{over}
-use Rattle.paper.specs.Net.{afresh}
-use Rattle.paper.specs.Tables.{net}
+use Rattle.paper.specs.Chains.{worth}
 use Rattle.paper.specs.Checks.{accepted, sized}
 use Rattle.paper.specs.Calls.{BuildLent, BuildLeft, startValues, buildVerdict}
 use Rattle.paper.specs.Demands.{buildAsWas}
@@ -17,7 +16,7 @@ use Rattle.paper.proofs.Outcomes.{build-judged}
 use Rattle.fits.specs.Lent.{toBuild}
 use Rattle.accepts.proofs.Accepts.{filled-long}
 use Rattle.records.specs.Left.{recordIn, answerIn}
-use Rattle.paper.specs.Reasoned.{withReasons, reasonsFit, builtReasons}
+use Rattle.paper.specs.Reasoned.{withReasons, reasonsFit}
 use Rattle.paper.proofs.Reasoned.{met-refused, met-accepted, build-roomy}
 use Rattle.accepts.proofs.Given.{built-given}
 use Rattle.storing.proofs.built.build_reasoned.Statement.{statement}
@@ -36,7 +35,7 @@ passed c = let b = c .before .before .before .before .before .before .before .be
 
 -- the values that were stored
 stored : (c : tie.After-enum-told) → let b = c .before .before .before .before .before .before .before .before .before .before .before .before .before in let l = lent (start b) in let t = l .tables in
-    c .before .before .before .before .before .before .before .before .before .before .before .before .before .build-core .last .1 .1 .1 .1 .1 .1 .1 .1 .1 .1 .1 .1 .1 .1 .1 .1 .0 ≡ over (t .n) (afresh (net t) (startValues l) (t .n)) (l .stored)
+    c .before .before .before .before .before .before .before .before .before .before .before .before .before .build-core .last .1 .1 .1 .1 .1 .1 .1 .1 .1 .1 .1 .1 .1 .1 .1 .1 .0 ≡ over (t .n) (worth t (startValues l)) (l .stored)
 stored c = let b = c .before .before .before .before .before .before .before .before .before .before .before .before .before in let l = lent (start b) in ap (λ (x : BuildLeft). x .stored) (b .build-core .ensures ∙ build-judged l .is accepted (passed c))
 
 room : (c : tie.After-build-core) → reasonsFit (lent (start c) .tables) (start c .args .reasons .now) ≡ true
@@ -109,7 +108,7 @@ same-length-13 c = search needs
 returns-3 : tie.Need-returns-3
 returns-3 c =
     let e = c .before .before .before .before .before in let b = e .before .before .before .before .before .before .before .before .before .before .before .before .before in let l = lent (start b) in let k = build-known l (passed e) in
-    met-accepted (build-roomy l (start b .args .reasons .now)) (room b) (b .build-core .ensures) (passed e) (built-given (l .tables) (k .sound) (k .chains) l refl _ (stored e) (start b .args .reasons .now) _ (c .before .before .first-reasons .ensures))
+    met-accepted (build-roomy l (start b .args .reasons .now)) (room b) (b .build-core .ensures) (passed e) (built-given (l .tables) (k .sound) l refl (k .determined) _ (stored e) (start b .args .reasons .now) _ (c .before .before .first-reasons .ensures))
 
 pub build-reasoned-spec : {M : Type 1} → statement M
 build-reasoned-spec =

@@ -5,11 +5,12 @@ use lib.ListN.{length}
 use native.Mathlib.Omega.{arith}
 use borrow.Author.Needs.{needs}
 use borrow.Author.Tests.{leb-true, le-leb, lt-leb}
-use Rattle.paper.specs.Checks.{accepted}
+use Rattle.paper.specs.Net.{input-to-output, moved}
+use Rattle.paper.specs.Checks.{accepted, movePairs}
 use Rattle.paper.specs.Log.{Log, logIn}
-use Rattle.paper.specs.Calls.{Session, Model, Kept, KeepLeft, keptStored, keptFlags, keepVerdict}
+use Rattle.paper.specs.Calls.{Session, Model, storedValues, Kept, KeepLeft, keptStored, keptFlags, keepVerdict}
 use Rattle.paper.specs.Demands.{keepAsWas}
-use Rattle.paper.proofs.Known.{keep-known}
+use Rattle.paper.proofs.Known.{model-meets, keep-known}
 use Rattle.paper.proofs.Outcomes.{keep-judged}
 use Rattle.fits.specs.Lent.{toModel, toKeep}
 use Rattle.records.specs.Left.{recordIn, answerIn}
@@ -116,7 +117,8 @@ returns-3 : tie.Need-returns-3
 returns-3 c =
     let e = c .before .before .before .before .before .before in let b = core e in let s = start b in let k = keep-known (session s) (log s) (model s) (kept s) (passed e) in
     met-accepted (keep-roomy (session s) (log s) (model s) (s .args .reasons .now) (kept s)) (room b) (b .keep-core .ensures) (passed e)
-    (moved-given (model s .tables) (k .model .sound) (k .model .chains) (model s .stored) (kept (s)) _ (stored e) _ (flags e) (s .args .reasons .now) _ (c .before .before .note-reasons .ensures))
+    (moved-given (model s .tables) (k .model .sound) (model s .stored) (kept s)
+    (model-meets (model s) (k .model) (k .fresh) (moved (movePairs (kept s .move)) (storedValues (model s))) (k .determined) input-to-output) _ (stored e) _ (flags e) (s .args .reasons .now) _ (c .before .before .note-reasons .ensures))
 
 pub keep-reasoned-spec : {M : Type 1} → statement M
 keep-reasoned-spec =

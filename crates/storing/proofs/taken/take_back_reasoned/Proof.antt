@@ -5,11 +5,12 @@ use lib.ListN.{length}
 use native.Mathlib.Omega.{arith}
 use borrow.Author.Needs.{needs}
 use borrow.Author.Tests.{leb-true, le-leb, lt-leb}
-use Rattle.paper.specs.Checks.{accepted}
+use Rattle.paper.specs.Net.{input-to-output, moved}
+use Rattle.paper.specs.Checks.{accepted, movePairs}
 use Rattle.paper.specs.Log.{Log, logIn}
-use Rattle.paper.specs.Calls.{Session, Model, KeepLeft, keptStored, keptFlags, latest, takeVerdict}
+use Rattle.paper.specs.Calls.{Session, Model, storedValues, KeepLeft, keptStored, keptFlags, latest, takeVerdict}
 use Rattle.paper.specs.Demands.{keepAsWas}
-use Rattle.paper.proofs.Known.{take-known}
+use Rattle.paper.proofs.Known.{model-meets, take-known}
 use Rattle.paper.proofs.Outcomes.{take-judged}
 use Rattle.fits.specs.Lent.{toModel}
 use Rattle.records.specs.Left.{recordIn, answerIn}
@@ -101,7 +102,8 @@ returns-3 : tie.Need-returns-3
 returns-3 c =
     let e = c .before .before .before .before .before .before in let b = core e in let s = start b in let k = take-known (session s) (log s) (model s) (s .args .flags .now) (passed e) in
     met-accepted (take-roomy (session s) (log s) (model s) (s .args .reasons .now) (s .args .flags .now)) (room b) (b .take-back-core .ensures) (passed e)
-    (moved-given (model s .tables) (k .model .sound) (k .model .chains) (model s .stored) (latest (log (s)) (s .args .flags .now)) _ (stored e) _ (flags e) (s .args .reasons .now) _ (c .before .before .note-reasons .ensures))
+    (moved-given (model s .tables) (k .model .sound) (model s .stored) (latest (log s) (s .args .flags .now))
+    (model-meets (model s) (k .model) (k .fresh) (moved (movePairs (latest (log s) (s .args .flags .now) .move)) (storedValues (model s))) (k .determined) input-to-output) _ (stored e) _ (flags e) (s .args .reasons .now) _ (c .before .before .note-reasons .ensures))
 
 pub take-back-reasoned-spec : {M : Type 1} → statement M
 take-back-reasoned-spec =

@@ -1,5 +1,5 @@
 //! The graphs that are timed, each at three sizes: a day's sheet, a moved headway that touches five formulas, a depot, the
-//! deepest chain, and the extreme graphs and the magic square of the paper on incremental evaluation, at sizes within the
+//! deepest chain, trips that are interlined in a ring, and the extreme graphs and the magic square of the paper on incremental evaluation, at sizes within the
 //! bounds.
 
 use compare::{Case, Row, chain, of_rows};
@@ -19,6 +19,7 @@ pub fn graphs() -> Vec<Graph> {
     graphs.extend([250, 1000, 4000].map(moved_headway));
     graphs.extend([64, 128, 256].map(depot));
     graphs.extend([255, 1023, 4095].map(deepest_chain));
+    graphs.extend([85, 341, 1365].map(interlined_trips));
     graphs.extend([16, 64, 255].map(extreme_static));
     graphs.extend([16, 64, 126].map(extreme_dynamic));
     graphs.extend([16, 32, 59].map(magic_square));
@@ -65,6 +66,24 @@ fn moved_headway(formulas: u16) -> Graph {
     let build = of_rows(sheet.starts, &sheet.rows);
     let moves = [420, 540].map(|seconds| vec![(64, seconds)]);
     Graph { name: "moved headway", size: formulas.into(), build, asked: crews[0], moves }
+}
+
+/// Trips in a ring: each starts at the depot, behind the trip before it or behind the one after it, as its index chooses, and
+/// ends some time later. All but the first follow the one before, and a move sends the middle one to the depot. With 1,365
+/// trips it has 4,096 variables, 2,730 of them in one group.
+fn interlined_trips(trips: u16) -> Graph {
+    let (start, end) = (|trip: u16| 1 + trips + trip, |trip: u16| 1 + 2 * trips + trip);
+    let mut starts = vec![1; 1 + usize::from(trips)];
+    (starts[0], starts[1]) = (18_000, 0);
+    let mut sheet = Sheet { starts, rows: Vec::new() };
+    for trip in 0..trips {
+        let (before, after) = ((trip + trips - 1) % trips, (trip + 1) % trips);
+        assert_eq!(sheet.make(4, &[1 + trip, 0, end(before), end(after)]), start(trip));
+    }
+    (0..trips).for_each(|trip| assert_eq!(sheet.term(60, 1, start(trip)), end(trip)));
+    let build = of_rows(sheet.starts, &sheet.rows);
+    let moves = [0, 1].map(|choice| vec![(1 + trips / 2, choice)]);
+    Graph { name: "interlined trips", size: trips.into(), build, asked: end(trips - 1), moves }
 }
 
 /// A depot: in each of four shifts every bay has a vehicle, the bays whose vehicle another bay has too are counted, and

@@ -1,0 +1,45 @@
+-- Each visit enters its variable, and leaves nothing waiting where nothing waited before (`Sweeping`). Assumes nothing.
+use Prim.Native.Nat.{_≤_, _-_}
+use mathlib.Core.Path.{_≡_}
+use native.Mathlib.Omega.{arith}
+use borrow.Author.Needs.{needs}
+use Rattle.order.specs.Numbering.{partAt}
+use Rattle.groups.specs.Walk.{Swept}
+use Rattle.groups.proofs.Sweeping.{swept-start, swept-leading, swept-step}
+use Rattle.groups.proofs.walk.visit_all.Statement.{statement}
+use Rattle.groups.proofs.walk.visit_all.Tie as tie
+
+abbrev Inv-loop : tie.InvT-loop
+Inv-loop n begins stops vars marks₀ stack₀ numbers₀ v₀ marks stack numbers v = (v ≤ n) × Swept n (partAt begins stops vars) v marks stack numbers
+
+abbrev μ-loop : tie.MeasureT-loop
+μ-loop n begins stops vars marks₀ stack₀ numbers₀ v₀ marks stack numbers v = n - v
+
+loop-holds : tie.Need-loop-holds Inv-loop μ-loop
+loop-holds c = let s = c .before in (omega arith, swept-start _ _ _ _ _ (s .pre .1 .0) (s .pre .1 .1) (s .pre .1 .2))
+
+visit-requires : tie.Need-visit-requires Inv-loop μ-loop
+visit-requires c κs =
+    let l = c .before .before .before .before in let s = l .before .before in
+    (s .pre .0, (c .before .before .before .loop-test .taken, (l .loop .inv .1 .state, swept-leading _ _ _ _ _ _ (l .loop .inv .1))))
+
+add-v : tie.Need-add-v Inv-loop μ-loop
+add-v c = search needs
+
+loop-less : tie.Need-loop-less Inv-loop μ-loop
+loop-less c = search needs
+
+loop-again : tie.Need-loop-again Inv-loop μ-loop
+loop-again c =
+    let l = c .before .before .before .before .before in
+    (omega arith, swept-step _ _ _ _ _ _ _ _ _ _ (l .loop .inv .1) (c .visit .ensures))
+
+returns : tie.Need-returns Inv-loop μ-loop
+returns c =
+    let s = c .before .before .before in
+    let done : c .before .loop .v ≡ s .args .n = omega arith in rw done at (c .before .loop .inv .1)
+
+pub visit-all-spec : {M : Type 1} → statement M
+visit-all-spec =
+    tie.close
+    (tie.spec Inv-loop μ-loop loop-holds visit-requires add-v loop-less loop-again returns)

@@ -1,0 +1,4 @@
+// Variables that depend on each other, over any links in rows: the groups, and the number that each shares.
+mod walk;
+
+pub use walk::find_groups;
