@@ -2,7 +2,7 @@
 
 use second::BLANK;
 
-use crate::runs::{built, keep, take_back, trial};
+use crate::runs::{built, gives, keep, take_back, trial, with};
 use crate::{Answer, Call, Case, Engine, Row, Side, Test, of_rows};
 
 /// Two trips that start at a depot or at the other's end: indices 0 and 1, the depot's time 2, start and end of the first
@@ -18,23 +18,6 @@ pub fn two_trips() -> Case {
         Row::plain(4, 5, &[1, 2, 4]),
     ];
     of_rows(vec![0, 0, 7, 0, 0, 0, 0, 0], &rows)
-}
-
-/// Asserts what comes back; a refusal changes nothing.
-fn gives(engine: &dyn Engine, what: &str, case: &Case, number: u32, place: u32) {
-    let side = Side::of(engine, case);
-    assert_eq!((side.answer.number, side.answer.place), (number, place), "{what}");
-    if number != 0 {
-        assert_eq!(side.left, *case, "{what}: a refusal changes nothing");
-        assert_eq!(side.answer.evaluations, 0, "{what}: a refusal evaluates nothing");
-    }
-}
-
-/// A case with one change.
-fn with(case: &Case, change: impl FnOnce(&mut Case)) -> Case {
-    let mut case = case.clone();
-    change(&mut case);
-    case
 }
 
 /// Asserts the results, the evaluations and the flags of a trial.

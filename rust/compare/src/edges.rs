@@ -4,28 +4,11 @@ use std::ops::Range;
 
 use second::{BLANK, HIGHEST, LOWEST, MOST_LOGGED};
 
-use crate::runs::{built, keep, model_a, read_twice, take_back, trial};
+use crate::runs::{built, gives, keep, model_a, read_twice, take_back, trial, with};
 use crate::{Call, Case, Engine, Row, Side, Test, chain, of_rows, one_short};
 
 /// A change to a case, and what it is.
 type Change = (&'static str, fn(&mut Case));
-
-/// Asserts what comes back; a refusal changes nothing.
-fn gives(engine: &dyn Engine, what: &str, case: &Case, number: u32, place: u32) {
-    let side = Side::of(engine, case);
-    assert_eq!((side.answer.number, side.answer.place), (number, place), "{what}");
-    if number != 0 {
-        assert_eq!(side.left, *case, "{what}: a refusal changes nothing");
-        assert_eq!(side.answer.evaluations, 0, "{what}: a refusal evaluates nothing");
-    }
-}
-
-/// A case with one change.
-fn with(case: &Case, change: impl FnOnce(&mut Case)) -> Case {
-    let mut case = case.clone();
-    change(&mut case);
-    case
-}
 
 /// Model A's build, trial, keep, taking back and write. Two moves have been kept, the first of two pairs.
 fn all_calls(engine: &dyn Engine) -> [Case; 5] {

@@ -1,6 +1,6 @@
 //! Round trips of model files, as tests of any engine.
 
-use crate::runs::model_a;
+use crate::runs::{model_a, model_a_spoilt};
 use crate::{Call, Case, Engine, Random, Row, Side, Sizes, Test, of_rows};
 
 /// The file that the engine writes of a model.
@@ -70,13 +70,7 @@ fn round_trip(engine: &dyn Engine, model: &Case) {
 
 /// Values inside are not judged: any tables go there and back.
 fn tables_that_build_refuses(engine: &dyn Engine) {
-    let mut model = model_a();
-    model.kinds.fill(65535);
-    model.params.fill(i32::MIN);
-    model.coefs.fill(i16::MIN);
-    model.vars.fill(65535);
-    model.starts.fill(i32::MIN);
-    round_trip(engine, &model);
+    round_trip(engine, &model_a_spoilt());
 }
 
 /// The largest file.

@@ -13,10 +13,38 @@ pub fn model_a() -> Case {
     of_rows(vec![25200, 28800, 600, 0, 0, 0], &rows)
 }
 
+/// Model A with every table at values that no call accepts; its sizes alone are good.
+pub(crate) fn model_a_spoilt() -> Case {
+    let mut model = model_a();
+    model.kinds.fill(65535);
+    model.params.fill(i32::MIN);
+    model.coefs.fill(i16::MIN);
+    model.vars.fill(65535);
+    model.starts.fill(i32::MIN);
+    model
+}
+
 /// Model A with other values of its window.
 fn window(start: i32, end: i32, headway: i32) -> Case {
     let mut case = model_a();
     case.starts[..3].copy_from_slice(&[start, end, headway]);
+    case
+}
+
+/// Asserts what comes back; a refusal changes nothing.
+pub(crate) fn gives(engine: &dyn Engine, what: &str, case: &Case, number: u32, place: u32) {
+    let side = Side::of(engine, case);
+    assert_eq!((side.answer.number, side.answer.place), (number, place), "{what}");
+    if number != 0 {
+        assert_eq!(side.left, *case, "{what}: a refusal changes nothing");
+        assert_eq!(side.answer.evaluations, 0, "{what}: a refusal evaluates nothing");
+    }
+}
+
+/// A case with one change.
+pub(crate) fn with(case: &Case, change: impl FnOnce(&mut Case)) -> Case {
+    let mut case = case.clone();
+    change(&mut case);
     case
 }
 

@@ -4,7 +4,7 @@
 use second::{BLANK, HIGHEST, LOWEST};
 
 use crate::fuzz::{digits_of, file_of, put, reading};
-use crate::runs::model_a;
+use crate::runs::{model_a, model_a_spoilt};
 use crate::{
     Answer, Call, Case, Difference, Engine, Guarded, Random, Row, Second, Side, Sizes, Test, compare, lengthen, model,
     of_rows, one_short, seed, shorten, shrink, value,
@@ -170,7 +170,7 @@ fn headers_on_both_sides(engine: &dyn Engine) {
         put(&mut bytes, at, field);
         assert_eq!(take(&bytes), (14, place), "{field:?} at {at}");
         // with every field behind it wrong too, it still decides
-        for behind in (at as usize + 4..28).step_by(4) {
+        for behind in (at + 4..28).step_by(4) {
             put(&mut bytes, behind, &[0xEE; 4]);
         }
         assert_eq!(take(&bytes), (14, place), "{field:?} at {at}, and all behind it");
@@ -265,12 +265,7 @@ fn round_trip(engine: &dyn Engine, random: &mut Random, model: &Case) {
 
 /// Values inside are not judged, bounds neither: any go there and back.
 fn anything_inside(engine: &dyn Engine) {
-    let mut model = model_a();
-    model.kinds.fill(65535);
-    model.params.fill(i32::MIN);
-    model.coefs.fill(i16::MIN);
-    model.vars.fill(65535);
-    model.starts.fill(i32::MIN);
+    let model = model_a_spoilt();
     round_trip(engine, &mut Random::new(3), &model);
     let file = bounded_file(engine, &model, &[(i32::MAX, i32::MIN); 6]);
     assert_eq!(accepted(engine, &reading_bounded(&file)).lows[..], [i32::MAX; 6]);
