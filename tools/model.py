@@ -665,3 +665,6 @@ def kept(root, want, check, tool):
 
 MODEL_A = ([25200, 28800, 600, 0, 0, 0],
            [Row(DEPARTURES, 3, [0, 1, 2]), Row(LAST, 4, [0, 1, 2]), Row(LINEAR, 5, [3], [4], 2)])
+# two trips of one bus, 40 and 30 minutes long: each begins when the depot opens or where the other ends, as its index says
+INTERLINED = ([0, 1, 25200, 0, 0, 0, 0, 0],
+              [Row(ELEMENT, 3, [0, 2, 6]), Row(LINEAR, 4, [3], None, 2400), Row(ELEMENT, 5, [1, 2, 4]), Row(LINEAR, 6, [5], None, 1800), Row(MAX, 7, [4, 6])])

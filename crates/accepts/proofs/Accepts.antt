@@ -26,7 +26,7 @@ use Rattle.paper.proofs.Buffers.{over-same, over-front, over-length, getD-below
 use Rattle.paper.proofs.Count.{size-same}
 use Rattle.paper.proofs.Known.{ModelKnown, MoveKnown, trial-known, keep-known, take-known, latest-known}
 use Rattle.readers.proofs.Known.{laid-of, indexed-known}
-use Rattle.noting.specs.Noting.{Named}
+use Rattle.rooms.specs.Named.{Named}
 use Rattle.fits.proofs.Lengths.{index-long}
 use Rattle.fills.specs.Accepted.{Keeping, Trying, TrialFilled, KeepFilled}
 

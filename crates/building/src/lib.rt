@@ -9,10 +9,10 @@ use blanks::blanks_among;
 use bounds::HIGHEST;
 use bounds::LOWEST;
 use builds::judge_build;
-use fills::fill_model;
 use records::Done;
 use records::Session;
 use tables::Answer;
+use writes::fill_model;
 
 // Build, with the session record taken and given back by value.
 pub fn build_core(

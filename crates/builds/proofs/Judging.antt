@@ -16,7 +16,7 @@ use Rattle.paper.proofs.Verdicts.{andThen, refused-not, require-stops, require-
 use Rattle.paper.proofs.Accept.{tables-then}
 use Rattle.paper.proofs.Sizes.{Sized, sized-facts}
 use Rattle.paper.proofs.Least.{firstFail-before}
-use Rattle.permits.specs.Links.{Shared, Grouped}
+use Rattle.links.specs.Links.{Shared, Grouped}
 use Rattle.tables.specs.Answers.{answerOf}
 use Rattle.tables.specs.declared.Answer.{Answer}
 use Rattle.tables.specs.declared.Answer.the-variants.{Refused}

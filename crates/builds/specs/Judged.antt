@@ -6,7 +6,7 @@ use Rattle.paper.specs.Checks.{accepted}
 use Rattle.paper.specs.Calls.{BuildLent, buildVerdict}
 use Rattle.tables.specs.Answers.{answerOf}
 use Rattle.tables.specs.declared.Answer.{Answer}
-use Rattle.permits.specs.Links.{kinded, Shared}
+use Rattle.links.specs.Links.{kinded, Shared}
 
 -- the answer is build's verdict, and if that is acceptance the row holds the numbers
 pub record BuildJudged (l : BuildLent) (state : List ℕ) (r : Answer) : Type 0 where

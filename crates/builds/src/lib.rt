@@ -2,13 +2,13 @@
 ghost use Rattle.order.specs.Numbering.{Clean};
 ghost use Rattle.fits.specs.Lent.{noRecord, toBuild};
 ghost use Rattle.builds.specs.Judged.{BuildJudged};
+use allowed::first_bad_value;
 use fits::build_fits;
-use moves::first_bad_value;
-use numbering::first_undetermined;
 use numbering::number_all;
 use sound::table_checks;
 use tables::Answer;
 use tables::refused;
+use worths::first_undetermined;
 
 // Checks 1 to 7 of build, and 20; if all are passed, `state` holds the number of every variable.
 pub fn judge_build(

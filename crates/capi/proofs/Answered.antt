@@ -24,19 +24,19 @@ use denote.Struct.Laws as LL
 use Rattle.tables.specs.declared.Answer.{Answer}
 use Rattle.tables.proofs.Answer as R
 use Rattle.records.specs.Left.{answerIn}
-use Rattle.capi.specs.declared.Outcome.{Outcome}
-use Rattle.capi.specs.Outcomes.{inNumbers}
-use Rattle.capi.proofs.Outcome as O
-use Rattle.capi.proofs.Outcome.Laws as O′
-use Rattle.capi.proofs.answers.in_numbers as put
-use Rattle.capi.proofs.answers.in_numbers.Symbol as put-def
-use Rattle.capi.proofs.answers.in_numbers.Met as put-thm
+use Rattle.answers.specs.declared.Outcome.{Outcome}
+use Rattle.answers.specs.Outcomes.{inNumbers}
+use Rattle.answers.proofs.Outcome as O
+use Rattle.answers.proofs.Outcome.Laws as O′
+use Rattle.answers.proofs.in_numbers as put
+use Rattle.answers.proofs.in_numbers.Symbol as put-def
+use Rattle.answers.proofs.in_numbers.Met as put-thm
 pub use types.Kit.{use1}
 pub use Rattle.walker.proofs.Walk.{Ensures}
 pub use Rattle.engine.proofs.Walking.{refl, [], _∷_, URA, SProp, ent, emp, via, fst∗, Memory, Routine, Heap, Calls, Loops, WpFn, Tables, Atoms, Lfts, Shares, AllOutlive, Fun, givenOf, tables, FmC, fmOf, Valss, flat, owns, Are, Ises, valss, typesAt, Args, alive, onEntry, tripleOf, Contract, Triple, entered, cited, Con, meets-said}
 pub use Rattle.engine.proofs.Walking.{Given, ‵, raw, _$_, _∵_, !, qed, move, keep, drop, use2, join, fjoin, suffices, frame, done, look, init, forget, stop, hop, fld, from, load, addr, and-then, no-more, assigns, land, returns, enter, alloc1, alloc0, params1, pass1, pass0, free1, free0, agg, whole, sub, look-in, calls-at, returned, ends-said, answer-typed}
 unfoldable pub use Rattle.engine.proofs.Walking.{tablesOf}
-pub use Rattle.capi.proofs.answers.in_numbers.Symbol.{name as #capi·in-numbers}
+pub use Rattle.answers.proofs.in_numbers.Symbol.{name as #answers·in-numbers}
 
 module _ {M : Type 1} (𝓤 : URA M) (H : Heap 𝓤) (A : Atoms 𝓤) (memory : Memory → SProp 𝓤) (run : Routine → Fun 𝓤) where
   abbrev pub Put : Contract 𝓤
@@ -63,9 +63,9 @@ module _ {M : Type 1} (𝓤 : URA M) (H : Heap 𝓤) (A : Atoms 𝓤) (memory : 
           returned 𝓤 H A put.ended (put.clauses 𝓤 H A memory run) to-put u t z (λ out ws. drop t $ heard t (out ≡ inNumbers (answerIn r)) (λ e. drop t $
           peeks t O.the-row (Is O.the-row) (shows 𝓤 H A O.the-row) out (u ∷ []) (λ is. k out e is)))
 
-pub put-known : {M : Type 1} (𝓤 : URA M) (H : Heap 𝓤) (𝓜 : Model 𝓤 H) (𝓖 : GhostRules 𝓤 H) (𝓡 : Running 𝓤 H 𝓜) (γ : Env) → γ #capi·in-numbers ≡ put-def.routine
-    → Triple 𝓤 (tables 𝓤 H 𝓜 𝓡 γ .C #capi·in-numbers) (Put 𝓤 H (𝓖 .A) (𝓜 .mem) (𝓡 .run))
-put-known 𝓤 H 𝓜 𝓖 𝓡 γ means = cited 𝓤 H (tripleOf 𝓤 H (𝓖 .A) put.signature (put.spec 𝓤 H (𝓖 .A) (𝓜 .mem) (𝓡 .run))) 𝓜 𝓡 γ #capi·in-numbers put-def.routine means (put-thm.met 𝓤 H 𝓜 𝓖 𝓡)
+pub put-known : {M : Type 1} (𝓤 : URA M) (H : Heap 𝓤) (𝓜 : Model 𝓤 H) (𝓖 : GhostRules 𝓤 H) (𝓡 : Running 𝓤 H 𝓜) (γ : Env) → γ #answers·in-numbers ≡ put-def.routine
+    → Triple 𝓤 (tables 𝓤 H 𝓜 𝓡 γ .C #answers·in-numbers) (Put 𝓤 H (𝓖 .A) (𝓜 .mem) (𝓡 .run))
+put-known 𝓤 H 𝓜 𝓖 𝓡 γ means = cited 𝓤 H (tripleOf 𝓤 H (𝓖 .A) put.signature (put.spec 𝓤 H (𝓖 .A) (𝓜 .mem) (𝓡 .run))) 𝓜 𝓡 γ #answers·in-numbers put-def.routine means (put-thm.met 𝓤 H 𝓜 𝓖 𝓡)
 
 pub outcome-typed : {M : Type 1} {𝓤 : URA M} {H : Heap 𝓤} {A : Atoms 𝓤} (W : Given 𝓤 H A) (out : Outcome) (u : Val) → Is O.the-row out (u ∷ []) → T (hasTy O′.mir u) × WT u
 outcome-typed {𝓤 = 𝓤} {H = H} {A = A} W out u is = LL.lawful O.the-type O′.the-laws 𝓤 H A W .typed out _ is .0

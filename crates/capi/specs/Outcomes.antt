@@ -5,7 +5,7 @@ use lib.IntN.{ℤ}
 use Rattle.paper.specs.Tables.{Tables, Index, indexIn}
 use Rattle.paper.specs.Checks.{Verdict}
 use Rattle.paper.specs.Log.{Log, logIn}
-use Rattle.paper.specs.Calls.{Session, Answer, numberOf, placeOf, evaluationsOf, answered, BuildLeft, TrialLeft, KeepLeft}
+use Rattle.paper.specs.Calls.{Session, answered, BuildLeft, TrialLeft, KeepLeft}
 use Rattle.paper.specs.File.{counted}
 use Rattle.headers.specs.declared.Reading.{Reading}
 use Rattle.headers.specs.declared.Reading.the-variants as reading
@@ -15,13 +15,10 @@ use Rattle.salvage.specs.declared.Salvaged.the-variants as salvaged
 use Rattle.records.specs.Left.{recordIn}
 use Rattle.paper.specs.Reasoned.{Reasoned}
 use Rattle.records.specs.declared.Session as code-session
-use Rattle.capi.specs.declared.Outcome.{Outcome}
+use Rattle.answers.specs.declared.Outcome.{Outcome}
+use Rattle.answers.specs.Outcomes.{inNumbers}
 use Rattle.capi.specs.declared.ReadOutcome.{ReadOutcome}
 use Rattle.capi.specs.declared.SalvageOutcome.{SalvageOutcome}
-
--- an answer as C takes it: the paper's number, place and evaluations
-abbrev pub inNumbers : Answer → Outcome
-inNumbers a = record { number = numberOf a; place = placeOf a; evaluations = evaluationsOf a }
 
 -- ── what the caller has, and what the paper's call leaves: the answer in numbers, then the record and the rows, that of reasons last ──
 -- build

@@ -6,10 +6,10 @@ use Rattle.paper.specs.Calls.{numberOf, placeOf, answered}
 use Rattle.paper.specs.File.{Contents, countedAs}
 use Rattle.conversions.specs.declared.Converted.{Converted}
 use Rattle.conversions.specs.declared.Converted.the-variants as converted
-use Rattle.capi.specs.declared.Outcome.{Outcome}
+use Rattle.answers.specs.declared.Outcome.{Outcome}
 use Rattle.capi.specs.declared.ReadOutcome.{ReadOutcome}
 use Rattle.capi.specs.declared.MoveOutcome.{MoveOutcome}
-use Rattle.capi.specs.Outcomes.{inNumbers}
+use Rattle.answers.specs.Outcomes.{inNumbers}
 
 -- reading with bounds: the answer by its verdict, and the rows under the counts read
 abbrev pub leftByReadBounded : ReadOutcome → Contents → Outcome × Contents

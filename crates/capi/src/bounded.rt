@@ -4,10 +4,10 @@ ghost use Rattle.paper.specs.Tables.{lent};
 ghost use Rattle.paper.specs.File as File;
 ghost use Rattle.capi.specs.Outcomes.{writtenOut};
 ghost use Rattle.capi.specs.Versions.{leftByReadBounded, readBoundedOut};
-use crate::Outcome;
 use crate::ReadOutcome;
 use crate::file::read_numbers;
 use crate::file::written_numbers;
+use answers::Outcome;
 use files::read_bounded;
 use files::write_bounded;
 

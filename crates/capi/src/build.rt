@@ -4,8 +4,8 @@ ghost use Rattle.fits.specs.Lent.{toBuild};
 ghost use Rattle.records.specs.Left.{recordIn};
 ghost use Rattle.paper.specs.Reasoned.{buildReasoned};
 ghost use Rattle.capi.specs.Outcomes.{leftByBuild, builtOut};
-use crate::Outcome;
-use crate::answers::in_numbers;
+use answers::Outcome;
+use answers::in_numbers;
 use records::Session;
 
 // `engine::build` for C. The reason of every variable is given.

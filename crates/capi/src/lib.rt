@@ -1,5 +1,4 @@
 // The calls for C and Rust. Each states what the call beneath it states.
-mod answers;
 mod bounded;
 mod build;
 mod file;
@@ -20,14 +19,6 @@ pub use take_back::lukhandro_take_back;
 pub use trial::lukhandro_trial;
 pub use versions::lukhandro_to_version_1;
 pub use versions::lukhandro_to_version_2;
-
-// What a call answers: 0 and place 0 if accepted, and then how many evaluations it made.
-#[repr(C)]
-pub struct Outcome {
-    pub number: u32,
-    pub place: u32,
-    pub evaluations: u32,
-}
 
 // What reading a file answers: 0 and place 0 if accepted, and then how many variables, rows and entries it has.
 #[repr(C)]

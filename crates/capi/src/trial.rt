@@ -4,8 +4,8 @@ ghost use Rattle.fits.specs.Lent.{toModel, toTry};
 ghost use Rattle.records.specs.Left.{recordIn};
 ghost use Rattle.paper.specs.Reasoned.{trialReasoned};
 ghost use Rattle.capi.specs.Outcomes.{leftByTrial, triedOut};
-use crate::Outcome;
-use crate::answers::in_numbers;
+use answers::Outcome;
+use answers::in_numbers;
 use records::Session;
 
 // `engine::trial` for C. The reason of every variable asked is given.

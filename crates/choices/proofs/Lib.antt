@@ -1,5 +1,2 @@
-pub mod Chained
 pub mod Whole
-pub mod Visits
-pub mod InTurn
 pub mod Sweeps

@@ -26,9 +26,10 @@ use Rattle.tables.specs.Makers.{Makers}
 use Rattle.order.specs.Numbering.{Clean}
 use Rattle.routes.specs.Rows.{valuesOf}
 use Rattle.choices.specs.Choices.{Followed}
-use Rattle.choices.specs.Visiting.{stands, Visited, Swept}
+use Rattle.visits.specs.Visiting.{stands, Visited}
+use Rattle.choices.specs.Swept.{Swept}
 use Rattle.choices.proofs.Whole.{makers, whole, makers-long, made-is, form-is, asks-is}
-use Rattle.choices.proofs.Visits.{held-on}
+use Rattle.visits.proofs.Visits.{held-on}
 
 -- ── the loop over all variables ──
 module _ (N : Net) (L : Lawful N) (n : ℕ) where

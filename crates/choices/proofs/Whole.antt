@@ -22,8 +22,8 @@ use Rattle.routes.specs.Work.{workNet}
 use Rattle.routes.proofs.Walks.{row-fits}
 use Rattle.routes.proofs.Asks as Asks
 use Rattle.routes.proofs.Planned.{rowsOf}
-use Rattle.choices.specs.Visiting.{Laid}
-use Rattle.choices.proofs.Chained.{asks-bare}
+use Rattle.visits.specs.Visiting.{Laid}
+use Rattle.visits.proofs.Chained.{asks-bare}
 
 module _ (t : Tables) (s : Sound t) (by : List ℕ) (k : Makers t by) where
   -- the makers of the variables, and the model

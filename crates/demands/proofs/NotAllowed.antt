@@ -16,7 +16,7 @@ use Rattle.paper.specs.Checks.{accepted}
 use Rattle.paper.specs.Log.{logIn, logged}
 use Rattle.paper.specs.Calls.{Accepted, Refused, numberOf, BuildLent, BuildLeft, buildVerdict, build, Model, Tried, TrialLeft, trialVerdict, trial, Kept, KeepLeft, keepVerdict, storedValues, keepLeaves, keep, latest, takeVerdict, takeBack}
 use Rattle.paper.specs.Demands.{Call, State, modelOf, old, renewed, restored}
-use Rattle.paper.specs.Runs.{building, modelA, startA, zeros, zerosZ, ones}
+use Rattle.worked.specs.Runs.{building, modelA, startA, zeros, zerosZ, ones}
 use Rattle.paper.proofs.Buffers.{over-at}
 use Rattle.paper.proofs.Known.{KeepKnown, keep-known, take-known}
 use Rattle.paper.proofs.Outcomes.{keep-judged, take-judged}

@@ -3,12 +3,15 @@
 use crate::cases::count;
 use crate::cases::name;
 use crate::cases::record;
+use crate::cases::sizes;
 use crate::cases::values_of;
 use crate::print;
 use figures::figures;
 use pools::fields::half;
 use pools::fields::least;
 use pools::rows::fill_signed32;
+use pools::rows::part_signed32;
+use pools::rows::planned;
 use pools::rows::row_signed16;
 use pools::rows::row_signed32;
 use pools::rows::row16;
@@ -23,11 +26,12 @@ fn count_filling(
     stored: &[i32],
     by_number: &mut [u32],
 ) {
+    let sizes = sizes(case);
     let counted = figures(
         record(case),
-        count(case, 8),
-        count(case, 10),
-        count(case, 12),
+        sizes.n,
+        sizes.m,
+        sizes.e,
         row16(pool, plan, 0),
         row16(pool, plan, 2),
         row_signed32(values, plan, 24),
@@ -39,10 +43,10 @@ fn count_filling(
         row_signed32(values, plan, 30),
         row16(pool, plan, 10),
         row16(pool, plan, 12),
-        stored,
+        part_signed32(stored, 0, planned(plan, 32)),
         row16(pool, plan, 14),
         row16(pool, plan, 16),
-        count(case, 14),
+        sizes.pairs,
         row16(pool, plan, 20),
         row16(pool, plan, 18),
         row_signed32(values, plan, 26),
@@ -58,7 +62,6 @@ pub fn count_case(case: &[u8], plan: &[u16], pool: &[u16], coefs: &[i16], values
     let mut stored = [0i32; 4097];
     let mut by_number = [77u32; 24];
     fill_signed32(&mut stored, values_of(case));
-    let s = least(count(case, 82), 4097);
     let k = least(count(case, 84), 24);
     count_filling(
         case,
@@ -66,7 +69,7 @@ pub fn count_case(case: &[u8], plan: &[u16], pool: &[u16], coefs: &[i16], values
         pool,
         coefs,
         values,
-        &stored[0..s],
+        &stored,
         &mut by_number[0..k],
     );
 }

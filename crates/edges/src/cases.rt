@@ -13,8 +13,14 @@
 // 122 the name; the stored values, zeros past the end, of a build its start values; the log's sizes, zeros past the end; its pairs, each with place,
 //     variable and value, the value of four bytes
 use crate::batches::count_case;
-use crate::kept::change_case;
+use crate::kept::keep_case;
+use crate::kept::take_case;
 use crate::print;
+use pools::calls::LOG_SIZES;
+use pools::calls::ORDER;
+use pools::calls::READER_PLACES;
+use pools::calls::READER_STARTS;
+use pools::calls::Sizes;
 use pools::calls::build_planned;
 use pools::calls::try_planned;
 use pools::fields::after;
@@ -26,15 +32,19 @@ use pools::print::numbers;
 use pools::print::text;
 use pools::rows::fill_signed32;
 use pools::rows::fill16;
-use pools::rows::row_signed16;
-use pools::rows::row_signed32;
-use pools::rows::row16;
+use pools::rows::part_signed32;
+use pools::rows::part16;
 use records::Done;
 use records::Session;
 
 // A number of the case.
 pub fn count(case: &[u8], at: usize) -> usize {
     half(case, at) as usize
+}
+
+// How many places of a row are shown: no more than are lent.
+pub fn shown(case: &[u8], at: usize, lent: usize) -> usize {
+    least(count(case, at), count(case, lent))
 }
 
 // The name of the case.
@@ -56,45 +66,32 @@ pub fn record(case: &[u8]) -> Session {
     }
 }
 
-// Tries the move of a case with the rows to fill that are lent, and prints what comes back and what is left.
-fn try_filling(
-    case: &[u8],
-    plan: &[u16],
-    pool: &[u16],
-    coefs: &[i16],
-    values: &[i32],
-    stored: &[i32],
-    results: &mut [i32],
-    trial: &mut [i32],
-    flags: &mut [u8],
-) {
-    let route = word(case, 102);
-    let done = try_planned(
-        record(case),
-        count(case, 8),
-        count(case, 10),
-        count(case, 12),
-        plan,
-        pool,
-        row_signed32(values, plan, 24),
-        row_signed16(coefs, plan, 22),
-        row_signed32(values, plan, 28),
-        row_signed32(values, plan, 30),
-        stored,
-        count(case, 14),
-        row16(pool, plan, 18),
-        row_signed32(values, plan, 26),
-        count(case, 16),
-        row16(pool, plan, 20),
-        route,
-        results,
-        trial,
-        flags,
+// The numbers of the call.
+pub fn sizes(case: &[u8]) -> Sizes {
+    Sizes {
+        n: count(case, 8),
+        m: count(case, 10),
+        e: count(case, 12),
+        pairs: count(case, 14),
+        asked: count(case, 16),
+        route: word(case, 102),
+    }
+}
+
+// Prints what comes back of a trial, and what it leaves.
+fn print_tried(case: &[u8], done: Done, results: &[i32], trial: &[i32], flags: &[u8]) {
+    print::tried(name(case), word(case, 102), done);
+    print::values(
+        b"; results",
+        count(case, 94),
+        part_signed32(results, 0, count(case, 84)),
     );
-    print::tried(name(case), route, done);
-    print::values(b"; results", count(case, 94), results);
-    print::values(b"; trial", count(case, 96), trial);
-    print::flags(count(case, 96), flags);
+    print::values(
+        b"; trial",
+        count(case, 96),
+        part_signed32(trial, 0, count(case, 86)),
+    );
+    print::flags(shown(case, 96, 88), flags);
 }
 
 // Tries the move of a case.
@@ -104,135 +101,88 @@ fn try_case(case: &[u8], plan: &[u16], pool: &[u16], coefs: &[i16], values: &[i3
     let mut trial = [77i32; 4097];
     let mut flags = [7u8; 4097];
     fill_signed32(&mut stored, values_of(case));
-    let s = least(count(case, 82), 4097);
-    let r = least(count(case, 84), 33);
-    let t = least(count(case, 86), 4097);
-    let f = least(count(case, 88), 4097);
-    try_filling(
-        case,
+    let done = try_planned(
+        record(case),
+        sizes(case),
         plan,
         pool,
         coefs,
         values,
-        &stored[0..s],
-        &mut results[0..r],
-        &mut trial[0..t],
-        &mut flags[0..f],
+        &stored,
+        &mut results,
+        &mut trial,
+        &mut flags,
     );
+    print_tried(case, done, &results, &trial, &flags);
 }
 
 // Prints what comes back of a build, and what it leaves.
-fn print_built(
-    case: &[u8],
-    done: Done,
-    row: &[u16],
-    order: &[u16],
-    stored: &[i32],
-    reader_starts: &[u16],
-    reader_places: &[u16],
-    log_sizes: &[u16],
-) {
+fn print_built(case: &[u8], done: Done, stored: &[i32], made: &[u16]) {
     print::built(name(case), done);
-    numbers(b"; numbers", count(case, 96), row);
-    numbers(b"; order", count(case, 96), order);
-    print::values(b"; stored", count(case, 96), stored);
-    numbers(b"; reader starts", count(case, 94), reader_starts);
-    numbers(b"; reader places", count(case, 94), reader_places);
-    numbers(b"; log", count(case, 120), log_sizes);
-}
-
-// Builds the model of a case with the rows to fill that are lent, and prints what comes back and what is left.
-fn build_filling(
-    case: &[u8],
-    plan: &[u16],
-    pool: &[u16],
-    coefs: &[i16],
-    values: &[i32],
-    starts: &[i32],
-    numbers: &mut [u16],
-    order: &mut [u16],
-    stored: &mut [i32],
-    reader_starts: &mut [u16],
-    reader_places: &mut [u16],
-    log_sizes: &mut [u16],
-) {
-    let done = build_planned(
-        record(case),
-        count(case, 8),
-        count(case, 10),
-        count(case, 12),
-        plan,
-        pool,
-        row_signed32(values, plan, 24),
-        row_signed16(coefs, plan, 22),
-        row_signed32(values, plan, 28),
-        row_signed32(values, plan, 30),
-        starts,
-        numbers,
-        order,
-        stored,
-        reader_starts,
-        reader_places,
-        log_sizes,
+    numbers(b"; numbers", shown(case, 96, 84), made);
+    numbers(
+        b"; order",
+        count(case, 96),
+        part16(made, ORDER, count(case, 86)),
     );
-    print_built(
-        case,
-        done,
-        numbers,
-        order,
-        stored,
-        reader_starts,
-        reader_places,
-        log_sizes,
+    print::values(
+        b"; stored",
+        count(case, 96),
+        part_signed32(stored, 0, count(case, 88)),
+    );
+    numbers(
+        b"; reader starts",
+        count(case, 94),
+        part16(made, READER_STARTS, count(case, 90)),
+    );
+    numbers(
+        b"; reader places",
+        count(case, 94),
+        part16(made, READER_PLACES, count(case, 92)),
+    );
+    numbers(
+        b"; log",
+        count(case, 120),
+        part16(made, LOG_SIZES, count(case, 110)),
     );
 }
 
 // Builds the model of a case.
 fn build_case(case: &[u8], plan: &[u16], pool: &[u16], coefs: &[i16], values: &[i32]) {
     let mut starts = [0i32; 4097];
-    let mut numbers = [77u16; 4097];
-    let mut order = [77u16; 4097];
     let mut stored = [77i32; 4097];
-    let mut reader_starts = [77u16; 4098];
-    let mut reader_places = [77u16; 16385];
-    let mut log_sizes = [77u16; 66];
+    let mut made = [77u16; 28743];
     fill_signed32(&mut starts, values_of(case));
-    let s = least(count(case, 82), 4097);
-    let n = least(count(case, 84), 4097);
-    let o = least(count(case, 86), 4097);
-    let t = least(count(case, 88), 4097);
-    let r = least(count(case, 90), 4098);
-    let p = least(count(case, 92), 16385);
-    let l = least(count(case, 110), 66);
-    build_filling(
-        case,
+    let done = build_planned(
+        record(case),
+        sizes(case),
         plan,
         pool,
         coefs,
         values,
-        &starts[0..s],
-        &mut numbers[0..n],
-        &mut order[0..o],
-        &mut stored[0..t],
-        &mut reader_starts[0..r],
-        &mut reader_places[0..p],
-        &mut log_sizes[0..l],
+        &starts,
+        77,
+        &mut stored,
+        &mut made,
     );
+    print_built(case, done, &stored, &made);
 }
 
 // Makes the call of a case, and prints its line.
 pub fn make(case: &[u8], pool: &[u16], coefs: &[i16], values: &[i32]) {
-    let mut plan = [0u16; 32];
-    fill16(&mut plan, part(case, 18, 64));
+    let mut plan = [0u16; 49];
+    fill16(&mut plan, part(case, 18, 98));
     let which = half(case, 6);
     if which == 1 {
         try_case(case, &plan, pool, coefs, values);
+    } else if which == 2 {
+        keep_case(case, &plan, pool, coefs, values);
     } else if which == 3 {
         build_case(case, &plan, pool, coefs, values);
     } else if which == 4 {
         count_case(case, &plan, pool, coefs, values);
     } else {
-        change_case(case, &plan, pool, coefs, values);
+        take_case(case, &plan, pool, coefs, values);
     }
     text(b"\n");
 }

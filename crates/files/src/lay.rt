@@ -1,6 +1,7 @@
 // Reading, whatever the version.
 ghost use mathlib.Core.Path.{_≡_};
 ghost use Rattle.paper.specs.Tables.{lent};
+ghost use Rattle.headers.specs.Answers.{answer};
 ghost use Rattle.files.specs.Answers.{hasReadBounded};
 ghost use Rattle.paper.specs.File as File;
 use columns::lay_starts;
@@ -54,28 +55,25 @@ pub fn rows_held(
     (count <= lows.len()) & (count <= highs.len()) & held
 }
 
-// Lays the model that a file holds over the lent rows.
-pub fn read_as(
+// What a call that reads answers: the counts that the file states if its header is right and the rows have room, else why not.
+fn judge_reading(
     bounds: bool,
     bytes: &[u8],
-    starts: &mut [i32],
-    kinds: &mut [u16],
-    makes: &mut [u16],
-    params: &mut [i32],
-    firsts: &mut [u16],
-    counts: &mut [u16],
-    vars: &mut [u16],
-    coefs: &mut [i16],
-    lows: &mut [i32],
-    highs: &mut [i32],
+    starts: &[i32],
+    kinds: &[u16],
+    makes: &[u16],
+    params: &[i32],
+    firsts: &[u16],
+    counts: &[u16],
+    vars: &[u16],
+    coefs: &[i16],
+    lows: &[i32],
+    highs: &[i32],
 ) -> Reading
     ensures { λ r. ⌜
-        hasReadBounded r (File.contents
-        (lent 0 0 0 (now (kinds .exit)) (now (makes .exit)) (now (params .exit)) (now (firsts .exit)) (now (counts .exit)) (now (vars .exit)) (now (coefs .exit)))
-        (now (starts .exit)) (now (lows .exit)) (now (highs .exit)))
-        ≡ File.readAs bounds (now (bytes .entry)) (File.contents
+        r ≡ answer (now (bytes .entry)) (File.readVerdictAs bounds (now (bytes .entry)) (File.contents
         (lent 0 0 0 (now (kinds .entry)) (now (makes .entry)) (now (params .entry)) (now (firsts .entry)) (now (counts .entry)) (now (vars .entry)) (now (coefs .entry)))
-        (now (starts .entry)) (now (lows .entry)) (now (highs .entry)))
+        (now (starts .entry)) (now (lows .entry)) (now (highs .entry))))
         ⌝ }
 {
     let told = header_as(bytes, bounds);
@@ -104,6 +102,50 @@ pub fn read_as(
             place: 0,
         };
     }
+    told
+}
+
+// Lays the model that a file holds over the lent rows.
+pub fn read_as(
+    bounds: bool,
+    bytes: &[u8],
+    starts: &mut [i32],
+    kinds: &mut [u16],
+    makes: &mut [u16],
+    params: &mut [i32],
+    firsts: &mut [u16],
+    counts: &mut [u16],
+    vars: &mut [u16],
+    coefs: &mut [i16],
+    lows: &mut [i32],
+    highs: &mut [i32],
+) -> Reading
+    ensures { λ r. ⌜
+        hasReadBounded r (File.contents
+        (lent 0 0 0 (now (kinds .exit)) (now (makes .exit)) (now (params .exit)) (now (firsts .exit)) (now (counts .exit)) (now (vars .exit)) (now (coefs .exit)))
+        (now (starts .exit)) (now (lows .exit)) (now (highs .exit)))
+        ≡ File.readAs bounds (now (bytes .entry)) (File.contents
+        (lent 0 0 0 (now (kinds .entry)) (now (makes .entry)) (now (params .entry)) (now (firsts .entry)) (now (counts .entry)) (now (vars .entry)) (now (coefs .entry)))
+        (now (starts .entry)) (now (lows .entry)) (now (highs .entry)))
+        ⌝ }
+{
+    let told = judge_reading(
+        bounds,
+        bytes,
+        starts,
+        kinds,
+        makes,
+        params,
+        firsts,
+        counts,
+        vars,
+        coefs,
+        lows,
+        highs,
+    );
+    let Reading::Accepted { n, m, e } = told else {
+        return told;
+    };
     let head = head_length(bounds);
     let at = bounds_at(head, n, m, e);
     let count = bounded_count(bounds, n);

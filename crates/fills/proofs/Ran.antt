@@ -32,7 +32,8 @@ use Rattle.paper.proofs.Fresh.{unnamed}
 use Rattle.tables.proofs.Shapes.{all-first}
 use Rattle.copies.proofs.Put.{not-named, low-named, moved-at}
 use Rattle.routes.specs.Routed.{Begun, Named, Routed}
-use Rattle.fills.specs.Accepted.{Running, Keeping}
+use Rattle.running.specs.Running.{Running}
+use Rattle.fills.specs.Accepted.{Keeping}
 use Rattle.fills.proofs.Settled.{idle-new, all-new}
 
 module _ (t : Tables) (nums ord : List ℕ) (x : Index) (stored : List ℤ) (c : Kept) (k : Keeping t nums ord x stored c) where

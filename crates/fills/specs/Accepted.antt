@@ -13,32 +13,8 @@ use Rattle.paper.specs.Checks.{accepted, boundsIn, movePairs, Sound}
 use Rattle.paper.specs.Chains.{groupOrder, determined, storedFresh}
 use Rattle.paper.specs.Calls.{evaluationsOf, BuildLent, startValues, Tried, TrialLeft, askedList, trialLeaves, Kept, keptCount, keptStored, keptFlags}
 use Rattle.copies.specs.Put.{PairsFit}
-use Rattle.permits.specs.Links.{kinded, Grouped}
+use Rattle.links.specs.Links.{Grouped}
 use Rattle.readers.specs.Index.{Indexed}
-
--- a build that is accepted: sound tables with the numbers found, whose closed chains are permitted and whose variables the start values determine, and the rows to
--- fill as long as they must be; the bounds play no part
-pub record Buildable (l : BuildLent) (state : List ℕ) : Type 0 where
-  pub sound : Sound (l .tables)
-  pub grouped : let t = l .tables in Grouped (kinded (t .n) (t .m) (t .kinds) (t .makes) (t .firsts) (t .counts) (t .vars)) state
-  pub determined : (v : ℕ) → determined (l .tables) (startValues l) v ≡ true
-  pub in-starts : l .tables .n ≤ length (l .starts)
-  pub in-numbers : l .tables .n ≤ length (l .numbers)
-  pub in-order : l .tables .m ≤ length (l .order)
-  pub in-stored : l .tables .n ≤ length (l .stored)
-  pub index-starts : suc (l .tables .n) ≤ length (l .index .starts)
-  pub index-places : l .tables .e ≤ length (l .index .places)
-  pub in-log : 65 ≤ length (l .logSizes)
-
-module _ (t : Tables) (nums ord : List ℕ) (stored : List ℤ) where
-  -- the numbers and the order are build's, the stored values passed check 21, and those of a begun trial row leave every variable determined
-  pub record Running (trial : List ℤ) : Type 0 where
-    pub sound : Sound t
-    pub grouped : Grouped t nums
-    pub in-order : t .m ≤ length ord
-    pub order-is : take (t .m) ord ≡ groupOrder t
-    pub fresh : (v : ℕ) → v < t .n → storedFresh t (valuesIn t stored) v ≡ true
-    pub determined : (v : ℕ) → v < t .n → determined t (valuesIn t trial) v ≡ true
 
 module _ (t : Tables) (nums ord : List ℕ) (x : Index) (stored : List ℤ) where
   -- the same over the stored values with a move of search variables put in, with the model's index and the flags lent

@@ -2,9 +2,9 @@
 ghost use Rattle.paper.specs.Tables.{lent, indexIn};
 ghost use Rattle.fits.specs.Lent.{toKeep};
 ghost use Rattle.fills.specs.Accepted.{Keeping, KeepFilled};
-use crate::route::run_route;
 use copies::begin_route;
 use copies::copy_values;
+use running::run_route;
 use steps::evaluations;
 
 // Works the move out by route 1 in a row of its own, stores the new values, and answers with the number of evaluations.

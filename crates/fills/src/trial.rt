@@ -2,9 +2,9 @@
 ghost use Rattle.paper.specs.Tables.{lent, indexIn};
 ghost use Rattle.fits.specs.Lent.{toTry};
 ghost use Rattle.fills.specs.Accepted.{Trying, TrialFilled};
-use crate::route::run_route;
 use copies::begin_route;
 use copies::copy_asked;
+use running::run_route;
 use steps::evaluations;
 
 // Works the move out in the trial row, and answers with the number of evaluations.

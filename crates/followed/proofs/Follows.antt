@@ -17,8 +17,8 @@ use Rattle.paper.proofs.Buffers.{below-list, over-length, over-at, over-front, 
 use Rattle.routes.specs.Rows.{valuesOf}
 use Rattle.routes.specs.Routed.{Begun, newOf, evaluatedOf, Routed}
 use Rattle.choices.specs.Choices.{Followed}
-use Rattle.followed.specs.Following.{Steady, Renewed, Flagged}
-use Rattle.followed.proofs.Flags.{new-is}
+use Rattle.flagged.specs.Following.{Steady, Renewed, Flagged}
+use Rattle.flagged.proofs.Flags.{new-is}
 
 module _ (t : Tables) (stored trial : List ℤ) (flags : List ℕ) (S : Steady t stored trial) (B : Begun t stored trial flags) where
   module _ (before copied values : List ℤ) (states : List ℕ) (long : t .n ≤ length before) (is : copied ≡ over (t .n) (λ v. getD trial v (pos 0)) before)

@@ -12,14 +12,16 @@ use lib.ListN.{length, set, length-set}
 use lib.Seq.{getD-set-same, getD-set-other, length-slice}
 use borrow.Author.Tests.{leb-false, lt-leb, ltb-true, ltb-false, lt-ltb, le-ltb}
 use Rattle.paper.specs.Lists.{nat, size}
-use Rattle.paper.proofs.Count.{size-le, size-mono}
+use Rattle.paper.proofs.Count.{size-le, size-mono, size-more}
 use Rattle.order.specs.Numbering.{partAt}
 use Rattle.order.proofs.Visits.{left-none}
-use Rattle.groups.specs.Walk.{entered, closed, Waits, Reaches, here, on, Stacked, Settled, Visited, asked, askedBy, askedAt, firstNumber, Best, Marked}
+use Rattle.asks.specs.Asked.{asked, askedBy}
+use Rattle.stacks.specs.Stack.{entered, Waits, Stacked, askedAt, firstNumber, Best, Marked}
+use Rattle.groups.specs.Walk.{closed, Reaches, here, on, Settled, Visited}
 use Rattle.paper.proofs.Lists.{same-or}
-use Rattle.groups.proofs.Reach.{low-or, size-more, joins, carries, alone}
-use Rattle.groups.proofs.Asking.{greatest-in, greatest-hit}
-use Rattle.groups.proofs.Marking.{stacked-few, stacked-is}
+use Rattle.asks.proofs.Asking.{low-or, greatest-in, greatest-hit}
+use Rattle.groups.proofs.Reach.{joins, carries, alone}
+use Rattle.stacks.proofs.Marking.{stacked-few, stacked-is}
 use Rattle.groups.proofs.Entering.{Begun}
 use Rattle.groups.proofs.Going.{Going, going-at, going-old, going-kept, going-new, going-leads}
 

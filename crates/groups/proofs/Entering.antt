@@ -10,10 +10,10 @@ use lib.ListN.{length, set, length-set}
 use lib.Seq.{getD-set-same, getD-set-other}
 use borrow.Author.Tests.{ltb-true, lt-ltb, le-ltb}
 use Rattle.paper.specs.Lists.{nat}
-use Rattle.paper.proofs.Count.{size-le, size-add, size-mono}
-use Rattle.groups.specs.Walk.{entered, closed, Waits, Reaches, here, Stacked, Settled, State, Leading}
+use Rattle.paper.proofs.Count.{size-le, size-add, size-mono, size-more}
+use Rattle.groups.specs.Walk.{closed, Reaches, here, Settled, State, Leading}
+use Rattle.stacks.specs.Stack.{entered, Waits, Stacked}
 use Rattle.paper.proofs.Lists.{same-or}
-use Rattle.groups.proofs.Reach.{size-more}
 
 -- the closed groups are as they were
 pub settled-kept : (n : ℕ) (dep : ℕ → List ℕ) (marks marks′ numbers : List ℕ) → Settled n dep marks numbers → ((u : ℕ) → 4096 < nat marks′ u → nat marks′ u ≡ nat marks u)

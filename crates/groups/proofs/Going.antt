@@ -8,10 +8,13 @@ use mathlib.Core.Logic.{_⊎_, inl, inr, ⊎-elim, _≢_}
 use mathlib.Core.Path.{_≡_, refl, ap, sym, _∙_, subst}
 use borrow.Author.Tests.{eqb-true, eq-eqb, ne-eqb}
 use Rattle.paper.specs.Lists.{nat, size}
-use Rattle.groups.specs.Walk.{fresh, Waits, Reaches, here, on, State, Leading, Visited}
+use Rattle.groups.specs.Walk.{fresh, Reaches, here, on, State, Leading, Visited}
 use Rattle.paper.proofs.Lists.{same-or}
-use Rattle.groups.proofs.Reach.{low-or, size-more, one-link, joins}
-use Rattle.groups.proofs.Marking.{stacked-is}
+use Rattle.paper.proofs.Count.{size-more}
+use Rattle.asks.proofs.Asking.{low-or}
+use Rattle.stacks.specs.Stack.{Waits}
+use Rattle.groups.proofs.Reach.{one-link, joins}
+use Rattle.stacks.proofs.Marking.{stacked-is}
 use Rattle.groups.proofs.Entering.{Begun}
 
 module _ (n : ℕ) (dep : ℕ → List ℕ) where

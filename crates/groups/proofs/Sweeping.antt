@@ -18,9 +18,10 @@ use Rattle.paper.proofs.Depends.{SameGroup, grouped-exactly}
 use Rattle.paper.proofs.Outside.{outside-in, outside-has}
 use Rattle.order.specs.Numbering.{Clean}
 use Rattle.groups.specs.Groups.{numberOver, Found}
-use Rattle.groups.specs.Walk.{closed, Waits, Reaches, Settled, Leading, Visited, Swept}
-use Rattle.groups.proofs.Reach.{low-or, depends-or, here-or, reaches}
-use Rattle.groups.proofs.Asking.{greatest-in, greatest-le}
+use Rattle.groups.specs.Walk.{closed, Reaches, Settled, Leading, Visited, Swept}
+use Rattle.groups.proofs.Reach.{depends-or, here-or, reaches}
+use Rattle.asks.proofs.Asking.{low-or, greatest-in, greatest-le}
+use Rattle.stacks.specs.Stack.{Waits}
 
 module _ (n : ℕ) (dep : ℕ → List ℕ) where
   pub swept-start : (marks stack numbers : List ℕ) → Clean n marks → Clean (n + 1) stack → Clean n numbers → Swept n dep 0 marks stack numbers

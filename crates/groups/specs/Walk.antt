@@ -1,41 +1,26 @@
 -- The walk that finds groups: what its rows hold. The mark of a variable is 0 before it is entered, its place on the stack while it waits for its group to be
--- closed, and then 4097 and the variable that closed the group. Place 0 of the stack holds how many wait. Assumes nothing.
-use Prim.Native.Nat.{ℕ, zero, suc, _+_, _≤_, _<_}
-use mathlib.Core.Bool.{Bool, cond}
-use mathlib.Core.List.{List, [], map, List·Memᴰ}
-use mathlib.Core.Logic.{_⊎_, _≢_}
+-- closed, and then 4097 and the variable that closed the group. Assumes nothing.
+use Prim.Native.Nat.{ℕ, suc, _+_, _≤_, _<_}
+use mathlib.Core.Bool.{Bool}
+use mathlib.Core.List.{List, [], List·Memᴰ}
+use mathlib.Core.Logic.{_≢_}
 use mathlib.Core.Path.{_≡_}
-use lib.Dec.{eqb, leb, ltb}
+use lib.Dec.{eqb, ltb}
 use lib.ListN.{length}
-use Rattle.paper.specs.Lists.{nat, size, greatest}
+use Rattle.paper.specs.Lists.{nat, size}
+use Rattle.stacks.specs.Stack.{Waits, Stacked}
 
--- ── marks: of a variable that is not entered, that has been, and whose group is closed; what waits is on the stack ──
+-- ── marks: of a variable that is not entered, and of one whose group is closed ──
 abbrev pub fresh : List ℕ → ℕ → Bool
 fresh marks v = eqb (nat marks v) 0
 
-abbrev pub entered : List ℕ → ℕ → Bool
-entered marks v = ltb 0 (nat marks v)
-
 abbrev pub closed : List ℕ → ℕ → Bool
 closed marks v = ltb 4096 (nat marks v)
-
-pub record Waits (marks : List ℕ) (v : ℕ) : Type 0 where
-  pub some : 0 < nat marks v
-  pub few : nat marks v ≤ 4096
 
 -- w is v, or links lead from v to it
 pub data Reaches (dep : ℕ → List ℕ) : ℕ → ℕ → Type 0 where
   here : {v : ℕ} → Reaches dep v v
   on : {v i w : ℕ} → List·Memᴰ i (dep v) → Reaches dep i w → Reaches dep v w
-
--- the stack holds those that wait, each at the place that its mark says
-pub record Stacked (n : ℕ) (marks stack : List ℕ) : Type 0 where
-  pub marks-long : n ≤ length marks
-  pub below : (v : ℕ) → 0 < nat marks v → v < n
-  pub room : n < length stack
-  pub few : nat stack 0 ≤ size (entered marks) n
-  pub at : (i : ℕ) → 0 < i → i ≤ nat stack 0 → nat marks (nat stack i) ≡ i
-  pub back : (v : ℕ) → Waits marks v → (nat marks v ≤ nat stack 0) × (nat stack (nat marks v) ≡ v)
 
 -- closed groups: links lead from them into closed groups, the marks are the same exactly within a group, and the numbers are right
 pub record Settled (n : ℕ) (dep : ℕ → List ℕ) (marks numbers : List ℕ) : Type 0 where
@@ -77,34 +62,3 @@ pub record Swept (n : ℕ) (dep : ℕ → List ℕ) (v : ℕ) (marks stack numbe
   pub state : State n dep marks stack numbers
   pub passed : (u : ℕ) → u < v → 0 < nat marks u
   pub none : (u : ℕ) → Waits marks u → ⊥
-
--- ── closing a group ──
--- what a link to i asks of the number: one more than i's, if i's group is closed
-abbrev pub asked : List ℕ → List ℕ → ℕ → ℕ
-asked marks numbers i = cond (leb (nat marks i) 4096) zero (suc (nat numbers i))
-
--- what the links of v ask
-abbrev pub askedBy : (ℕ → List ℕ) → List ℕ → List ℕ → ℕ → ℕ
-askedBy dep marks numbers v = greatest (map (asked marks numbers) (dep v))
-
--- what the links of the variable at place i of the stack ask
-abbrev pub askedAt : (ℕ → List ℕ) → List ℕ → List ℕ → List ℕ → ℕ → ℕ
-askedAt dep marks stack numbers i = askedBy dep marks numbers (nat stack i)
-
--- 1 with links, 0 without
-abbrev pub firstNumber : List ℕ → List ℕ → ℕ → ℕ
-firstNumber begins stops v = cond (ltb (nat begins v) (nat stops v)) 1 0
-
--- best is the greatest of the first and of f at the places from p on and below top
-pub record Best (f : ℕ → ℕ) (p top first best : ℕ) : Type 0 where
-  pub first-in : first ≤ best
-  pub each : (i : ℕ) → p ≤ i → i < top → f i ≤ best
-  pub hit : (best ≡ first) ⊎ ((i : ℕ) × (p ≤ i) × (i < top) × (best ≡ f i))
-
--- from place p on and below top the stack's variables have the mark and the number given, and all else is as it was
-pub record Marked (p top mark number : ℕ) (marks numbers marks′ numbers′ : List ℕ) : Type 0 where
-  pub marks-long : length marks′ ≡ length marks
-  pub numbers-long : length numbers′ ≡ length numbers
-  pub inside : (v : ℕ) → p ≤ nat marks v → nat marks v < top → (nat marks′ v ≡ mark) × (nat numbers′ v ≡ number)
-  pub before : (v : ℕ) → nat marks v < p → (nat marks′ v ≡ nat marks v) × (nat numbers′ v ≡ nat numbers v)
-  pub beyond : (v : ℕ) → top ≤ nat marks v → (nat marks′ v ≡ nat marks v) × (nat numbers′ v ≡ nat numbers v)

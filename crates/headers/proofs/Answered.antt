@@ -20,7 +20,7 @@ answer-require bytes code place true next = refl
 answer-require bytes code place false next = refl
 
 -- ── the verdict that an answer was given to ──
-stated : (bytes : List ℕ) (w : Verdict) {n m e : ℕ} → Accepted n m e ≡ answer bytes w → Stated bytes w n m e
+pub stated : (bytes : List ℕ) (w : Verdict) {n m e : ℕ} → Accepted n m e ≡ answer bytes w → Stated bytes w n m e
 stated bytes accepted q = record { good = refl; n-is = cc; m-is = cc; e-is = cc }
 stated bytes (refused number place) q = let z : _≡_ {A = ℕ} 0 1 = cc in absurd (omega arith)
 

@@ -17,9 +17,10 @@ use Rattle.tables.specs.Makers.{Makers}
 use Rattle.tables.specs.declared.Answer.{Answer}
 use Rattle.tables.specs.declared.Answer.the-variants.{Accepted, Refused}
 use Rattle.tables.proofs.Judged.{accepted-is}
-use Rattle.moves.specs.Moves.{OfMakers, pairChecks}
+use Rattle.allowed.specs.Allowed.{OfMakers}
+use Rattle.moves.specs.Moves.{pairChecks}
 use Rattle.copies.specs.Put.{PairsFit}
-use Rattle.permits.specs.Links.{Grouped}
+use Rattle.links.specs.Links.{Grouped}
 use Rattle.models.specs.Judged.{ModelJudged}
 use Rattle.models.proofs.Judging.{model-then}
 use Rattle.chains.proofs.Chains.{answer-stops, answer-next}

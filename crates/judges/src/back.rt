@@ -7,10 +7,10 @@ ghost use Rattle.paper.specs.Checks.{Sound, freshChecks};
 ghost use Rattle.paper.specs.Log.{logIn, logged, back};
 ghost use Rattle.tables.specs.Answers.{answerOf};
 ghost use Rattle.tables.specs.Makers.{Makers};
-ghost use Rattle.permits.specs.Links.{Grouped};
+ghost use Rattle.links.specs.Links.{Grouped};
 ghost use Rattle.judges.specs.Latest.{LatestFits};
 use integers::wide;
-use noting::latest_move;
+use latest::latest_move;
 use renewals::fresh_checks;
 use tables::Answer;
 

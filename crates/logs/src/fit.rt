@@ -5,7 +5,7 @@ ghost use Prim.Native.Nat.{_≤_, _<_};
 ghost use lib.ListN.{length};
 ghost use Rattle.paper.specs.Checks.{boundsIn};
 ghost use Rattle.paper.specs.Log.{logIn, logFits, moveGood, back, logGood};
-ghost use Rattle.moves.specs.Moves.{OfMakers};
+ghost use Rattle.allowed.specs.Allowed.{OfMakers};
 use integers::wide;
 use moves::move_checks;
 use tables::Answer;

@@ -16,8 +16,8 @@ use Rattle.paper.proofs.Sizes.{Sized, sized-facts}
 use Rattle.tables.specs.Answers.{answerOf}
 use Rattle.tables.specs.declared.Answer.{Answer}
 use Rattle.tables.specs.declared.Answer.the-variants.{Refused}
-use Rattle.moves.specs.Moves.{storedChecks}
-use Rattle.moves.proofs.Judged.{stored-then}
+use Rattle.allowed.specs.Allowed.{storedChecks}
+use Rattle.allowed.proofs.Judged.{stored-then}
 use Rattle.fits.proofs.Lengths.{index-long, bounds-long}
 use Rattle.models.specs.Judged.{ModelJudged}
 

@@ -6,7 +6,7 @@ use Rattle.paper.specs.Checks.{accepted, Sound}
 use Rattle.paper.specs.Calls.{Model, modelChecks}
 use Rattle.tables.specs.Answers.{answerOf}
 use Rattle.tables.specs.Makers.{Makers}
-use Rattle.permits.specs.Links.{Grouped}
+use Rattle.links.specs.Links.{Grouped}
 use Rattle.tables.specs.declared.Answer.{Answer}
 
 -- the answer is that of the model's checks, and if that is acceptance the row holds the makers, the tables are sound and the lent numbers are right

@@ -6,7 +6,7 @@ ghost use lib.ListN.{length};
 ghost use Rattle.paper.specs.Calls.{modelFits};
 ghost use Rattle.fits.specs.Lent.{toModel};
 ghost use Rattle.models.specs.Judged.{ModelJudged};
-use moves::stored_checks;
+use allowed::stored_checks;
 use permits::shared_right;
 use readers::readers_right;
 use sound::table_checks;

@@ -1,19 +1,9 @@
--- The chain of checks 19 and 7, and that of 10, 11, 12 and 17, from which a caller may go on with any check that comes next. Assumes nothing.
-use Prim.Native.Nat.{ℕ}
-use mathlib.Core.List.{List}
+-- The chain of checks 10, 11, 12 and 17, from which a caller may go on with any check that comes next. Assumes nothing.
 use mathlib.Core.Path.{_≡_}
-use lib.Dec.{eqb}
-use lib.IntN.{ℤ}
-use Rattle.paper.specs.Tables.{Tables, valuesIn}
-use Rattle.paper.specs.Checks.{Verdict, accepted, check, require, Bounds, storedAllowed, Move, movable, namedOnce, hasValue, pairWithin}
-use Rattle.paper.specs.Calls.{blanksAmong}
-use Rattle.paper.proofs.Verdicts.{chain-after, andThen, check-then, require-then}
-use Rattle.moves.specs.Moves.{storedChecks, pairChecks}
-
-pub stored-then : (blanks : ℕ) (bs : Bounds) (stored : List ℤ) (t : Tables) (next : Verdict)
-    → storedChecks blanks bs stored t next ≡ andThen (storedChecks blanks bs stored t accepted) next
-stored-then blanks bs stored t = let right = eqb blanks (blanksAmong (t .n) (valuesIn t stored)) in
-    chain-after (require 19 0 right) (check 7 (t .n) (storedAllowed t bs (valuesIn t stored))) (require-then 19 0 right) (check-then 7 (t .n) (storedAllowed t bs (valuesIn t stored)))
+use Rattle.paper.specs.Tables.{Tables}
+use Rattle.paper.specs.Checks.{Verdict, accepted, check, Bounds, Move, movable, namedOnce, hasValue, pairWithin}
+use Rattle.paper.proofs.Verdicts.{chain-after, andThen, check-then}
+use Rattle.moves.specs.Moves.{pairChecks}
 
 module _ (mv : Move) (bs : Bounds) where
   abbrev pub fromSeventeen : Verdict → Verdict

@@ -16,30 +16,21 @@ use Rattle.paper.specs.Formula.{blank}
 use Rattle.paper.specs.Net.{Values}
 use Rattle.paper.specs.Tables.{Tables, part, rowOf, isMade, inputsOf, formOf}
 use Rattle.paper.specs.Reason.{why, reasonOf, reasonAfter, reasonKept}
-use Rattle.paper.specs.Checks.{arity, Sound}
+use Rattle.paper.specs.Checks.{Sound}
 use Rattle.paper.proofs.Lists.{all-at, all-in, all-of}
 use Rattle.paper.proofs.Least.{allBelow-at}
 use Rattle.paper.proofs.Count.{size-zero}
 use Rattle.paper.proofs.Buffers.{over-same}
-use Rattle.paper.proofs.Scan.{part-length}
 use Rattle.paper.proofs.Sizes.{sized-facts}
 use Rattle.paper.proofs.Accept.{sound-row, made-row}
 use Rattle.paper.proofs.Reason.{why-same}
 use Rattle.paper.proofs.RouteReasons.{Shows}
 use Rattle.tables.specs.Makers.{makerOf, Makers}
 use Rattle.tables.proofs.Made.{makers-filled, maker-is, maker-zero}
-use Rattle.inputs.specs.Inputs.{partOf, Within}
 use Rattle.steps.specs.Changes.{valuesOf}
-use Rattle.notes.specs.Noted.{RowReads, AllRead, byMaker, currentBy, notedBy, shown, current, noted, notBlank, plainNow, plainNoted}
-
--- ── a row's part ──
-pub reads-row : {r : ℕ} {kinds firsts counts vars : List ℕ} {values : List ℤ} → RowReads r kinds firsts counts vars values
-    → let part = partOf (nat firsts r) (nat counts r) vars in (arity (nat kinds r) (length part) ≡ true) × Within part values
-reads-row {r} {kinds} {firsts} {counts} {vars} {values} p =
-    let part = partOf (nat firsts r) (nat counts r) vars in (
-      ap (arity (nat kinds r)) (part-length vars (nat firsts r) (nat counts r) (p .in-vars)) ∙ p .suits,
-      record { each = λ i h. ltb-true _ _ (all-at (λ u. ltb u (length values)) part (p .below) i 0 h) },
-    )
+use Rattle.reasoned.specs.Rows.{RowReads, AllRead, byMaker, currentBy, notedBy}
+use Rattle.plain.specs.Plain.{notBlank, plainNow, plainNoted}
+use Rattle.notes.specs.Noted.{shown, current, noted}
 
 -- ── by the row of makers ──
 module _ (t : Tables) (s : Sound t) (values : List ℤ) (room : t .n ≤ length values) where

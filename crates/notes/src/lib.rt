@@ -1,7 +1,4 @@
 // What the calls store and return of reasons, over the lent tables: of each variable that a call has evaluated, and of each that a trial asks.
-mod by;
-mod plain;
-
 ghost use Prim.Native.Nat.{_≤_};
 ghost use mathlib.Core.Bool.{true};
 ghost use mathlib.Core.Path.{_≡_};
@@ -12,12 +9,12 @@ ghost use Rattle.paper.specs.Tables.{lent};
 ghost use Rattle.paper.specs.Checks.{Sound};
 ghost use Rattle.steps.specs.Changes.{valuesOf};
 ghost use Rattle.notes.specs.Noted.{shown, current, noted};
-use crate::by::ask_by;
-use crate::by::note_by;
-use crate::plain::ask_plain;
-use crate::plain::none_blank;
-use crate::plain::note_plain;
 use blanks::blanks_among;
+use plain::ask_plain;
+use plain::none_blank;
+use plain::note_plain;
+use reasoned::ask_by;
+use reasoned::note_by;
 use tables::makers;
 
 // Stores the reason of every variable whose flag is 1 over the values, and 0 at search variables; every other keeps its reason. Rows are looked at only where a value is blank.

@@ -1,3 +1,1 @@
-pub mod Slid
-pub mod Laid
-pub mod Noted
+mod Noted

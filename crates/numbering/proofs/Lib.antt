@@ -1,3 +1,1 @@
 pub mod Opens
-pub mod Started
-pub mod Working

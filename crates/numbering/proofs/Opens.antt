@@ -16,7 +16,7 @@ use Rattle.paper.proofs.Circle.{ends-everywhere}
 use Rattle.paper.proofs.Open.{open-permitted, open-number}
 use Rattle.order.specs.Formed.{Formed}
 use Rattle.order.proofs.Bare.{bareOf, ends-bare, number-bare}
-use Rattle.permits.specs.Links.{Shared}
+use Rattle.links.specs.Links.{Shared}
 
 module _ (t : Tables) (F : Formed t) {r : ℕ} (least : r ≡ firstFail (ends (bareOf t)) (t .n)) (none : t .n ≤ r) where
   chains : (v : ℕ) → able (inputsOf t) (t .n) v ≡ true

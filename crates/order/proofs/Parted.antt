@@ -6,7 +6,7 @@ use mathlib.Core.Bool.{Bool, true, false, cond}
 use mathlib.Core.List.{List, [], _∷_, List·Memᴰ}
 use mathlib.Core.Path.{_≡_, refl, ap, ap₂, sym, _∙_, subst}
 use lib.Dec.{ltb}
-use lib.ListN.{length, take, drop}
+use lib.ListN.{length, getD, take, drop}
 use lib.Seq.{slice, take-nil, getD-append-add, getD-drop}
 use borrow.Author.Tests.{ltb-true, ltb-false, ne-eqb}
 use Rattle.paper.specs.Lists.{nat, below, over}
@@ -25,6 +25,14 @@ part-slice (x ∷ xs) (suc a) k = let z : suc a + k ≡ suc (a + k) = omega arit
 -- a maker is one more than its row
 of-row : (r : ℕ) (column : List ℕ) → ofMaker (suc r) column ≡ nat column r
 of-row r column = let z : suc r - 1 ≡ r = omega arith in rw (ne-eqb (suc r) 0 (λ e. omega arith), z)
+
+-- behind a filled front stands what stood there
+pub over-out : (f : ℕ → ℕ) (n : ℕ) (before : List ℕ) (v d : ℕ) → n ≤ v → getD (over n f before) v d ≡ getD before v d
+over-out f n before v d h =
+    let long = length-below f n in
+    let s : v ≡ length (below f n) + (v - n) = omega arith in
+    let z : n + (v - n) ≡ v = omega arith in
+    ap (λ i. getD (over n f before) i d) s ∙ getD-append-add (below f n) (drop n before) (v - n) d ∙ getD-drop n before (v - n) d ∙ ap (λ i. getD before i d) z
 
 -- the parts are the variables' inputs
 pub record Parts (t : Tables) (begins stops : List ℕ) : Type 0 where
@@ -78,13 +86,15 @@ module _ (t : Tables) (F : Formed t) where
       where
         go : (b : Bool) → ltb v (t .n) ≡ b → nat (over (t .n) (λ u. f (nat by u)) zeros) v ≡ f (makerOf (t .m) (t .makes) v)
         go true e = let l = ltb-true v (t .n) e in over-at (λ u. f (nat by u)) (t .n) zeros v 0 l ∙ ap f (M .at v l)
-        go false e =
-            let h = ltb-false v (t .n) e in
-            let long = length-below (λ u. f (nat by u)) (t .n) in
-            let s : v ≡ length (below (λ u. f (nat by u)) (t .n)) + (v - t .n) = omega arith in
-            ap (nat (over (t .n) (λ u. f (nat by u)) zeros)) s
-            ∙ getD-append-add (below (λ u. f (nat by u)) (t .n)) (drop (t .n) zeros) (v - t .n) 0
-            ∙ getD-drop (t .n) zeros (v - t .n) 0 ∙ C .at (t .n + (v - t .n)) ∙ sym (ap f (maker-out v h) ∙ z)
+        go false e = let h = ltb-false v (t .n) e in over-out (λ u. f (nat by u)) (t .n) zeros v 0 h ∙ C .at v ∙ sym (ap f (maker-out v h) ∙ z)
+
+    -- what no row makes has no input
+    pub search-none : (v : ℕ) → v < t .n → nat by v ≡ 0 → inputsOf t v ≡ []
+    search-none v l e = go (isMade t v) refl (sym (maker-is v) ∙ sym (M .at v l) ∙ e)
+      where
+        go : (b : Bool) → isMade t v ≡ b → cond b (suc (rowOf t v)) 0 ≡ 0 → cond b (part t (rowOf t v) (t .vars)) [] ≡ []
+        go true e q = absurd (lt-irrefl 0 (omega arith))
+        go false e q = refl
 
     pub parts-of : {b₀ s₀ b s : List ℕ} → Clean (t .n) b₀ → Clean (t .n) s₀ → b ≡ over (t .n) (λ u. ofMaker (nat by u) (t .firsts)) b₀
         → s ≡ over (t .n) (λ u. stopOf (t .firsts) (t .counts) (nat by u)) s₀ → Parts t b s

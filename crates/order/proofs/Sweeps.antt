@@ -3,24 +3,27 @@ use Prim.Native.Nat.{ℕ, zero, suc, _+_, _≤_, _<_}
 use native.Mathlib.Nat.{not-suc-le-zero, lt-irrefl}
 use native.Mathlib.Omega.{arith}
 use mathlib.Core.Bool.{Bool, true, false, cond}
-use mathlib.Core.List.{List, [], _∷_, map, List·Memᴰ}
+use mathlib.Core.List.{List, [], _∷_, map, List·Memᴰ, List·Memᴰ·not-nil}
 use mathlib.Core.Logic.{⊎-elim}
 use mathlib.Core.Path.{_≡_, refl, sym, _∙_, subst, fun-ext}
-use lib.Dec.{leb, ltb}
+use lib.Dec.{eqb, leb, ltb}
 use lib.ListN.{length, replicate, length-replicate, getD-replicate, List·getD-eq-default}
-use borrow.Author.Tests.{leb-true, leb-false, ltb-true, ltb-false}
-use Rattle.paper.specs.Lists.{all, greatest, nat, firstFail}
+use borrow.Author.Tests.{leb-true, leb-false, le-leb, ltb-true, ltb-false, eqb-true}
+use Rattle.paper.specs.Lists.{all, greatest, nat, over, size, firstFail}
 use Rattle.paper.specs.Net.{runs, able, Depends, direct, through, numbering, number}
 use Rattle.paper.specs.Tables.{Tables, part, rowOf, isMade, inputsOf, net, ends}
 use Rattle.paper.proofs.Lists.{clash, all-in}
+use Rattle.paper.proofs.Buffers.{over-length, over-at}
+use Rattle.paper.proofs.Count.{size-zero}
 use Rattle.paper.proofs.Least.{firstFail-before}
 use Rattle.paper.proofs.Scan.{firstFail-same, part-length}
 use Rattle.paper.proofs.Lawful.{lawful}
 use Rattle.paper.proofs.Numbers.{Numbers, number-right, numbers-unique}
 use Rattle.paper.proofs.Circle.{numbers-end, has-able}
+use Rattle.tables.specs.Makers.{Makers}
 use Rattle.order.specs.Formed.{Formed}
-use Rattle.order.specs.Numbering.{Clean, above, partAt, ended, numberIn, Visited, Swept, Found}
-use Rattle.order.proofs.Parted.{Parts}
+use Rattle.order.specs.Numbering.{Clean, above, partAt, searchState, ended, numberIn, Visited, Swept, Found}
+use Rattle.order.proofs.Parted.{Parts, over-out, search-none}
 
 -- a new row is clean
 pub clean-new : (n k : ℕ) → n ≤ k → Clean n (replicate k 0)
@@ -32,16 +35,6 @@ clean-new n k h = record { long = let e = length-replicate {A = ℕ} k 0 in omeg
 
 -- ── the loop over all variables ──
 module _ (n : ℕ) (dep : ℕ → List ℕ) where
-  pub swept-start : (state : List ℕ) → Clean n state → Swept n dep 0 state
-  swept-start state C = record {
-    right = record { long = C .long; number = λ u h. absurd (none u h); inputs = λ u h. absurd (none u h); small = λ u h. absurd (none u h) };
-    begun = λ u l. absurd (not-suc-le-zero l);
-    held = λ u e. let z = C .at u in absurd (lt-irrefl 0 (omega arith));
-  }
-    where
-      none : (u : ℕ) → 2 ≤ nat state u → ⊥
-      none u h = let z = C .at u in lt-irrefl 0 (omega arith)
-
   pub swept-step : (v r : ℕ) (state after : List ℕ) → Swept n dep v state → Visited n dep v state after r → Swept n dep (v + 1) after
   swept-step v r state after S W = record {
     right = W .right;
@@ -52,6 +45,45 @@ module _ (n : ℕ) (dep : ℕ → List ℕ) where
       go : (u : ℕ) → u < v + 1 → (b : Bool) → ltb u v ≡ b → 0 < nat after u
       go u l true e = let b = S .begun u (ltb-true u v e) in let k = W .kept u b in omega arith
       go u l false e = let x = ltb-false u v e in let s : v ≡ u = omega arith in subst (λ z. 0 < nat after z) s (rw (← (W .is)) (W .begun))
+
+-- ── before the loop: search variables have ended, and no other visit has begun ──
+module _ (t : Tables) (F : Formed t) (by : List ℕ) (M : Makers t by) {begins stops : List ℕ} (P : Parts t begins stops) (zeros : List ℕ) (C : Clean (t .n) zeros) where
+  abbrev begun : List ℕ
+  begun = over (t .n) (λ v. searchState (nat by v)) zeros
+
+  -- only a search variable has a state
+  some : (u : ℕ) → 0 < nat begun u → (u < t .n) × (nat by u ≡ 0)
+  some u h = go (ltb u (t .n)) refl
+    where
+      go : (b : Bool) → ltb u (t .n) ≡ b → (u < t .n) × (nat by u ≡ 0)
+      go true e = let l = ltb-true u (t .n) e in let at = over-at (λ v. searchState (nat by v)) (t .n) zeros u 0 l in (l, which (eqb (nat by u) 0) refl at)
+        where
+          which : (b : Bool) → eqb (nat by u) 0 ≡ b → nat begun u ≡ cond b 2 0 → nat by u ≡ 0
+          which true e at = eqb-true (nat by u) 0 e
+          which false e at = absurd (lt-irrefl 0 (omega arith))
+      go false e = absurd (lt-irrefl 0 (let q = over-out (λ v. searchState (nat by v)) (t .n) zeros u 0 (ltb-false u (t .n) e) in let z = C .at u in omega arith))
+
+  two : (u : ℕ) → 0 < nat begun u → nat begun u ≡ 2
+  two u h = let (l, e) = some u h in over-at (λ v. searchState (nat by v)) (t .n) zeros u 0 l ∙ rw e
+
+  none : (u : ℕ) → 0 < nat begun u → partAt begins stops (t .vars) u ≡ []
+  none u h = let (l, e) = some u h in P .inputs u ∙ search-none t F by M u l e
+
+  pub swept-start : Swept (t .n) (partAt begins stops (t .vars)) 0 begun
+  swept-start = record {
+    right = record {
+      long = let e = over-length (λ v. searchState (nat by v)) (t .n) zeros (C .long) in let h = C .long in omega arith;
+      number = λ u h. two u (omega arith) ∙ sym (rw (none u (omega arith)));
+      inputs = λ u h i m. absurd (List·Memᴰ·not-nil (subst (List·Memᴰ i) (none u (omega arith)) m));
+      small = λ u h. let e = two u (omega arith) in let k = counted u h (size (ended begun) (t .n)) refl in omega arith;
+    };
+    begun = λ u l. absurd (not-suc-le-zero l);
+    held = λ u e. let q = two u (omega arith) in absurd (lt-irrefl 0 (omega arith));
+  }
+    where
+      counted : (u : ℕ) → 2 ≤ nat begun u → (k : ℕ) → size (ended begun) (t .n) ≡ k → 0 < k
+      counted u h zero e = clash (le-leb 2 (nat begun u) h) (size-zero (ended begun) (t .n) e u (some u (omega arith) .0))
+      counted u h (suc k) e = omega arith
 
 -- ── the paper's sentence, where a made variable has inputs ──
 above-greatest : (f : ℕ → ℕ) (xs : List ℕ) → 1 ≤ length xs → suc (greatest (map f xs)) ≡ above f xs

@@ -67,6 +67,10 @@ ended state v = leb 2 (nat state v)
 abbrev pub numberIn : List ℕ → ℕ → ℕ
 numberIn state v = nat state v - 2
 
+-- a search variable, which has no maker, has ended with number 0
+abbrev pub searchState : ℕ → ℕ
+searchState maker = cond (eqb maker 0) 2 0
+
 -- dep gives the inputs
 module _ (n : ℕ) (dep : ℕ → List ℕ) where
   -- what has ended has its number, and so have its inputs

@@ -4,12 +4,14 @@ use integers::wide;
 use naturals::larger;
 ghost use mathlib.Core.Path.{_≡_};
 ghost use Prim.Native.Nat.{_≤_, _<_};
-ghost use Rattle.paper.specs.Lists.{firstFail};
+ghost use lib.ListN.{length};
+ghost use Rattle.paper.specs.Lists.{nat, over, firstFail};
 ghost use Rattle.tables.specs.Makers.{Makers};
 ghost use Rattle.order.specs.Formed.{bare, Formed};
-ghost use Rattle.order.specs.Numbering.{Clean, partAt, Parted, Right, Visited, Swept, ended, Found};
+ghost use Rattle.order.specs.Numbering.{Clean, partAt, Parted, Right, Visited, Swept, searchState, ended, Found};
 
-// The state of v after its visit: two more than its number, or 1 if it waits for itself or for one that does.
+// The state of v after its visit: two more than its number, or 1 if it waits for itself or for one that does. An input that has been visited costs a look and
+// no call.
 fn visit(
     v: usize,
     n: usize,
@@ -32,7 +34,11 @@ fn visit(
     let mut best = 1;
     let mut i = wide(begins[v]);
     while i < stop {
-        let found = visit(wide(vars[i]), n, begins, stops, vars, state);
+        let u = wide(vars[i]);
+        let mut found = wide(state[u]);
+        if found == 0 {
+            found = visit(u, n, begins, stops, vars, state);
+        }
         if found == 1 {
             return 1;
         }
@@ -43,7 +49,29 @@ fn visit(
     best + 1
 }
 
-// Visits every variable.
+// The state of a search variable, which has no input to wait for; of what a row makes, that of one not visited.
+fn search_state(maker: u16) -> u16
+    ensures { λ r. ⌜ r ≡ searchState maker ⌝ }
+{
+    if maker == 0 {
+        return 2;
+    }
+    0
+}
+
+// Ends the visit of every search variable.
+fn end_search(n: usize, by: &[u16], state: &mut [u16; 4096])
+    requires { ⌜ (n ≤ 4096) × (n ≤ length (now state)) × (n ≤ length (now by)) ⌝ }
+    ensures { λ _. ⌜ now (state .exit) ≡ over n (λ v. searchState (nat (now (by .entry)) v)) (now (state .entry)) ⌝ }
+{
+    let mut v = 0;
+    while v < n {
+        state[v] = search_state(by[v]);
+        v += 1;
+    }
+}
+
+// Visits every variable that is not visited yet.
 fn visit_all(
     n: usize,
     begins: &[u16; 4096],
@@ -52,7 +80,7 @@ fn visit_all(
     state: &mut [u16; 4096],
 )
     requires parted { ⌜ Parted n (now begins) (now stops) (now vars) ⌝ }
-    requires clean { ⌜ Clean n (now state) ⌝ }
+    requires swept { ⌜ Swept n (partAt (now begins) (now stops) (now vars)) 0 (now state) ⌝ }
     ensures { λ _. ⌜ Swept n (partAt (now (begins .entry)) (now (stops .entry)) (now (vars .entry))) n (now (state .exit)) ⌝ }
 {
     let mut v = 0;
@@ -97,6 +125,7 @@ pub fn find_numbers(
     let mut begins = [0u16; 4096];
     let mut stops = [0u16; 4096];
     set_parts(n, firsts, counts, by, &mut begins, &mut stops);
+    end_search(n, by, state);
     visit_all(n, &begins, &stops, vars, state);
     first_open(n, state)
 }

@@ -1,23 +1,15 @@
--- What the functions that choose, pack and number rows rely on, and what they leave. Assumes nothing.
+-- What the functions that pack and number rows rely on, and what they leave. Assumes nothing.
 use Prim.Native.Nat.{ℕ, _+_, _≤_, _<_}
-use mathlib.Core.Bool.{Bool, true, false, cond, not}
+use mathlib.Core.Bool.{Bool, true, false}
 use mathlib.Core.List.{List, map}
 use mathlib.Core.Path.{_≡_}
 use lib.ListN.{length, getD, take, drop}
-use Rattle.paper.specs.Lists.{nat, total, those}
+use Rattle.paper.specs.Lists.{nat, total}
 use Rattle.paper.specs.Tables.{Tables, ends}
 use Rattle.order.specs.Formed.{bare, Formed}
 use Rattle.order.specs.Numbering.{ended}
 use Rattle.kept.specs.Saved.{packed}
-
--- ── flags ──
--- the flag is the one wanted
-abbrev pub chosen : Bool → Bool → Bool
-chosen wanted flag = cond wanted flag (not flag)
-
--- those below n whose flag is
-abbrev pub flagged : Bool → List Bool → ℕ → List ℕ
-flagged wanted flags = those (λ i. chosen wanted (getD flags i false))
+use Rattle.flags.specs.Flags.{flagged}
 
 -- ── packing ──
 -- the part of an entry list that row r names

@@ -1,10 +1,7 @@
-// Rows that flags say: listed, copied one after another with their parts, and dropped if what they make can have no topological number.
-mod choose;
+// Rows that flags say: copied one after another with their parts, and dropped if what they make can have no topological number.
 mod copy;
 mod number;
 
-pub use choose::count_flagged;
-pub use choose::list_flagged;
 pub use copy::pack;
 pub use copy::pack_coefs;
 pub use copy::pack_shape;

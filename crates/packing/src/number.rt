@@ -8,10 +8,11 @@ ghost use Rattle.paper.specs.Tables.{ends};
 ghost use Rattle.tables.specs.Makers.{AllBelow};
 ghost use Rattle.order.specs.Formed.{bare, Formed};
 ghost use Rattle.order.specs.Numbering.{Clean, ended};
-ghost use Rattle.packing.specs.Packing.{flagged, shape, Packable, Known, Makes, Numberable};
-use crate::choose::list_flagged;
+ghost use Rattle.flags.specs.Flags.{flagged};
+ghost use Rattle.packing.specs.Packing.{shape, Packable, Known, Makes, Numberable};
 use crate::copy::pack_shape;
 use admissions::still;
+use flags::list_flagged;
 use order::find_numbers;
 use tables::makers;
 

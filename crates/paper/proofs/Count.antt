@@ -3,7 +3,7 @@
 use Prim.Native.Nat.{ℕ, zero, suc, _≤_, _<_}
 use native.Mathlib.Nat.{le-refl, not-suc-le-zero, lt-irrefl}
 use native.Mathlib.Omega.{arith}
-use mathlib.Core.Logic.{_≢_}
+use mathlib.Core.Logic.{_⊎_, inl, inr, _≢_}
 use mathlib.Core.Bool.{Bool, true, false, cond, _||_, true≢false, false≢true}
 use mathlib.Core.List.{List, [], _∷_, List·Memᴰ, List·Memᴰ·head, List·Memᴰ·tail}
 use mathlib.Core.Path.{_≡_, refl, ap, _∙_}
@@ -11,7 +11,7 @@ use lib.Dec.{eqb, ltb}
 use lib.ListN.{length}
 use borrow.Author.Tests.{eqb-true, ne-eqb, ltb-true, ltb-false}
 use Rattle.paper.specs.Lists.{any, size}
-use Rattle.paper.proofs.Lists.{clash, eqb-self}
+use Rattle.paper.proofs.Lists.{clash, same-or, eqb-self}
 
 pub size-le : (p : ℕ → Bool) (n : ℕ) → size p n ≤ n
 size-le p zero = le-refl zero
@@ -117,3 +117,19 @@ size-mono p q (suc n) h = go (p n) refl (q n) refl (size-mono p q n h)
     go true e false f ih = clash (h n e) f
     go false e true f ih = omega arith
     go false e false f ih = ih
+
+-- and one more only the other
+pub size-more : (p q : ℕ → Bool) (x n : ℕ) → x < n → p x ≡ false → q x ≡ true → ((v : ℕ) → p v ≡ true → q v ≡ true) → size p n < size q n
+size-more p q x zero l px qx h = absurd (not-suc-le-zero l)
+size-more p q x (suc n) l px qx h = go (p n) refl (q n) refl (same-or x n) (size-mono p q n h) (size-more p q x n)
+  where
+    go : (a : Bool) → p n ≡ a → (b : Bool) → q n ≡ b → (x ≡ n) ⊎ (x ≢ n) → size p n ≤ size q n
+        → (x < n → p x ≡ false → q x ≡ true → ((v : ℕ) → p v ≡ true → q v ≡ true) → size p n < size q n)
+        → cond a (suc (size p n)) (size p n) < cond b (suc (size q n)) (size q n)
+    go true e b f (inl s) m ih = clash (ap p s ∙ e) px
+    go false e true f (inl s) m ih = omega arith
+    go false e false f (inl s) m ih = clash qx (ap q s ∙ f)
+    go true e true f (inr s) m ih = let r = ih (omega arith) px qx h in omega arith
+    go true e false f (inr s) m ih = clash (h n e) f
+    go false e true f (inr s) m ih = omega arith
+    go false e false f (inr s) m ih = ih (omega arith) px qx h

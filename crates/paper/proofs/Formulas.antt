@@ -133,3 +133,8 @@ module _ (param : ℤ) (coefs : List ℤ) where
 
   pub last-law : (start end headway : ℤ) → let xs = start ∷ end ∷ headway ∷ [] in someBlank xs ≡ false → formula 9 param coefs xs ≡ last start end headway
   last-law start end headway e = full 9 (start ∷ end ∷ headway ∷ []) refl e
+
+-- LINEAR is exact: a partial sum may leave the range, here by 2 × 2,147,483,647, where the whole sum does not
+pub partial-sum-leaves : formula 1 (pos 0) (pos 2 ∷ negsuc 1 ∷ []) (pos 2147483647 ∷ pos 2147483647 ∷ []) ≡ pos 0
+unfolding formula
+partial-sum-leaves = refl

@@ -56,5 +56,4 @@ pub mod Reread
 pub mod RoundTrips
 pub mod Converted
 pub mod FileRuns
-pub mod Proved
 pub mod Demands

@@ -13,4 +13,3 @@ pub mod File
 pub mod Moves
 pub mod Demands
 pub mod ReasonRuns
-pub mod Runs

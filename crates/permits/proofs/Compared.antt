@@ -24,7 +24,7 @@ use Rattle.paper.proofs.Closes.{group-order-length}
 use Rattle.paper.proofs.Open.{open-permitted, open-number, open-order}
 use Rattle.order.specs.Formed.{Formed}
 use Rattle.order.proofs.Bare.{bareOf, numbered-bare}
-use Rattle.permits.specs.Links.{Shared}
+use Rattle.links.specs.Links.{Shared}
 
 module _ (t : Tables) (F : Formed t) (numbers ord : List ℕ) where
   -- ── no chain closes ──

@@ -16,9 +16,9 @@ use Rattle.tables.specs.Makers.{Makers}
 use Rattle.paper.specs.Chains.{isElement, indices}
 use Rattle.order.specs.Formed.{Formed}
 use Rattle.order.specs.Numbering.{Parted}
-use Rattle.permits.specs.Links.{byElement, Linked}
-use Rattle.permits.specs.Back.{Indexed}
-use Rattle.permits.proofs.Linked.{maker-le, element-is}
+use Rattle.links.specs.Links.{byElement, Linked}
+use Rattle.bars.specs.Back.{Indexed}
+use Rattle.links.proofs.Linked.{maker-le, element-is}
 
 module _ (t : Tables) (F : Formed t) where
   -- a made variable has inputs

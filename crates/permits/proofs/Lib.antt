@@ -1,12 +1,4 @@
-pub mod Kinded
-pub mod Linked
-pub mod Seeking
-pub mod Barring
 pub mod Rounds
 pub mod Index
 pub mod Permits
-pub mod Ordered
 pub mod Compared
-pub mod Candidates
-pub mod Closing
-pub mod Elements

@@ -18,9 +18,9 @@ use Rattle.paper.proofs.Groups.{group-unique}
 use Rattle.order.specs.Formed.{Formed}
 use Rattle.order.specs.Numbering.{partAt, Parted}
 use Rattle.groups.specs.Groups.{Found}
-use Rattle.permits.specs.Links.{byElement, linksOf, Linked, Shared}
-use Rattle.permits.specs.Back.{leadsBack, indexBack, Barred}
-use Rattle.permits.proofs.Linked.{links-below}
+use Rattle.links.specs.Links.{byElement, linksOf, Linked, Shared}
+use Rattle.bars.specs.Back.{leadsBack, indexBack, Barred}
+use Rattle.links.proofs.Linked.{links-below}
 use Rattle.permits.proofs.Rounds.{back-depends, round-marks}
 use Rattle.permits.proofs.Index.{linkless, index-in, indices-are}
 

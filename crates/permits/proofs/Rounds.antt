@@ -12,7 +12,7 @@ use Rattle.paper.specs.Chains.{depends, together, grouped}
 use Rattle.paper.proofs.Saturate.{both-ways}
 use Rattle.paper.proofs.Depends.{chain, same-sym, same-from, same-to, depends-yes, depends-is, together-yes, together-is, grouped-yes, grouped-is, grouped-self, grouped-sym}
 use Rattle.groups.specs.Groups.{Found}
-use Rattle.permits.specs.Back.{leadsBack}
+use Rattle.bars.specs.Back.{leadsBack}
 
 module _ (dep : ℕ → List ℕ) (n : ℕ) (below : (v i : ℕ) → List·Memᴰ i (dep v) → i < n) where
   -- ── v is on a closed chain exactly if one of its links leads back into its group ──

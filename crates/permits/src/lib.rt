@@ -1,14 +1,7 @@
-// Closed chains of tables: the least variable on one that is not permitted, the number that each group shares, and the rows by that number: found for build,
-// and checked for the other calls.
-mod back;
-mod barred;
-mod closes;
-mod links;
+// Closed chains of tables: the least variable on one that is not permitted, with the number that each group shares, found for build, and both checked with the
+// order for the other calls.
 mod permit;
 mod right;
-mod write;
 
-pub use closes::some_closes;
 pub use permit::find_shared;
 pub use right::shared_right;
-pub use write::write_shared_order;

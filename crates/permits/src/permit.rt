@@ -1,9 +1,9 @@
 // The least variable on a closed chain that is not permitted, and the numbers of the groups.
-use crate::back::first_back;
-use crate::barred::bar_groups;
-use crate::barred::first_barred;
-use crate::links::set_links;
+use bars::bar_groups;
+use bars::first_back;
+use bars::first_barred;
 use groups::find_groups;
+use links::set_links;
 use naturals::smaller;
 ghost use mathlib.Core.Bool.{not};
 ghost use mathlib.Core.Path.{_≡_};
@@ -14,7 +14,7 @@ ghost use Rattle.paper.specs.Chains.{depends, plain, roundIndex, permitted};
 ghost use Rattle.tables.specs.Makers.{Makers};
 ghost use Rattle.order.specs.Formed.{Formed};
 ghost use Rattle.order.specs.Numbering.{Clean};
-ghost use Rattle.permits.specs.Links.{kinded, Shared};
+ghost use Rattle.links.specs.Links.{kinded, Shared};
 
 // The least variable on a closed chain that passes through no ELEMENT, or n.
 fn first_plain(

@@ -1,7 +1,7 @@
 // Check 8 where chains may close: whether lent numbers and a lent order are what build gives.
 use crate::permit::find_shared;
-use crate::write::write_shared_order;
 use order::numbered_right;
+use ranks::write_shared_order;
 ghost use mathlib.Core.Path.{_≡_};
 ghost use Prim.Native.Nat.{_≤_};
 ghost use lib.Dec.{eqb};
@@ -10,7 +10,7 @@ ghost use Rattle.paper.specs.Lists.{nat, allBelow};
 ghost use Rattle.paper.specs.Chains.{groupsNumbered};
 ghost use Rattle.tables.specs.Makers.{Makers};
 ghost use Rattle.order.specs.Formed.{Formed};
-ghost use Rattle.permits.specs.Links.{kinded};
+ghost use Rattle.links.specs.Links.{kinded};
 
 // Whether a lent row holds what was found, below k.
 fn same_below(k: usize, row: &[u16], found: &[u16; 4096]) -> bool

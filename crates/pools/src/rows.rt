@@ -15,43 +15,70 @@ pub fn number_at(row: &[u16], at: usize) -> u16 {
 }
 
 // The number at a place of a plan, 0 past its end.
-fn planned(plan: &[u16], at: usize) -> usize
+pub fn planned(plan: &[u16], at: usize) -> usize
     ensures { λ r. ⌜ r < 65536 ⌝ }
 {
     integers::wide(number_at(plan, at))
 }
 
+// The part of a row that starts at a place and has so many numbers, or those that there are.
+pub fn part16(row: &[u16], start: usize, length: usize) -> &[u16] {
+    if row.len() <= start {
+        return &row[0..0];
+    }
+    let end = start + least(length, row.len() - start);
+    &row[start..end]
+}
+
+// The same of signed numbers of 16 bits.
+fn part_signed16(row: &[i16], start: usize, length: usize) -> &[i16] {
+    if row.len() <= start {
+        return &row[0..0];
+    }
+    let end = start + least(length, row.len() - start);
+    &row[start..end]
+}
+
+// The same of signed numbers of 32 bits.
+pub fn part_signed32(row: &[i32], start: usize, length: usize) -> &[i32] {
+    if row.len() <= start {
+        return &row[0..0];
+    }
+    let end = start + least(length, row.len() - start);
+    &row[start..end]
+}
+
 // The row whose two numbers stand at a place of the plan, as far as the pool goes.
 pub fn row16<'a>(pool: &'a [u16], plan: &[u16], at: usize) -> &'a [u16] {
-    let start = planned(plan, at);
-    let length = planned(plan, after(at, 1));
-    if pool.len() <= start {
-        return &pool[0..0];
-    }
-    let end = start + least(length, pool.len() - start);
-    &pool[start..end]
+    part16(pool, planned(plan, at), planned(plan, after(at, 1)))
 }
 
 // The same of signed numbers of 16 bits.
 pub fn row_signed16<'a>(pool: &'a [i16], plan: &[u16], at: usize) -> &'a [i16] {
-    let start = planned(plan, at);
-    let length = planned(plan, after(at, 1));
-    if pool.len() <= start {
-        return &pool[0..0];
-    }
-    let end = start + least(length, pool.len() - start);
-    &pool[start..end]
+    part_signed16(pool, planned(plan, at), planned(plan, after(at, 1)))
 }
 
 // The same of signed numbers of 32 bits.
 pub fn row_signed32<'a>(pool: &'a [i32], plan: &[u16], at: usize) -> &'a [i32] {
-    let start = planned(plan, at);
-    let length = planned(plan, after(at, 1));
-    if pool.len() <= start {
-        return &pool[0..0];
-    }
-    let end = start + least(length, pool.len() - start);
-    &pool[start..end]
+    part_signed32(pool, planned(plan, at), planned(plan, after(at, 1)))
+}
+
+// What is lent of a row to be filled: as many of its first numbers as the number at a place of the plan says, or those that there are.
+pub fn lent16<'a>(row: &'a mut [u16], plan: &[u16], at: usize) -> &'a mut [u16] {
+    let end = least(planned(plan, at), row.len());
+    &mut row[0..end]
+}
+
+// The same of signed numbers of 32 bits.
+pub fn lent_signed32<'a>(row: &'a mut [i32], plan: &[u16], at: usize) -> &'a mut [i32] {
+    let end = least(planned(plan, at), row.len());
+    &mut row[0..end]
+}
+
+// The same of flags.
+pub fn lent_flags<'a>(row: &'a mut [u8], plan: &[u16], at: usize) -> &'a mut [u8] {
+    let end = least(planned(plan, at), row.len());
+    &mut row[0..end]
 }
 
 // Puts a number at a place of a row, if the row has it.

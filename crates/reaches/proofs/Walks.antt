@@ -11,7 +11,7 @@ use lib.Seq.{getD-set-same, getD-set-other}
 use borrow.Author.Tests.{eqb-true, eqb-false, eq-eqb, ne-eqb, not-true}
 use Rattle.paper.specs.Lists.{nat, size}
 use Rattle.paper.proofs.Lists.{clash}
-use Rattle.groups.proofs.Reach.{size-more}
+use Rattle.paper.proofs.Count.{size-more}
 use Rattle.marks.specs.Reach.{Closed, Either, Reached}
 use Rattle.reaches.specs.Walk.{unmarked, Walked, Walking}
 

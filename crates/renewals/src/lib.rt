@@ -1,8 +1,5 @@
 // Checks 21 and 20, the last of trial, keep and taking back: in a model with a closed chain every stored value is the fresh one, and once the move is put in
 // every variable is determined.
-mod fresh;
-mod least;
-
 ghost use mathlib.Core.Path.{_≡_};
 ghost use Prim.Native.Nat.{_≤_};
 ghost use lib.ListN.{length};
@@ -12,10 +9,10 @@ ghost use Rattle.tables.specs.Answers.{answerOf};
 ghost use Rattle.tables.specs.Makers.{Makers};
 ghost use Rattle.moves.specs.Moves.{moveOf};
 ghost use Rattle.copies.specs.Put.{PairsFit};
-ghost use Rattle.permits.specs.Links.{Grouped};
-use fresh::first_stale;
-use fresh::first_undetermined;
-use permits::some_closes;
+ghost use Rattle.links.specs.Links.{Grouped};
+use afresh::first_stale;
+use afresh::first_stuck;
+use closed::some_closes;
 use tables::Answer;
 use tables::refused;
 
@@ -65,7 +62,7 @@ pub fn fresh_checks(
     if stale < n {
         return refused(21, stale);
     }
-    let waiting = first_undetermined(
+    let waiting = first_stuck(
         n,
         m,
         e,

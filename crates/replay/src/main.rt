@@ -6,119 +6,42 @@ mod change;
 mod model;
 mod print;
 
-use crate::model::highs;
-use crate::model::lows;
-use crate::model::params;
+use crate::calls::Left;
 use crate::model::plan;
 use crate::model::put_bounds;
 use crate::model::put_built;
-use crate::model::put_params;
 use crate::model::put_tables;
 use headers::Reading;
+use pools::calls::LOG_SIZES;
+use pools::calls::Sizes;
 use pools::calls::build_planned;
 use pools::fields::after;
 use pools::fields::least;
 use pools::fields::part;
 use pools::fields::word;
 use pools::given::read_argument;
+use pools::rows::copy_signed32;
+use pools::rows::copy16;
+use pools::rows::part16;
 use records::Done;
 use records::Session;
 use tables::Answer;
 
 // Makes the calls of a session one after another.
 fn make_calls(
-    begun: Session,
+    begun: Left,
+    model: Sizes,
     calls: &[u8],
-    n: usize,
-    m: usize,
-    e: usize,
     pool: &mut [u16],
     words: &mut [i32],
     coefs: &mut [i16],
-    stored: &mut [i32],
-    log_sizes: &mut [u16],
-    log_vars: &mut [u16],
-    log_values: &mut [i32],
 ) {
-    let mut session = begun;
+    let mut left = begun;
     let mut at = 0;
     for _ in 0..calls.len() / 48 {
-        session = calls::make(
-            session,
-            part(calls, at, 48),
-            n,
-            m,
-            e,
-            pool,
-            words,
-            coefs,
-            stored,
-            log_sizes,
-            log_vars,
-            log_values,
-        );
+        left = calls::make(left, model, part(calls, at, 48), pool, words, coefs);
         at = after(at, 48);
     }
-}
-
-// Makes the calls of a session with values for its log.
-fn with_log_values(
-    begun: Session,
-    calls: &[u8],
-    n: usize,
-    m: usize,
-    e: usize,
-    pool: &mut [u16],
-    words: &mut [i32],
-    coefs: &mut [i16],
-    stored: &mut [i32],
-    log_sizes: &mut [u16],
-    log_vars: &mut [u16],
-) {
-    let mut log_values = [0i32; 4096];
-    make_calls(
-        begun,
-        calls,
-        n,
-        m,
-        e,
-        pool,
-        words,
-        coefs,
-        stored,
-        log_sizes,
-        log_vars,
-        &mut log_values,
-    );
-}
-
-// Makes the calls of a session with variables for its log, whose sizes build emptied.
-fn with_log(
-    begun: Session,
-    calls: &[u8],
-    n: usize,
-    m: usize,
-    e: usize,
-    pool: &mut [u16],
-    words: &mut [i32],
-    coefs: &mut [i16],
-    stored: &mut [i32],
-    log_sizes: &mut [u16],
-) {
-    let mut log_vars = [0u16; 4096];
-    with_log_values(
-        begun,
-        calls,
-        n,
-        m,
-        e,
-        pool,
-        words,
-        coefs,
-        stored,
-        log_sizes,
-        &mut log_vars,
-    );
 }
 
 // The calls to make after a build: all of them if it is accepted, and else none.
@@ -132,9 +55,7 @@ fn calls_after(told: Answer, calls: &[u8]) -> &[u8] {
 // Builds a model that was read and prints what comes back; numbers, order and readers go into the pool. The record and the log's sizes before it
 // are not all 0, so that what build makes of them shows.
 fn build(
-    n: usize,
-    m: usize,
-    e: usize,
+    model: Sizes,
     pool: &mut [u16],
     words: &[i32],
     coefs: &[i16],
@@ -142,40 +63,54 @@ fn build(
     stored: &mut [i32],
     log_sizes: &mut [u16],
 ) -> Done {
-    let mut numbers = [0u16; 16];
-    let mut order = [0u16; 16];
-    let mut reader_starts = [0u16; 17];
-    let mut reader_places = [0u16; 64];
+    let mut made = [0u16; 28743];
     let done = build_planned(
         Session {
             kept: 7,
             evaluations: 9,
             blanks: 11,
         },
-        n,
-        m,
-        e,
-        &plan(),
+        model,
+        &plan(16),
         pool,
-        params(words),
         coefs,
-        lows(words),
-        highs(words),
+        words,
         starts,
-        &mut numbers,
-        &mut order,
+        0,
         stored,
-        &mut reader_starts,
-        &mut reader_places,
-        log_sizes,
+        &mut made,
     );
-    print::built(done, n, m, &numbers, &order, stored);
-    print::readers(done, n, e, &reader_starts, &reader_places);
-    put_built(pool, &numbers, &order, &reader_starts, &reader_places);
+    print::built(done, model, stored, &made);
+    put_built(pool, &made);
+    copy16(log_sizes, 0, part16(&made, LOG_SIZES, 65));
     done
 }
 
-// Reads a model file, and prints what comes back.
+// Builds a model that was read, and makes the calls if that is accepted.
+fn build_and_go_on(
+    model: Sizes,
+    calls: &[u8],
+    pool: &mut [u16],
+    words: &mut [i32],
+    coefs: &mut [i16],
+    starts: &[i32],
+) {
+    let mut stored = [0i32; 16];
+    let mut sizes = [0u16; 65];
+    let done = build(model, pool, words, coefs, starts, &mut stored, &mut sizes);
+    let answer = done.answer;
+    let session = done.session;
+    let left = Left {
+        session,
+        stored,
+        sizes,
+        vars: [0u16; 4096],
+        values: [0i32; 4096],
+    };
+    make_calls(left, model, calls_after(answer, calls), pool, words, coefs);
+}
+
+// Reads a model file into the pools, and prints what comes back.
 fn read(
     file: &[u8],
     pool: &mut [u16],
@@ -183,7 +118,7 @@ fn read(
     coefs: &mut [i16],
     starts: &mut [i32],
 ) -> Reading {
-    let mut row = [0i32; 16];
+    let mut params = [0i32; 16];
     let mut kinds = [0u16; 16];
     let mut makes = [0u16; 16];
     let mut firsts = [0u16; 16];
@@ -194,7 +129,7 @@ fn read(
         starts,
         &mut kinds,
         &mut makes,
-        &mut row,
+        &mut params,
         &mut firsts,
         &mut counts,
         &mut vars,
@@ -202,47 +137,30 @@ fn read(
     );
     print::reading(told);
     put_tables(pool, &kinds, &makes, &firsts, &counts, &vars);
-    put_params(words, &row);
+    copy_signed32(words, 0, &params);
     told
 }
 
 // Reads a model file, builds the model if that is accepted, and makes the calls if that is too.
 fn read_and_go_on(bounds: &[u8], file: &[u8], calls: &[u8]) {
-    let mut pool = [0u16; 241];
-    let mut words = [0i32; 48];
+    let mut pool = [0u16; 249];
+    let mut words = [0i32; 52];
     let mut coefs = [0i16; 64];
     let mut starts = [0i32; 16];
-    let mut stored = [0i32; 16];
-    let mut log_sizes = [7u16; 65];
     put_bounds(&mut words, bounds);
     let told = read(file, &mut pool, &mut words, &mut coefs, &mut starts);
     let Reading::Accepted { n, m, e } = told else {
         return;
     };
-    let done = build(
+    let model = Sizes {
         n,
         m,
         e,
-        &mut pool,
-        &words,
-        &coefs,
-        &starts,
-        &mut stored,
-        &mut log_sizes,
-    );
-    let answer = done.answer;
-    with_log(
-        done.session,
-        calls_after(answer, calls),
-        n,
-        m,
-        e,
-        &mut pool,
-        &mut words,
-        &mut coefs,
-        &mut stored,
-        &mut log_sizes,
-    );
+        pairs: 0,
+        asked: 0,
+        route: 0,
+    };
+    build_and_go_on(model, calls, &mut pool, &mut words, &mut coefs, &starts);
 }
 
 // Replays the session at a place, if there is one, and answers where the next one is.

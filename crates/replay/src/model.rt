@@ -1,13 +1,16 @@
 // The rows of a session's model that are unsigned numbers stand in one pool: kinds, made variables, firsts and counts (16 each), entry variables (64),
-// numbers and order (16 each), and of the index of readers the starts (17) and the places (64). Parameters, lowest and highest allowed numbers (16
-// each) stand in a pool of words.
+// numbers and order (16 each), and of the index of readers the starts (17) and the places (64). Behind them stand the pair variables and the asked
+// variables of a call (4 each). Parameters, lowest and highest allowed numbers (16 each) and the new values of a call (4) stand in a pool of words.
+use pools::calls::ORDER;
+use pools::calls::READER_PLACES;
+use pools::calls::READER_STARTS;
 use pools::rows::copy_signed32;
 use pools::rows::copy16;
 use pools::rows::fill_signed32;
-use pools::rows::row_signed32;
+use pools::rows::part16;
 
-// Where each of these rows stands in its pool; those of words come last.
-pub fn plan() -> [u16; 24] {
+// Where each of these rows stands in its pool, and how many numbers are lent of each row that a call fills: so many results, of a build numbers.
+pub fn plan(results: u16) -> [u16; 49] {
     [
         0,
         16,
@@ -27,28 +30,38 @@ pub fn plan() -> [u16; 24] {
         17,
         177,
         64,
+        241,
+        4,
+        245,
+        4,
+        0,
+        64,
         0,
         16,
+        48,
+        4,
         16,
         16,
         32,
         16,
+        16,
+        results,
+        16,
+        16,
+        17,
+        64,
+        0,
+        0,
+        0,
+        0,
+        0,
+        0,
+        0,
+        0,
+        65,
+        4096,
+        4096,
     ]
-}
-
-// The parameters.
-pub fn params(words: &[i32]) -> &[i32] {
-    row_signed32(words, &plan(), 18)
-}
-
-// The lowest allowed numbers.
-pub fn lows(words: &[i32]) -> &[i32] {
-    row_signed32(words, &plan(), 20)
-}
-
-// The highest allowed numbers.
-pub fn highs(words: &[i32]) -> &[i32] {
-    row_signed32(words, &plan(), 22)
 }
 
 // Where the row that a change names starts in the pool, or where the pool ends.
@@ -63,7 +76,7 @@ pub fn start(row: u32) -> usize {
         9 => 144,
         11 => 160,
         12 => 177,
-        _ => 241,
+        _ => 249,
     }
 }
 
@@ -73,7 +86,7 @@ pub fn start_word(row: u32) -> usize {
         3 => 0,
         16 => 16,
         17 => 32,
-        _ => 48,
+        _ => 52,
     }
 }
 
@@ -86,35 +99,24 @@ pub fn put_tables(
     counts: &[u16],
     vars: &[u16],
 ) {
-    copy16(pool, start(1), kinds);
-    copy16(pool, start(2), makes);
-    copy16(pool, start(4), firsts);
-    copy16(pool, start(5), counts);
-    copy16(pool, start(6), vars);
-}
-
-// Puts the parameters that were read into the pool of words.
-pub fn put_params(words: &mut [i32], row: &[i32]) {
-    copy_signed32(words, start_word(3), row);
+    copy16(pool, 0, kinds);
+    copy16(pool, 16, makes);
+    copy16(pool, 32, firsts);
+    copy16(pool, 48, counts);
+    copy16(pool, 64, vars);
 }
 
 // Puts the bounds that stand in bytes into the pool of words: 16 lowest numbers, and then 16 highest.
 pub fn put_bounds(words: &mut [i32], bytes: &[u8]) {
     let mut row = [0i32; 32];
     fill_signed32(&mut row, bytes);
-    copy_signed32(words, start_word(16), &row);
+    copy_signed32(words, 16, &row);
 }
 
-// Puts what build filled into the pool.
-pub fn put_built(
-    pool: &mut [u16],
-    numbers: &[u16],
-    order: &[u16],
-    reader_starts: &[u16],
-    reader_places: &[u16],
-) {
-    copy16(pool, start(8), numbers);
-    copy16(pool, start(9), order);
-    copy16(pool, start(11), reader_starts);
-    copy16(pool, start(12), reader_places);
+// Puts numbers, order and readers that build made into the pool.
+pub fn put_built(pool: &mut [u16], made: &[u16]) {
+    copy16(pool, 128, part16(made, 0, 16));
+    copy16(pool, 144, part16(made, ORDER, 16));
+    copy16(pool, 160, part16(made, READER_STARTS, 17));
+    copy16(pool, 177, part16(made, READER_PLACES, 64));
 }

@@ -1,6 +1,10 @@
 // The lines of a session: what a read, a build, a trial, a keep, a change and a taking back print. Behind the answer and the record stand the rows that an accepted
 // call leaves, a bar before each.
 use headers::Reading;
+use pools::calls::ORDER;
+use pools::calls::READER_PLACES;
+use pools::calls::READER_STARTS;
+use pools::calls::Sizes;
 use pools::fields::after;
 use pools::print::answer;
 use pools::print::flags;
@@ -11,8 +15,8 @@ use pools::print::text;
 use pools::print::three;
 use pools::print::values;
 use pools::rows::number_at;
-use pools::rows::row_signed32;
-use pools::rows::row16;
+use pools::rows::part_signed32;
+use pools::rows::part16;
 use records::Done;
 use tables::Answer;
 
@@ -73,20 +77,15 @@ fn left_flags(told: Answer, n: usize, row: &[u8]) {
     flags(b" |", n, row);
 }
 
-// Prints the line of a build as far as the stored values.
-pub fn built(done: Done, n: usize, m: usize, row: &[u16], order: &[u16], stored: &[i32]) {
+// Prints the line of a build: numbers, order, stored values, and the index of readers.
+pub fn built(done: Done, sizes: Sizes, stored: &[i32], made: &[u16]) {
     let told = done.answer;
     come_to(b"build", done);
-    left_numbers(told, n, row);
-    left_numbers(told, m, order);
-    left_values(told, n, stored);
-}
-
-// Prints the rest of the line of a build: the index of readers.
-pub fn readers(done: Done, n: usize, e: usize, starts: &[u16], places: &[u16]) {
-    let told = done.answer;
-    left_numbers(told, after(n, 1), starts);
-    left_numbers(told, e, places);
+    left_numbers(told, sizes.n, made);
+    left_numbers(told, sizes.m, part16(made, ORDER, 16));
+    left_values(told, sizes.n, stored);
+    left_numbers(told, after(sizes.n, 1), part16(made, READER_STARTS, 17));
+    left_numbers(told, sizes.e, part16(made, READER_PLACES, 64));
     text(b"\n");
 }
 
@@ -109,24 +108,25 @@ pub fn changed(call: &[u8], done: Done, n: usize, stored: &[i32], evaluated: &[u
 }
 
 // Where the pairs of the latest move of a log of so many moves start.
-fn latest(moves: u16) -> u16 {
+fn latest(moves: u16) -> usize {
     if moves == 0 {
         return 0;
     }
     if 64 < moves {
         return 0;
     }
-    64 * (moves - 1)
+    64 * (moves as usize - 1)
 }
 
 // Prints the rest of such a line: how many moves the log holds and how many pairs each has, and the pairs of the latest.
 pub fn log(done: Done, sizes: &[u16], vars: &[u16], row: &[i32]) {
     let told = done.answer;
     let moves = number_at(sizes, 0);
-    let part = [latest(moves), number_at(sizes, moves as usize)];
+    let start = latest(moves);
+    let pairs = number_at(sizes, moves as usize) as usize;
     left_numbers(told, after(moves as usize, 1), sizes);
-    left_numbers(told, 64, row16(vars, &part, 0));
-    left_values(told, 64, row_signed32(row, &part, 0));
+    left_numbers(told, 64, part16(vars, start, pairs));
+    left_values(told, 64, part_signed32(row, start, pairs));
     text(b"\n");
 }
 

@@ -34,7 +34,8 @@ use Rattle.paper.proofs.Reason.{at-most-5}
 use Rattle.paper.proofs.Ranges.{good, formula-good}
 use Rattle.text.specs.Lines.{refusal}
 use Rattle.text.proofs.Lengths.{lines-length, refusal-length}
-use Rattle.report.specs.Printed.{said, fresh, ofTables, ofRead, empty, printed}
+use Rattle.saying.specs.Said.{said}
+use Rattle.report.specs.Printed.{fresh, ofTables, ofRead, empty, printed}
 
 -- ── values ──
 good-near : (z : ℤ) → good z ≡ true → natAbs z ≤ 2147483648

@@ -16,30 +16,20 @@ use Rattle.paper.specs.File.{counted, read}
 use Rattle.files.specs.Answers.{hasRead}
 use Rattle.headers.specs.declared.Reading.{Reading}
 use Rattle.headers.specs.declared.Reading.the-variants as reading
-use Rattle.tables.specs.declared.Answer.{Answer}
-use Rattle.tables.specs.declared.Answer.the-variants.{Accepted, Refused}
 use Rattle.records.specs.declared.Done.{Done}
 use Rattle.records.specs.Left.{answerIn, leftByBuild}
 use Rattle.buffers.specs.Buffer.{Shows}
-use Rattle.text.specs.Lines.{lines, refusal}
-use Rattle.report.specs.Printed.{said, ofTables, ofRead, empty, printed, refusalIn, refusalOf}
+use Rattle.text.specs.Lines.{refusal}
+use Rattle.saying.specs.Said.{said}
+use Rattle.report.specs.Printed.{ofTables, ofRead, empty, printed, refusalOf}
 use Rattle.report.proofs.Bounds.{printed-length}
 
--- a buffer shows what is said of what build left
-abbrev Told : Bool → ℕ → Reasoned BuildLeft → List ℕ → List ℕ → ℕ → Type 0
-Told reasons n built before after count = let left = built .left in Shows (said reasons (left .answer) n (left .numbers) (left .stored) (built .reasons)) before after count
-
--- by the case of the call's answer
-module _ {before after : List ℕ} {count : ℕ} (reasons : Bool) (done : Done) (numbers order : List ℕ) (stored : List ℤ) (starts places sizes row : List ℕ) (n : ℕ) (built : Reasoned BuildLeft)
-    (e : withReasons (leftByBuild done numbers order stored starts places sizes) row ≡ built) where
-  told : (a : Answer) → done .answer ≡ a → Shows (said reasons (answerIn a) n numbers stored row) before after count → Told reasons n built before after count
-  told a q s = subst (λ x. Told reasons n x before after count) e (subst (λ x. Shows (said reasons (answerIn x) n numbers stored row) before after count) (sym q) s)
-
-  pub told-list : (evaluations : ℕ) → done .answer ≡ Accepted evaluations → Shows (lines reasons n numbers stored row) before after count → Told reasons n built before after count
-  told-list evaluations q s = told (Accepted evaluations) q s
-
-  pub told-refusal : (number place : ℕ) → done .answer ≡ Refused number place → Shows (refusalIn (answerIn (done .answer))) before after count → Told reasons n built before after count
-  told-refusal number place q s = told (Refused number place) q (subst (λ x. Shows (refusalIn (answerIn x)) before after count) q s)
+-- a buffer that shows what is said of the rows after the call shows what is said of what build left
+pub told : {before after : List ℕ} {count : ℕ} (reasons : Bool) (done : Done) (numbers order : List ℕ) (stored : List ℤ) (starts places sizes row : List ℕ) (n : ℕ) {built : Reasoned BuildLeft}
+    → withReasons (leftByBuild done numbers order stored starts places sizes) row ≡ built → Shows (said reasons (answerIn (done .answer)) n numbers stored row) before after count
+    → let left = built .left in Shows (said reasons (left .answer) n (left .numbers) (left .stored) (built .reasons)) before after count
+told {before} {after} {count} reasons done numbers order stored starts places sizes row n e s =
+    subst (λ x. let left = x .left in Shows (said reasons (left .answer) n (left .numbers) (left .stored) (x .reasons)) before after count) e s
 
 -- nothing is shown by no bytes
 pub shows-nothing : (l : List ℕ) → Shows [] l l 0
@@ -47,12 +37,6 @@ shows-nothing l = record { shown = sym (take-nil (length l)); rest = refl }
 
 -- the line of an answer, by its case
 module _ {before after : List ℕ} {count : ℕ} where
-  pub answer-line : {a : Answer} (number place : ℕ) → a ≡ Refused number place → Shows (refusal number place) before after count → Shows (refusalIn (answerIn a)) before after count
-  answer-line number place e s = subst (λ x. Shows (refusalIn (answerIn x)) before after count) (sym e) s
-
-  pub answer-none : {a : Answer} (evaluations : ℕ) → a ≡ Accepted evaluations → Shows [] before after count → Shows (refusalIn (answerIn a)) before after count
-  answer-none evaluations e s = subst (λ x. Shows (refusalIn (answerIn x)) before after count) (sym e) s
-
   pub reading-line : {a : Reading} (number place : ℕ) → a ≡ reading.Refused number place → Shows (refusal number place) before after count → Shows (refusalOf a) before after count
   reading-line number place e s = subst (λ x. Shows (refusalOf x) before after count) (sym e) s
 

@@ -7,17 +7,13 @@ use lib.IntN.{ℤ, pos}
 use lib.ListN.{length, replicate}
 use Rattle.paper.specs.Tables.{Tables, lent, indexIn}
 use Rattle.paper.specs.Checks.{Verdict, accepted, refused, boundsIn, lowest, highest}
-use Rattle.paper.specs.Calls.{Answer, Accepted, Refused, BuildLent}
+use Rattle.paper.specs.Calls.{BuildLent}
 use Rattle.paper.specs.Reasoned.{buildReasoned}
 use Rattle.paper.specs.File.{read}
 use Rattle.headers.specs.declared.Reading.{Reading}
 use Rattle.headers.specs.declared.Reading.the-variants as reading
-use Rattle.text.specs.Lines.{lines, refusal}
-
--- of build's answer: the refusal line, or the list of what build left
-abbrev pub said : Bool → Answer → ℕ → List ℕ → List ℤ → List ℕ → List ℕ
-said reasons (Accepted evaluations) n numbers stored row = lines reasons n numbers stored row
-said reasons (Refused number place) n numbers stored row = refusal number place
+use Rattle.text.specs.Lines.{refusal}
+use Rattle.saying.specs.Said.{said}
 
 -- what build is lent: the tables and start values that a file held, and rows of zeros to fill
 abbrev pub fresh : Tables → List ℤ → BuildLent
@@ -55,11 +51,7 @@ empty =
 unfoldable pub printed : Bool → List ℕ → List ℕ
 printed reasons file = cond (ltb 65536 (length file)) (refusal 1 0) (ofRead reasons (read file empty (replicate 4096 (pos 0))))
 
--- the refusal line of an answer, nothing if it is accepted: build's, and that of a call that reads
-abbrev pub refusalIn : Answer → List ℕ
-refusalIn (Accepted evaluations) = []
-refusalIn (Refused number place) = refusal number place
-
+-- the refusal line of an answer of a call that reads, nothing if it is accepted
 abbrev pub refusalOf : Reading → List ℕ
 refusalOf (reading.Accepted n m e) = []
 refusalOf (reading.Refused number place) = refusal number place

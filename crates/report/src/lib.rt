@@ -5,15 +5,14 @@ ghost use mathlib.Core.Path.{_≡_};
 ghost use lib.ListN.{length, drop};
 ghost use Rattle.io.specs.Counts.{Counts};
 ghost use Rattle.paper.specs.Tables.{lent};
-ghost use Rattle.records.specs.Left.{answerIn};
-ghost use Rattle.report.specs.Printed.{ofTables, printed, refusalIn, refusalOf};
+ghost use Rattle.report.specs.Printed.{ofTables, printed, refusalOf};
 ghost use Rattle.buffers.specs.Buffer.{Shows};
 use bounds::HIGHEST;
 use bounds::LOWEST;
 use headers::Reading;
 use records::Session;
+use saying::say_built;
 use storing::build_reasoned;
-use tables::Answer;
 
 // The refusal line of a file that is not read; one that is read has none.
 fn show_unread(told: Reading, out: &mut [u8]) -> usize
@@ -21,17 +20,6 @@ fn show_unread(told: Reading, out: &mut [u8]) -> usize
     ensures { λ r. ⌜ Shows (refusalOf told) (now (out .entry)) (now (out .exit)) r ⌝ }
 {
     let Reading::Refused { number, place } = told else {
-        return 0;
-    };
-    text::refusal(number, place, out)
-}
-
-// The refusal line of build's answer; an accepted one has none.
-fn show_refused(answer: Answer, out: &mut [u8]) -> usize
-    ensures { λ r. ⌜ Counts r (now (out .exit)) ⌝ }
-    ensures { λ r. ⌜ Shows (refusalIn (answerIn answer)) (now (out .entry)) (now (out .exit)) r ⌝ }
-{
-    let Answer::Refused { number, place } = answer else {
         return 0;
     };
     text::refusal(number, place, out)
@@ -142,8 +130,5 @@ fn list_built(
         &mut log_sizes,
     );
     let answer = done.answer;
-    let Answer::Accepted { .. } = answer else {
-        return show_refused(answer, out);
-    };
-    text::lines(reasons, n, &numbers, &stored, &row, out)
+    say_built(answer, reasons, n, &numbers, &stored, &row, out)
 }

@@ -21,14 +21,16 @@ use Rattle.tables.specs.Makers.{AllBelow}
 use Rattle.order.proofs.Bare.{formed-of, ends-bare}
 use Rattle.kept.specs.Keeping.{Gives}
 use Rattle.kept.specs.Saved.{packed, given, startGiven, keptRows, stands}
-use Rattle.packing.specs.Packing.{flagged, shape, Packable, Makes, Numberable}
+use Rattle.flags.specs.Flags.{flagged}
+use Rattle.packing.specs.Packing.{shape, Packable, Makes, Numberable}
 use Rattle.salvage.specs.Saving.{Judged, Packed}
 use Rattle.kept.specs.Scratch.{Laid, Kept}
 use Rattle.kept.proofs.Given.{variables, starts-long}
 use Rattle.kept.proofs.Kept.{keeps, kept-those, kept-whole, any-those, rows-kept}
 use Rattle.salvage.proofs.Outcome.{rows-most, entries-most, rows-stand}
 use Rattle.kept.proofs.Packed.{Rows, packed-sound, packed-entries, good-alone}
-use Rattle.packing.proofs.Packing.{those-most, those-below}
+use Rattle.flags.proofs.Stored.{those-most}
+use Rattle.packing.proofs.Packing.{those-below}
 
 -- ── no row of what the file gives is longer than the counts ask ──
 pub record Long (t : Tables) : Type 0 where

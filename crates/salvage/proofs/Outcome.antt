@@ -23,7 +23,7 @@ use Rattle.headers.specs.Answers.{answer}
 use Rattle.headers.specs.declared.Reading.{Reading}
 use Rattle.kept.specs.Saved.{given, startGiven, stands, startKept, savedTables, savedFile, savedList, droppedRows, resetValues}
 use Rattle.salvage.specs.Salvage.{salvageVerdict, salvage, lends, left}
-use Rattle.packing.specs.Packing.{flagged}
+use Rattle.flags.specs.Flags.{flagged}
 use Rattle.salvage.specs.Saving.{Ready}
 use Rattle.salvage.specs.declared.Salvaged.the-variants.{Accepted, Refused}
 use Rattle.kept.proofs.Kept.{keeps, kept-those, any-those, rows-kept}

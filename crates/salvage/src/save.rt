@@ -7,29 +7,19 @@ ghost use lib.ListN.{length, drop};
 ghost use Rattle.paper.specs.Tables.{lent};
 ghost use Rattle.salvage.specs.Salvage.{lends, left};
 ghost use Rattle.salvage.specs.Salvage as Salvage;
-ghost use Rattle.packing.specs.Packing.{flagged};
+ghost use Rattle.flags.specs.Flags.{flagged};
 ghost use Rattle.salvage.specs.Saving.{Judged, Packed, Ready};
 use crate::Salvaged;
 use crate::start::keep_starts;
 use files::write;
-use packing::count_flagged;
-use packing::list_flagged;
+use flags::count_flagged;
+use flags::list_flagged;
+use flags::list_unset;
 use packing::pack;
 use packing::pack_coefs;
 use packing::pack_shape;
 use packing::pack_signed;
 use tables::makers;
-
-// Lists the numbers below m whose flag in `row` is not set, and then those below n whose flag in `taken` is not.
-fn write_list(m: usize, row: &[bool], n: usize, taken: &[bool], list: &mut [u16])
-    requires there { ⌜ (m ≤ length (now row)) × (n ≤ length (now taken)) × (m ≤ 4096) × (n ≤ 4096) ⌝ }
-    requires room { ⌜ length (flagged false (now row) m ++ flagged false (now taken) n) ≤ length (now list) ⌝ }
-    ensures { λ _. ⌜ now (list .exit) ≡ (flagged false (now (row .entry)) m ++ flagged false (now (taken .entry)) n)
-        ++ drop (length (flagged false (now (row .entry)) m ++ flagged false (now (taken .entry)) n)) (now (list .entry)) ⌝ }
-{
-    let end = list_flagged(m, row, false, 0, list);
-    list_flagged(n, taken, false, end, list);
-}
 
 // Writes the file of these tables and start values, and the list, if there is room for both.
 fn write_saved(
@@ -67,7 +57,7 @@ fn write_saved(
             place: 0,
         };
     }
-    write_list(m, row, n, taken, list);
+    list_unset(m, row, n, taken, list);
     write(
         n,
         k,

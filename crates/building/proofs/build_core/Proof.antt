@@ -11,11 +11,10 @@ use Rattle.paper.proofs.Known.{build-known}
 use Rattle.tables.proofs.Judged.{accepted-is, refused-is}
 use Rattle.order.proofs.Sweeps.{clean-new}
 use Rattle.fits.specs.Lent.{noRecord, toBuild}
-use Rattle.permits.proofs.Kinded.{permitted-kinded}
+use Rattle.links.proofs.Kinded.{permitted-kinded}
 use Rattle.records.specs.Left.{answerIn, recordIn}
 use Rattle.builds.proofs.Judging.{any-session, fitting}
 use Rattle.accepts.proofs.Accepts.{filled-long, blanks-over}
-use borrow.Author.Needs.{needs}
 use Rattle.building.proofs.build_core.Statement.{statement}
 use Rattle.building.proofs.build_core.Tie as tie
 
@@ -38,28 +37,28 @@ judge-build-requires c κs =
     clean-new 4096 4096 (le-refl 4096)
 
 enum-told : tie.Need-enum-told
-enum-told c = search needs
+enum-told c = c .match .keys1
 
 enum-told-2 : tie.Need-enum-told-2
-enum-told-2 c = search needs
+enum-told-2 c = c .match .keys2
 
 same-length : tie.Need-same-length
-same-length c = search needs
+same-length c = refl
 
 same-length-2 : tie.Need-same-length-2
-same-length-2 c = search needs
+same-length-2 c = refl
 
 same-length-3 : tie.Need-same-length-3
-same-length-3 c = search needs
+same-length-3 c = refl
 
 same-length-4 : tie.Need-same-length-4
-same-length-4 c = search needs
+same-length-4 c = refl
 
 same-length-5 : tie.Need-same-length-5
-same-length-5 c = search needs
+same-length-5 c = refl
 
 same-length-6 : tie.Need-same-length-6
-same-length-6 c = search needs
+same-length-6 c = refl
 
 returns : tie.Need-returns
 returns c =
@@ -93,25 +92,25 @@ cast-evaluations c = let z = few (c .before .before .before .before .before .bef
 blanks-among-requires : tie.Need-blanks-among-requires
 blanks-among-requires c κs =
     let e = c .before .before .before .before .before .before .before .before .before .before .before .before .before .before .before .before .before .before .before .before in let l = lent (start e) in let fit = fitting l (build-known l (passed e) .fits) in
-    (filled-long _ _ _ _ (c .before .before .before .before .before .before .before .before .before .before .before .before .fill-model .ensures .1 .1 .0) (fit .stored), fit .held .n-most)
+    (filled-long (l .tables .n) (worth (l .tables) (startValues l)) (l .stored) _ (c .before .before .before .before .before .before .before .before .before .before .before .before .fill-model .ensures .1 .1 .0) (fit .stored), fit .held .n-most)
 
 same-length-7 : tie.Need-same-length-7
-same-length-7 c = search needs
+same-length-7 c = c .before .before .before .before .before .before .before .before .before .before .before .before .numbers .given
 
 same-length-8 : tie.Need-same-length-8
-same-length-8 c = search needs
+same-length-8 c = c .before .before .before .before .before .before .before .before .before .before .order .given
 
 same-length-9 : tie.Need-same-length-9
-same-length-9 c = search needs
+same-length-9 c = c .before .before .before .before .before .before .before .before .stored .given
 
 same-length-10 : tie.Need-same-length-10
-same-length-10 c = search needs
+same-length-10 c = c .before .before .before .before .before .before .before .reader-starts .given
 
 same-length-11 : tie.Need-same-length-11
-same-length-11 c = search needs
+same-length-11 c = c .before .before .before .before .before .reader-places .given
 
 same-length-12 : tie.Need-same-length-12
-same-length-12 c = search needs
+same-length-12 c = c .before .before .before .log-sizes .given
 
 returns-2 : tie.Need-returns-2
 returns-2 c =

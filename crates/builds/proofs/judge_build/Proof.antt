@@ -15,7 +15,7 @@ use Rattle.tables.proofs.Judged.{accepted-is, refused-is}
 use Rattle.paper.proofs.Sizes.{sized-of}
 use Rattle.paper.proofs.Accept.{tables-passed}
 use Rattle.order.proofs.Bare.{formed-of}
-use Rattle.permits.proofs.Kinded.{kindedOf, formed-kinded, makers-kinded, permitted-kinded}
+use Rattle.links.proofs.Kinded.{kindedOf, formed-kinded, makers-kinded, permitted-kinded}
 use Rattle.fits.specs.Lent.{noRecord, toBuild}
 use Rattle.builds.proofs.Judging.{grouped-past, judged-refused, fitting, stops-1, stops-tables, stops-6, stops-7, stops-20, passes}
 use Rattle.builds.proofs.judge_build.Statement.{statement}

@@ -10,7 +10,6 @@ use Rattle.tables.proofs.Judged.{accepted-is, refused-is}
 use Rattle.fits.specs.Lent.{toModel, toKeep}
 use Rattle.records.specs.Left.{recordIn, answerIn}
 use Rattle.accepts.proofs.Accepts.{keep-by-kept, keeping-of, named-of, filled-long, keep-met}
-use borrow.Author.Needs.{needs}
 use Rattle.keeping.proofs.keep_core.Statement.{statement}
 use Rattle.keeping.proofs.keep_core.Tie as tie
 
@@ -33,28 +32,28 @@ passed : (c : tie.After-enum-told) → keepVerdict (session (start c)) (log (sta
 passed c = let s = start c in let said = c .enum-told .given in keep-by-kept (session s) (log s) (model s) (keeping s) ∙ accepted-is 0 (said .0 .0) _ (sym (c .before .before .judge-keep .ensures) ∙ said .1)
 
 judge-keep-requires : tie.Need-judge-keep-requires
-judge-keep-requires c κs = search needs
+judge-keep-requires c κs = tt
 
 enum-told : tie.Need-enum-told
-enum-told c = search needs
+enum-told c = c .match .keys1
 
 enum-told-2 : tie.Need-enum-told-2
-enum-told-2 c = search needs
+enum-told-2 c = c .match .keys2
 
 same-length : tie.Need-same-length
-same-length c = search needs
+same-length c = refl
 
 same-length-2 : tie.Need-same-length-2
-same-length-2 c = search needs
+same-length-2 c = refl
 
 same-length-3 : tie.Need-same-length-3
-same-length-3 c = search needs
+same-length-3 c = refl
 
 same-length-4 : tie.Need-same-length-4
-same-length-4 c = search needs
+same-length-4 c = refl
 
 same-length-5 : tie.Need-same-length-5
-same-length-5 c = search needs
+same-length-5 c = refl
 
 returns : tie.Need-returns
 returns c =
@@ -78,22 +77,22 @@ blanks-among-requires c κs =
     (filled-long _ _ _ _ (c .before .before .before .before .fill-keep .ensures .stored-is) (k .stored-long), sized-facts (model s .tables) (k .sound .sized) .n-most)
 
 kept-once-more-requires : tie.Need-kept-once-more-requires
-kept-once-more-requires c κs = search needs
+kept-once-more-requires c κs = tt
 
 same-length-6 : tie.Need-same-length-6
-same-length-6 c = search needs
+same-length-6 c = c .before .before .before .before .before .stored .given
 
 same-length-7 : tie.Need-same-length-7
-same-length-7 c = search needs
+same-length-7 c = c .before .before .before .before .flags .given
 
 same-length-8 : tie.Need-same-length-8
-same-length-8 c = search needs
+same-length-8 c = c .before .before .before .before .before .before .before .before .before .before .before .before .before .log-sizes .given
 
 same-length-9 : tie.Need-same-length-9
-same-length-9 c = search needs
+same-length-9 c = c .before .before .before .before .before .before .before .before .before .before .before .log-vars .given
 
 same-length-10 : tie.Need-same-length-10
-same-length-10 c = search needs
+same-length-10 c = c .before .before .before .before .before .before .before .before .before .log-values .given
 
 returns-2 : tie.Need-returns-2
 returns-2 c =

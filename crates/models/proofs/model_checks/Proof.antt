@@ -12,7 +12,7 @@ use Rattle.tables.proofs.Judged.{accepted-is, refused-is}
 use Rattle.paper.proofs.Sizes.{sized-of}
 use Rattle.paper.proofs.Accept.{tables-passed}
 use Rattle.order.proofs.Bare.{formed-of}
-use Rattle.permits.proofs.Kinded.{formed-kinded, makers-kinded, eight-kinded}
+use Rattle.links.proofs.Kinded.{formed-kinded, makers-kinded, eight-kinded}
 use Rattle.paper.proofs.Closes.{groups-permitted, groups-numbers}
 use Rattle.fits.specs.Lent.{toModel}
 use Rattle.readers.proofs.Known.{entries-laid}

@@ -11,7 +11,7 @@ use Rattle.paper.proofs.Sizes.{sized-facts}
 use Rattle.tables.specs.Answers.{answerOf}
 use Rattle.moves.specs.Moves.{moveOf}
 use Rattle.order.proofs.Bare.{formed-of}
-use Rattle.permits.proofs.Kinded.{formed-kinded, grouped-kinded, closes-kinded}
+use Rattle.links.proofs.Kinded.{formed-kinded, grouped-kinded, closes-kinded}
 use Rattle.renewals.proofs.Renewed.{fresh-open, fresh-stale, fresh-waiting, fresh-passed}
 use Rattle.renewals.proofs.fresh_checks.Statement.{statement}
 use Rattle.renewals.proofs.fresh_checks.Tie as tie
@@ -48,8 +48,8 @@ returns-2 c =
     let s = c .before .before .before .before .before .before .before .before .before .before .before .before .before in
     c .refused .ensures ∙ sym (ap (answerOf 0) (fresh-stale (tables s) (s .args .stored .now) (change s) (some (c .before .before .before)) (c .before .before .first-stale .ensures) (c .before .if2 .taken)))
 
-first-undetermined-requires : tie.Need-first-undetermined-requires
-first-undetermined-requires c κs = let s = c .before .before .before .before .before .before .before .before .before .before .before .before in (s .pre .0, (s .pre .1 .0, s .pre .1 .1 .1))
+first-stuck-requires : tie.Need-first-stuck-requires
+first-stuck-requires c κs = let s = c .before .before .before .before .before .before .before .before .before .before .before .before in (s .pre .0, (s .pre .1 .0, s .pre .1 .1 .1))
 
 refused-requires-2 : tie.Need-refused-requires-2
 refused-requires-2 c κs = let s = c .before .before .before .before .before .before .before .before .before .before .before .before .before .before in omega (arith, sized-facts (tables s) (s .pre .0 .sized) .n-most)
@@ -58,12 +58,12 @@ returns-3 : tie.Need-returns-3
 returns-3 c =
     let s = c .before .before .before .before .before .before .before .before .before .before .before .before .before .before .before in
     c .refused2 .ensures
-    ∙ sym (ap (answerOf 0) (fresh-waiting (tables s) (s .args .stored .now) (change s) (some (c .before .before .before .before .before)) (c .before .before .before .before .first-stale .ensures) (c .before .before .before .if2 .left) (c .before .before .first-undetermined .ensures) (c .before .if3 .taken)))
+    ∙ sym (ap (answerOf 0) (fresh-waiting (tables s) (s .args .stored .now) (change s) (some (c .before .before .before .before .before)) (c .before .before .before .before .first-stale .ensures) (c .before .before .before .if2 .left) (c .before .before .first-stuck .ensures) (c .before .if3 .taken)))
 
 returns-4 : tie.Need-returns-4
 returns-4 c =
     let s = c .before .before .before .before .before .before .before .before .before .before .before .before .before .before in
-    sym (ap (answerOf 0) (fresh-passed (tables s) (s .args .stored .now) (change s) (some (c .before .before .before .before)) (c .before .before .before .first-stale .ensures) (c .before .before .if2 .left) (c .before .first-undetermined .ensures) (c .if3 .left)))
+    sym (ap (answerOf 0) (fresh-passed (tables s) (s .args .stored .now) (change s) (some (c .before .before .before .before)) (c .before .before .before .first-stale .ensures) (c .before .before .if2 .left) (c .before .first-stuck .ensures) (c .if3 .left)))
 
 pub fresh-checks-spec : {M : Type 1} → statement M
 fresh-checks-spec =
@@ -74,7 +74,7 @@ fresh-checks-spec =
     first-stale-requires
     refused-requires
     returns-2
-    first-undetermined-requires
+    first-stuck-requires
     refused-requires-2
     returns-3
     returns-4)

@@ -7,12 +7,11 @@ use Rattle.replay.proofs.make_calls.Statement.{statement}
 use Rattle.replay.proofs.make_calls.Tie as tie
 
 abbrev Inv-loop : tie.InvT-loop
-Inv-loop calls n m e pool₀ params₀ coefs₀ stored₀ sizes₀ vars₀ values₀ session₀ at₀ counter₀ end pool params coefs stored sizes vars values session at counter =
-    (end < 2 ^ 64) × (length pool ≡ length pool₀) × (length params ≡ length params₀) × (length coefs ≡ length coefs₀) × (length stored ≡ length stored₀)
-    × (length sizes ≡ length sizes₀) × (length vars ≡ length vars₀) × (length values ≡ length values₀)
+Inv-loop model calls pool₀ words₀ coefs₀ left₀ at₀ counter₀ end pool words coefs left at counter =
+    (end < 2 ^ 64) × (length pool ≡ length pool₀) × (length words ≡ length words₀) × (length coefs ≡ length coefs₀)
 
 abbrev μ-loop : tie.MeasureT-loop
-μ-loop calls n m e pool₀ params₀ coefs₀ stored₀ sizes₀ vars₀ values₀ session₀ at₀ counter₀ end pool params coefs stored sizes vars values session at counter = end - counter
+μ-loop model calls pool₀ words₀ coefs₀ left₀ at₀ counter₀ end pool words coefs left at counter = end - counter
 
 loop-holds : tie.Need-loop-holds Inv-loop μ-loop
 loop-holds c = search needs
@@ -44,18 +43,6 @@ same-length-2 c = search needs
 same-length-3 : tie.Need-same-length-3 Inv-loop μ-loop
 same-length-3 c = search needs
 
-same-length-4 : tie.Need-same-length-4 Inv-loop μ-loop
-same-length-4 c = search needs
-
-same-length-5 : tie.Need-same-length-5 Inv-loop μ-loop
-same-length-5 c = search needs
-
-same-length-6 : tie.Need-same-length-6 Inv-loop μ-loop
-same-length-6 c = search needs
-
-same-length-7 : tie.Need-same-length-7 Inv-loop μ-loop
-same-length-7 c = search needs
-
 returns : tie.Need-returns Inv-loop μ-loop
 returns c = search needs
 
@@ -75,8 +62,4 @@ make-calls-spec =
     same-length
     same-length-2
     same-length-3
-    same-length-4
-    same-length-5
-    same-length-6
-    same-length-7
     returns)

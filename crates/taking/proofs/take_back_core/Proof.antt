@@ -1,5 +1,6 @@
 -- A refusal has written nothing; an acceptance is met field by field by what `fill_keep` with the latest move of the log and then `drop_move` leave. Assumes nothing.
 use Prim.Native.Nat.{ℕ}
+use native.Mathlib.Nat.{le-refl}
 use native.Mathlib.Omega.{arith}
 use mathlib.Core.List.{List}
 use mathlib.Core.Path.{_≡_, refl, sym, ap, _∙_}
@@ -13,7 +14,6 @@ use Rattle.tables.proofs.Judged.{accepted-is, refused-is}
 use Rattle.fits.specs.Lent.{toModel}
 use Rattle.records.specs.Left.{recordIn, answerIn}
 use Rattle.accepts.proofs.Accepts.{take-by-kept, Latest, latest-at, latest-is, taking-of, filled-long, take-met}
-use borrow.Author.Needs.{needs}
 use Rattle.taking.proofs.take_back_core.Statement.{statement}
 use Rattle.taking.proofs.take_back_core.Tie as tie
 
@@ -40,22 +40,22 @@ found : (c : tie.After-latest-move) → Latest (log (start (c .before .before)))
 found c = let e = c .before .before in let s = start e in latest-at (session s) (log s) (model s) (flags s) (passed e) (c .latest-move .ensures)
 
 judge-take-back-requires : tie.Need-judge-take-back-requires
-judge-take-back-requires c κs = search needs
+judge-take-back-requires c κs = tt
 
 enum-told : tie.Need-enum-told
-enum-told c = search needs
+enum-told c = c .match .keys1
 
 enum-told-2 : tie.Need-enum-told-2
-enum-told-2 c = search needs
+enum-told-2 c = c .match .keys2
 
 same-length : tie.Need-same-length
-same-length c = search needs
+same-length c = refl
 
 same-length-2 : tie.Need-same-length-2
-same-length-2 c = search needs
+same-length-2 c = refl
 
 same-length-3 : tie.Need-same-length-3
-same-length-3 c = search needs
+same-length-3 c = refl
 
 returns : tie.Need-returns
 returns c =
@@ -77,7 +77,7 @@ slice-read-wide : tie.Need-slice-read-wide
 slice-read-wide c = found (c .before .before) .in-sizes
 
 wide-requires : tie.Need-wide-requires
-wide-requires c κs = search needs
+wide-requires c κs = tt
 
 mul-fill-keep : tie.Need-mul-fill-keep
 mul-fill-keep c = let k = found (c .before .before .before) .few in omega arith
@@ -92,7 +92,7 @@ part-fill-keep-start : tie.Need-part-fill-keep-start
 part-fill-keep-start c = found (c .before .before .before) .in-vars
 
 part-fill-keep-end : tie.Need-part-fill-keep-end
-part-fill-keep-end c = search needs
+part-fill-keep-end c = le-refl _
 
 mul-fill-keep-3 : tie.Need-mul-fill-keep-3
 mul-fill-keep-3 c = let k = found (c .before .before .before .before) .few in omega arith
@@ -107,7 +107,7 @@ part-fill-keep-start-2 : tie.Need-part-fill-keep-start-2
 part-fill-keep-start-2 c = found (c .before .before .before .before) .in-values
 
 part-fill-keep-end-2 : tie.Need-part-fill-keep-end-2
-part-fill-keep-end-2 c = search needs
+part-fill-keep-end-2 c = le-refl _
 
 fill-keep-requires : tie.Need-fill-keep-requires
 fill-keep-requires c κs =
@@ -123,16 +123,16 @@ blanks-among-requires c κs =
     (filled-long _ _ _ _ (c .before .before .before .before .before .before .before .before .fill-keep .ensures .stored-is) (k .stored-long), sized-facts (model s .tables) (k .sound .sized) .n-most)
 
 kept-once-less-requires : tie.Need-kept-once-less-requires
-kept-once-less-requires c κs = search needs
+kept-once-less-requires c κs = tt
 
 same-length-4 : tie.Need-same-length-4
-same-length-4 c = search needs
+same-length-4 c = c .before .before .before .before .before .before .before .before .before .stored .given
 
 same-length-5 : tie.Need-same-length-5
-same-length-5 c = search needs
+same-length-5 c = c .before .before .before .before .before .before .before .before .flags .given
 
 same-length-6 : tie.Need-same-length-6
-same-length-6 c = search needs
+same-length-6 c = c .before .before .before .before .log-sizes .given
 
 returns-2 : tie.Need-returns-2
 returns-2 c =

@@ -1,12 +1,11 @@
 -- Without room nothing is written; with it the core's equation holds of all but the reasons, which are read over the row and flags that an accepted core left. Assumes nothing.
-use Prim.Native.Nat.{_-_}
+use Prim.Native.Nat.{_-_, _<_, zero-le}
 use mathlib.Core.Bool.{true, _&&_}
 use mathlib.Core.Path.{_≡_, sym, ap, _∙_}
 use lib.Dec.{leb}
 use lib.ListN.{length, take}
 use lib.Seq.{length-take-le}
 use native.Mathlib.Omega.{arith}
-use borrow.Author.Needs.{needs}
 use borrow.Author.Tests.{leb-true, not-true, not-false}
 use Rattle.paper.specs.Net.{moved}
 use Rattle.paper.specs.Checks.{accepted, movePairs}
@@ -55,8 +54,11 @@ flags : (c : tie.After-enum-told) → let s = start (core c) in
     core c .trial-core .last .1 .1 .1 .1 .1 .1 .1 .1 .1 .1 .1 .1 .1 .1 .1 .1 .1 .1 .1 .1 .1 .1 .1 .1 .1 .1 .0 ≡ flagRow (model s .tables) (storedValues (model s)) (routeOf (s .args .route)) (movePairs (asking s .move)) (askedList (asking s)) (s .args .flags .now)
 flags c = let b = core c in let s = start b in ap (λ (x : TrialLeft). x .flags) (b .trial-core .ensures ∙ trial-judged (session s) (model s) (asking s) .is accepted (passed c))
 
+place-zero : 0 < 65536
+place-zero = omega arith
+
 refused-requires : tie.Need-refused-requires
-refused-requires c κs = search needs
+refused-requires c κs = place-zero
 
 returns : tie.Need-returns
 returns c = let s = c .before .before .before .before .before .before .before .before .before .before .before .before .before .before .before .before in
@@ -64,32 +66,32 @@ returns c = let s = c .before .before .before .before .before .before .before .b
     ∙ sym (trial-roomy (session s) (model s) (s .args .reasons .now) (asking s) (s .args .why .now) .no-room (not-true _ (c .before .if1 .taken)))
 
 trial-core-requires : tie.Need-trial-core-requires
-trial-core-requires c κs = search needs
+trial-core-requires c κs = tt
 
 enum-told : tie.Need-enum-told
-enum-told c = search needs
+enum-told c = c .match .keys1
 
 enum-told-2 : tie.Need-enum-told-2
-enum-told-2 c = search needs
+enum-told-2 c = c .match .keys2
 
 same-length : tie.Need-same-length
-same-length c = search needs
+same-length c = c .before .before .before .before .before .results .given
 
 same-length-2 : tie.Need-same-length-2
-same-length-2 c = search needs
+same-length-2 c = c .before .before .before .before .trial .given
 
 same-length-3 : tie.Need-same-length-3
-same-length-3 c = search needs
+same-length-3 c = c .before .before .before .flags .given
 
 returns-2 : tie.Need-returns-2
 returns-2 c = let b = c .before .before .before .before .before .before in let s = start b in
     met-refused (trial-roomy (session s) (model s) (s .args .reasons .now) (asking s) (s .args .why .now)) (room b) (b .trial-core .ensures) (ap answerIn (c .enum-told2 .given .1))
 
 sub-asked-reasons : tie.Need-sub-asked-reasons
-sub-asked-reasons c = search needs
+sub-asked-reasons c = zero-le
 
 part-asked-reasons-start : tie.Need-part-asked-reasons-start
-part-asked-reasons-start c = search needs
+part-asked-reasons-start c = zero-le
 
 part-asked-reasons-end : tie.Need-part-asked-reasons-end
 part-asked-reasons-end c = let e = c .before .before in let s = start (core e) in trying-of (session s) (model s) (asking s) (passed e) .in-asked
@@ -111,16 +113,16 @@ asked-reasons-requires c κs =
     )
 
 same-length-4 : tie.Need-same-length-4
-same-length-4 c = search needs
+same-length-4 c = c .before .before .before .before .before .before .before .before .before .before .before .before .results .given
 
 same-length-5 : tie.Need-same-length-5
-same-length-5 c = search needs
+same-length-5 c = c .before .before .before .before .before .before .before .before .before .before .before .trial .given
 
 same-length-6 : tie.Need-same-length-6
-same-length-6 c = search needs
+same-length-6 c = c .before .before .before .before .before .before .before .before .before .before .flags .given
 
 same-length-7 : tie.Need-same-length-7
-same-length-7 c = search needs
+same-length-7 c = c .before .why .given
 
 returns-3 : tie.Need-returns-3
 returns-3 c =

@@ -7,7 +7,6 @@ use Rattle.tables.proofs.Judged.{accepted-is, refused-is}
 use Rattle.fits.specs.Lent.{toModel, toTry}
 use Rattle.records.specs.Left.{recordIn, answerIn}
 use Rattle.accepts.proofs.Accepts.{trial-by-blanks, trying-of, trial-met}
-use borrow.Author.Needs.{needs}
 use Rattle.trying.proofs.trial_core.Statement.{statement}
 use Rattle.trying.proofs.trial_core.Tie as tie
 
@@ -27,22 +26,22 @@ passed : (c : tie.After-enum-told) → trialVerdict (session (start c)) (model (
 passed c = let s = start c in let said = c .enum-told .given in trial-by-blanks (session s) (model s) (asking s) ∙ accepted-is 0 (said .0 .0) _ (sym (c .before .before .judge-trial .ensures) ∙ said .1)
 
 judge-trial-requires : tie.Need-judge-trial-requires
-judge-trial-requires c κs = search needs
+judge-trial-requires c κs = tt
 
 enum-told : tie.Need-enum-told
-enum-told c = search needs
+enum-told c = c .match .keys1
 
 enum-told-2 : tie.Need-enum-told-2
-enum-told-2 c = search needs
+enum-told-2 c = c .match .keys2
 
 same-length : tie.Need-same-length
-same-length c = search needs
+same-length c = refl
 
 same-length-2 : tie.Need-same-length-2
-same-length-2 c = search needs
+same-length-2 c = refl
 
 same-length-3 : tie.Need-same-length-3
-same-length-3 c = search needs
+same-length-3 c = refl
 
 returns : tie.Need-returns
 returns c =
@@ -56,13 +55,13 @@ fill-trial-requires c κs =
     let e = c .before .before .before in let s = start e in trying-of (session s) (model s) (asking s) (passed e)
 
 same-length-4 : tie.Need-same-length-4
-same-length-4 c = search needs
+same-length-4 c = c .before .before .before .results .given
 
 same-length-5 : tie.Need-same-length-5
-same-length-5 c = search needs
+same-length-5 c = c .before .before .trial .given
 
 same-length-6 : tie.Need-same-length-6
-same-length-6 c = search needs
+same-length-6 c = c .before .flags .given
 
 returns-2 : tie.Need-returns-2
 returns-2 c =

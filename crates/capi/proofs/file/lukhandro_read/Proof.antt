@@ -1,38 +1,37 @@
 -- What `read` leaves, with its answer put as five numbers; the counts of a file that it accepts are small. Assumes nothing.
 use Rattle.capi.proofs.Read.{small-read, read-out}
-use borrow.Author.Needs.{needs}
 use Rattle.capi.proofs.file.lukhandro_read.Statement.{statement}
 use Rattle.capi.proofs.file.lukhandro_read.Tie as tie
 
 read-requires : tie.Need-read-requires
-read-requires c κs = search needs
+read-requires c κs = tt
 
 read-numbers-requires : tie.Need-read-numbers-requires
 read-numbers-requires c κs = small-read _ _ _ _ _ _ _ _ (c .before .before .before .before .before .before .before .before .before .before .before .before .before .read .result) _ _ _ (c .before .before .before .before .before .before .before .before .before .before .before .before .before .read .ensures)
 
 same-length : tie.Need-same-length
-same-length c = search needs
+same-length c = c .before .before .before .before .before .before .before .before .before .before .before .before .before .starts .given
 
 same-length-2 : tie.Need-same-length-2
-same-length-2 c = search needs
+same-length-2 c = c .before .before .before .before .before .before .before .before .before .before .before .before .kinds .given
 
 same-length-3 : tie.Need-same-length-3
-same-length-3 c = search needs
+same-length-3 c = c .before .before .before .before .before .before .before .before .before .before .makes .given
 
 same-length-4 : tie.Need-same-length-4
-same-length-4 c = search needs
+same-length-4 c = c .before .before .before .before .before .before .before .before .params .given
 
 same-length-5 : tie.Need-same-length-5
-same-length-5 c = search needs
+same-length-5 c = c .before .before .before .before .before .before .before .firsts .given
 
 same-length-6 : tie.Need-same-length-6
-same-length-6 c = search needs
+same-length-6 c = c .before .before .before .before .before .counts .given
 
 same-length-7 : tie.Need-same-length-7
-same-length-7 c = search needs
+same-length-7 c = c .before .before .before .vars .given
 
 same-length-8 : tie.Need-same-length-8
-same-length-8 c = search needs
+same-length-8 c = c .before .coefs .given
 
 returns : tie.Need-returns
 returns c = read-out _ _ _ _ _ _ _ _ (c .before .before .before .before .before .before .before .before .before .before .before .before .before .before .read .result) (c .read-numbers .ensures) (c .before .before .before .before .before .before .before .before .before .before .before .before .before .before .read .ensures)

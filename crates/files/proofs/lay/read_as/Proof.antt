@@ -1,18 +1,13 @@
--- A wrong header is refused, then short rows; else each column is laid over its row, and the file is long enough for all (`all-laid`). Assumes nothing.
+-- What is refused changes nothing (`nothing-read`); else each column is laid over its row, and the file is long enough for all (`all-read`). Assumes nothing.
 use Prim.Native.Nat.{_+_, _*_}
 use native.Mathlib.Omega.{arith}
-use mathlib.Core.Bool.{true}
-use mathlib.Core.Path.{_≡_, _∙_}
+use mathlib.Core.Path.{_≡_, refl, _∙_}
 use lib.ListN.{length}
-use borrow.Author.Needs.{needs}
-use borrow.Author.Tests.{not-true, not-false}
 use Rattle.paper.specs.Tables.{lent}
-use Rattle.paper.specs.File.{Contents, contents, headOf, bounded, boundsFrom, heldAs, countedAs}
+use Rattle.paper.specs.File.{Contents, contents, headOf, bounded, boundsFrom, countedAs}
 use Rattle.paper.proofs.Sizes.{Held, held-as-facts}
 use Rattle.paper.proofs.Written.{ends-is}
-use Rattle.paper.proofs.Reading.{same-rows, same-contents}
-use Rattle.headers.proofs.Answered.{ends}
-use Rattle.files.proofs.Answered.{refused-header, short-rows, all-laid}
+use Rattle.files.proofs.Answered.{nothing-read, roomy, all-read}
 use Rattle.files.proofs.lay.read_as.Statement.{statement}
 use Rattle.files.proofs.lay.read_as.Tie as tie
 
@@ -23,88 +18,72 @@ given c =
     contents (lent 0 0 0 (a .kinds .now) (a .makes .now) (a .params .now) (a .firsts .now) (a .counts .now) (a .vars .now) (a .coefs .now))
     (a .starts .now) (a .lows .now) (a .highs .now)
 
-abbrev stated : tie.Else1 → tie.After-told
-stated c = c .before .before .before .before .before .before .before .before .before .before .before .before .before
-
-abbrev begun : tie.Else1 → tie.Start
-begun c = c .before .before .before .before .before .before .before .before .before .before .before .before .before .before .before .before .before .before .before .before .before .before
+abbrev begun : tie.After-known-told → tie.Start
+begun c = c .before .before .before .before .before .before .before .before .before .before .before .before .before .before .before .before .before .before .before .before
 
 -- under the counts that the file states
-abbrev model : tie.Else1 → Contents
-model c = let k = stated c .told .given .0 in countedAs (k .0) (k .1 .0) (k .1 .1 .0) (given (begun c))
+abbrev model : tie.After-known-told → Contents
+model c = let k = c .before .told .given .0 in countedAs (k .0) (k .1 .0) (k .1 .1 .0) (given (begun c))
 
-passed : (c : tie.Else1) → heldAs (begun c .args .bounds) (model c) ≡ true
-passed c = rw (← (c .before .rows-held .ensures)) (not-false _ (c .if1 .left))
-
-says : (c : tie.Else1) → let a = begun c .args in let t = model c .tables in
+says : (c : tie.After-known-told) → let a = begun c .args in let t = model c .tables in
     Held (a .bounds) (model c) × (length (a .bytes .now) ≡ boundsFrom (headOf (a .bounds)) (t .n) (t .m) (t .e) + 8 * bounded (a .bounds) (t .n))
 says c =
-    let a = begun c .args in let t = model c .tables in (
-      held-as-facts (a .bounds) (model c) (passed c),
-      ends (a .bounds) (a .bytes .now) (c .before .before .before .before .before .before .before .before .before .before .before .before .before .before .before .header-as .ensures) (stated c .told .given .1) ∙ ends-is (a .bounds) (t .n) (t .m) (t .e),
-    )
+    let a = begun c .args in let t = model c .tables in
+    let r = roomy (a .bounds) (a .bytes .now) (given (begun c)) (c .before .before .before .judge-reading .ensures) (c .before .told .given .1) in
+    (held-as-facts (a .bounds) (model c) (r .0), r .1 ∙ ends-is (a .bounds) (t .n) (t .m) (t .e))
 
-header-as-requires : tie.Need-header-as-requires
-header-as-requires c κs = search needs
+judge-reading-requires : tie.Need-judge-reading-requires
+judge-reading-requires c κs = tt
 
 enum-known-told : tie.Need-enum-known-told
-enum-known-told c = search needs
+enum-known-told c = c .match .keys1
 
 enum-told : tie.Need-enum-told
-enum-told c = search needs
+enum-told c = c .match .keys2
+
+same-length : tie.Need-same-length
+same-length c = refl
+
+same-length-2 : tie.Need-same-length-2
+same-length-2 c = refl
+
+same-length-3 : tie.Need-same-length-3
+same-length-3 c = refl
+
+same-length-4 : tie.Need-same-length-4
+same-length-4 c = refl
+
+same-length-5 : tie.Need-same-length-5
+same-length-5 c = refl
+
+same-length-6 : tie.Need-same-length-6
+same-length-6 c = refl
+
+same-length-7 : tie.Need-same-length-7
+same-length-7 c = refl
+
+same-length-8 : tie.Need-same-length-8
+same-length-8 c = refl
+
+same-length-9 : tie.Need-same-length-9
+same-length-9 c = refl
+
+same-length-10 : tie.Need-same-length-10
+same-length-10 c = refl
 
 returns : tie.Need-returns
 returns c =
-    let s = c .before .before .before .before .before .before .before .before .before in
-    refused-header (s .args .bounds) (s .args .bytes .now) (c .before .before .header-as .ensures) (c .enum-told .given .1) (given s)
-
-rows-held-requires : tie.Need-rows-held-requires
-rows-held-requires c κs = search needs
-
-same-length : tie.Need-same-length
-same-length c = search needs
-
-same-length-2 : tie.Need-same-length-2
-same-length-2 c = search needs
-
-same-length-3 : tie.Need-same-length-3
-same-length-3 c = search needs
-
-same-length-4 : tie.Need-same-length-4
-same-length-4 c = search needs
-
-same-length-5 : tie.Need-same-length-5
-same-length-5 c = search needs
-
-same-length-6 : tie.Need-same-length-6
-same-length-6 c = search needs
-
-same-length-7 : tie.Need-same-length-7
-same-length-7 c = search needs
-
-same-length-8 : tie.Need-same-length-8
-same-length-8 c = search needs
-
-same-length-9 : tie.Need-same-length-9
-same-length-9 c = search needs
-
-same-length-10 : tie.Need-same-length-10
-same-length-10 c = search needs
-
-returns-2 : tie.Need-returns-2
-returns-2 c =
-    let s = c .before .before .before .before .before .before .before .before .before .before .before .before .before .before .before .before .before .before .before .before .before .before in
-    short-rows (s .args .bounds) (s .args .bytes .now) (c .before .before .before .before .before .before .before .before .before .before .before .before .before .before .before .header-as .ensures) (c .before .before .before .before .before .before .before .before .before .before .before .before .before .told .given .1) (given s)
-    (rw (← (c .before .rows-held .ensures)) (not-true _ (c .if1 .taken)))
+    let s = c .before .before .before .before .before .before .before .before .before .before .before .before .before .before .before .before .before .before .before in
+    nothing-read (s .args .bounds) (s .args .bytes .now) (given s) (c .before .before .judge-reading .ensures) (c .enum-told .given .1)
 
 head-length-requires : tie.Need-head-length-requires
-head-length-requires c κs = search needs
+head-length-requires c κs = tt
 
 bounds-at-requires : tie.Need-bounds-at-requires
 bounds-at-requires c κs = let h = says (c .before) in omega (arith, c .head-length .ensures)
 
 bounded-count-requires : tie.Need-bounded-count-requires
-bounded-count-requires c κs = search needs
+bounded-count-requires c κs = tt
 
 lay-starts-requires : tie.Need-lay-starts-requires
 lay-starts-requires c κs = let h = says (c .before .before .before .before) in omega (arith, c .before .before .before .head-length .ensures)
@@ -119,56 +98,52 @@ lay-bounds-requires : tie.Need-lay-bounds-requires
 lay-bounds-requires c κs = let h = says (c .before .before .before .before .before .before .before .before .before .before .before .before .before .before .before .before .before .before .before .before .before .before .before .before .before .before .before .before .before) in omega (arith, c .before .before .before .before .before .before .before .before .before .before .before .before .before .before .before .before .before .before .before .before .before .before .before .before .before .before .before .before .head-length .ensures, c .before .before .before .before .before .before .before .before .before .before .before .before .before .before .before .before .before .before .before .before .before .before .before .before .before .before .before .bounds-at .ensures, c .before .before .before .before .before .before .before .before .before .before .before .before .before .before .before .before .before .before .before .before .before .before .before .before .before .before .bounded-count .ensures)
 
 same-length-11 : tie.Need-same-length-11
-same-length-11 c = search needs
+same-length-11 c = c .before .before .before .before .before .before .before .before .before .before .before .before .before .before .before .before .before .before .before .before .before .before .before .before .before .before .starts .given
 
 same-length-12 : tie.Need-same-length-12
-same-length-12 c = search needs
+same-length-12 c = c .before .before .before .before .before .before .before .before .before .before .before .before .before .before .before .before .before .before .before .kinds .given
 
 same-length-13 : tie.Need-same-length-13
-same-length-13 c = search needs
+same-length-13 c = c .before .before .before .before .before .before .before .before .before .before .before .before .before .before .before .before .before .makes .given
 
 same-length-14 : tie.Need-same-length-14
-same-length-14 c = search needs
+same-length-14 c = c .before .before .before .before .before .before .before .before .before .before .before .before .before .before .before .params .given
 
 same-length-15 : tie.Need-same-length-15
-same-length-15 c = search needs
+same-length-15 c = c .before .before .before .before .before .before .before .before .before .before .before .before .before .before .firsts .given
 
 same-length-16 : tie.Need-same-length-16
-same-length-16 c = search needs
+same-length-16 c = c .before .before .before .before .before .before .before .before .before .before .before .before .counts .given
 
 same-length-17 : tie.Need-same-length-17
-same-length-17 c = search needs
+same-length-17 c = c .before .before .before .before .before .before .before .vars .given
 
 same-length-18 : tie.Need-same-length-18
-same-length-18 c = search needs
+same-length-18 c = c .before .before .before .before .before .coefs .given
 
 same-length-19 : tie.Need-same-length-19
-same-length-19 c = search needs
+same-length-19 c = c .before .lows .given
 
 same-length-20 : tie.Need-same-length-20
-same-length-20 c = search needs
+same-length-20 c = c .highs .given
 
-returns-3 : tie.Need-returns-3
-returns-3 c =
-    let g = c .before .before .before .before .before .before .before .before .before .before .before .before .before .before .before .before .before .before .before .before .before .before .before .before .before .before .before .before .before .before .before .before in
-    let a = begun g .args in
-    let head = c .before .before .before .before .before .before .before .before .before .before .before .before .before .before .before .before .before .before .before .before .before .before .before .before .before .before .before .before .before .before .before .head-length .ensures .0 in
-    let starts = rw head at (c .before .before .before .before .before .before .before .before .before .before .before .before .before .before .before .before .before .before .before .before .before .before .before .before .before .before .before .lay-starts .ensures) in
-    let rows = rw head at (c .before .before .before .before .before .before .before .before .before .before .before .before .before .before .before .before .before .before .before .before .lay-rows .ensures) in
-    let entries = rw head at (c .before .before .before .before .before .before .before .before .lay-entries .ensures) in
-    let bounds = rw (c .before .before .before .before .before .before .before .before .before .before .before .before .before .before .before .before .before .before .before .before .before .before .before .before .before .before .before .before .before .before .bounds-at .ensures, head, c .before .before .before .before .before .before .before .before .before .before .before .before .before .before .before .before .before .before .before .before .before .before .before .before .before .before .before .before .before .bounded-count .ensures .0) at (c .before .before .lay-bounds .ensures) in
-    all-laid (a .bounds) (a .bytes .now) (c .before .before .before .before .before .before .before .before .before .before .before .before .before .before .before .before .before .before .before .before .before .before .before .before .before .before .before .before .before .before .before .before .before .before .before .before .before .before .before .before .before .before .before .before .before .before .before .header-as .ensures) (stated g .told .given .1) (given (begun g)) (passed g)
-    (same-contents (same-rows starts (rows .0) (rows .1 .0) (rows .1 .1 .0) (rows .1 .1 .1 .0) (rows .1 .1 .1 .1) (entries .0) (entries .1)) (bounds .0) (bounds .1))
+returns-2 : tie.Need-returns-2
+returns-2 c =
+    let s = begun (c .before .before .before .before .before .before .before .before .before .before .before .before .before .before .before .before .before .before .before .before .before .before .before .before .before .before .before .before .before .before .before .before) in
+    let rows = c .before .before .before .before .before .before .before .before .before .before .before .before .before .before .before .before .before .before .before .before .lay-rows .ensures in
+    let entries = c .before .before .before .before .before .before .before .before .lay-entries .ensures in
+    let bounds = c .before .before .lay-bounds .ensures in
+    all-read (s .args .bounds) (s .args .bytes .now) (given s) (c .before .before .before .before .before .before .before .before .before .before .before .before .before .before .before .before .before .before .before .before .before .before .before .before .before .before .before .before .before .before .before .before .before .before .before .judge-reading .ensures) (c .before .before .before .before .before .before .before .before .before .before .before .before .before .before .before .before .before .before .before .before .before .before .before .before .before .before .before .before .before .before .before .before .before .told .given .1)
+    (c .before .before .before .before .before .before .before .before .before .before .before .before .before .before .before .before .before .before .before .before .before .before .before .before .before .before .before .before .before .before .before .head-length .ensures .0) (c .before .before .before .before .before .before .before .before .before .before .before .before .before .before .before .before .before .before .before .before .before .before .before .before .before .before .before .before .before .before .bounds-at .ensures) (c .before .before .before .before .before .before .before .before .before .before .before .before .before .before .before .before .before .before .before .before .before .before .before .before .before .before .before .before .before .bounded-count .ensures .0)
+    (c .before .before .before .before .before .before .before .before .before .before .before .before .before .before .before .before .before .before .before .before .before .before .before .before .before .before .before .lay-starts .ensures) (rows .0) (rows .1 .0) (rows .1 .1 .0) (rows .1 .1 .1 .0) (rows .1 .1 .1 .1) (entries .0) (entries .1) (bounds .0) (bounds .1)
 
 pub read-as-spec : {M : Type 1} → statement M
 read-as-spec =
     tie.close
     (tie.spec
-    header-as-requires
+    judge-reading-requires
     enum-known-told
     enum-told
-    returns
-    rows-held-requires
     same-length
     same-length-2
     same-length-3
@@ -179,7 +154,7 @@ read-as-spec =
     same-length-8
     same-length-9
     same-length-10
-    returns-2
+    returns
     head-length-requires
     bounds-at-requires
     bounded-count-requires
@@ -197,4 +172,4 @@ read-as-spec =
     same-length-18
     same-length-19
     same-length-20
-    returns-3)
+    returns-2)

@@ -1,8 +1,7 @@
 -- The move is worked out by route 1, with nothing asked, in a row of 4096 values, and what stands there is stored (`keep-filled`). Assumes nothing.
 use Prim.Native.Nat.{_≤_}
 use native.Mathlib.Omega.{arith}
-use mathlib.Core.Path.{refl, sym}
-use borrow.Author.Needs.{needs}
+use mathlib.Core.Path.{refl, sym, _∙_}
 use Rattle.paper.specs.Tables.{Tables, Index, indexIn, lent}
 use Rattle.paper.specs.Calls.{Kept}
 use Rattle.fits.specs.Lent.{toKeep}
@@ -26,7 +25,7 @@ room : (s : tie.Start) → s .args .n ≤ 4096
 room s = held (tables s) (s .args .numbers .now) (s .args .order .now) (index s) (s .args .stored .now) (kept s) (s .pre) .n-most
 
 slice-aggregate-begin-route : tie.Need-slice-aggregate-begin-route
-slice-aggregate-begin-route c = search needs
+slice-aggregate-begin-route c = refl
 
 begin-route-requires : tie.Need-begin-route-requires
 begin-route-requires c κs = let s = (c .before .before .before .before .before .before .before .before .before .before .before .before .before .before) in
@@ -36,10 +35,10 @@ slice-aggregate-run-route : tie.Need-slice-aggregate-run-route
 slice-aggregate-run-route c = let s = (c .before .before .before .before .before .before .before .before .before .before .before .before .before .before .before .before .before .before .before) in sym (moves-long (tables s) (s .args .numbers .now) (s .args .order .now) (index s) (s .args .stored .now) (kept s) (s .pre))
 
 slice-aggregate-run-route-2 : tie.Need-slice-aggregate-run-route-2
-slice-aggregate-run-route-2 c = search needs
+slice-aggregate-run-route-2 c = refl
 
 slice-aggregate-run-route-3 : tie.Need-slice-aggregate-run-route-3
-slice-aggregate-run-route-3 c = search needs
+slice-aggregate-run-route-3 c = sym (c .before .before .before .before .before .before .row2 .given)
 
 run-route-requires : tie.Need-run-route-requires
 run-route-requires c κs = let s = (c .before .before .before .before .before .before .before .before .before .before .before .before .before .before .before .before .before .before .before .before .before .before .before) in let b = (c .before .before .before .before .before .before .before .before) .begin-route .ensures in (
@@ -54,7 +53,7 @@ run-route-requires c κs = let s = (c .before .before .before .before .before .b
 )
 
 slice-aggregate-copy-values : tie.Need-slice-aggregate-copy-values
-slice-aggregate-copy-values c = search needs
+slice-aggregate-copy-values c = sym (c .before .before .before .row4 .given)
 
 copy-values-requires : tie.Need-copy-values-requires
 copy-values-requires c κs = let s = (c .before .before .before .before .before .before .before .before .before .before .before .before .before .before .before .before .before .before .before .before .before .before .before .before .before .before .before .before .before) in (omega (arith, room s, (c .before .before .before .before .before .before .before .before .before .before .before .before .before .before) .begin-route .kept .1 .1 .1 .1 .1 .0, (c .before .before .before .before .before) .run-route .kept .1 .1 .1 .1 .1 .1 .1 .1 .1 .1 .1 .1 .1 .1 .1 .1 .1 .1 .0), omega (arith, s .pre .in-stored))
@@ -66,10 +65,10 @@ cast-result : tie.Need-cast-result
 cast-result c = let s = (c .before .before .before .before .before .before .before .before .before .before .before .before .before .before .before .before .before .before .before .before .before .before .before .before .before .before .before .before .before .before .before .before .before) in record { fits = count-fits _ (s .args .n) _ (room s) (c .evaluations .ensures) }
 
 same-length : tie.Need-same-length
-same-length c = search needs
+same-length c = c .before .before .stored .given
 
 same-length-2 : tie.Need-same-length-2
-same-length-2 c = search needs
+same-length-2 c = c .before .before .before .before .before .before .before .flags2 .given ∙ c .before .before .before .before .before .before .before .before .before .before .before .before .before .before .before .before .flags .given
 
 returns : tie.Need-returns
 returns c = let s = (c .before .before .before .before .before .before .before .before .before .before .before .before .before .before .before .before .before .before .before .before .before .before .before .before .before .before .before .before .before .before .before .before .before) in let b = (c .before .before .before .before .before .before .before .before .before .before .before .before .before .before .before .before .before .before) .begin-route .ensures in

@@ -1,7 +1,7 @@
 -- The move is put into the trial row and worked out there by its route, and the asked values are read from it (`trial-filled`). Assumes nothing.
 use Prim.Native.Nat.{_≤_}
 use native.Mathlib.Omega.{arith}
-use mathlib.Core.Path.{sym}
+use mathlib.Core.Path.{sym, _∙_}
 use borrow.Author.Needs.{needs}
 use Rattle.paper.specs.Tables.{Tables, Index, indexIn, lent}
 use Rattle.paper.specs.Calls.{Tried, Kept}
@@ -62,13 +62,13 @@ cast-result : tie.Need-cast-result
 cast-result c = let s = (c .before .before .before .before .before .before .before .before .before .before .before .before .before .before .before .before .before .before .before .before .before .before .before .before .before .before .before .before .before .before .before .before) in record { fits = count-fits _ (s .args .n) _ (room s) (c .evaluations .ensures) }
 
 same-length : tie.Need-same-length
-same-length c = search needs
+same-length c = c .before .before .results .given
 
 same-length-2 : tie.Need-same-length-2
-same-length-2 c = search needs
+same-length-2 c = c .before .before .before .before .before .before .before .before .trial2 .given ∙ c .before .before .before .before .before .before .before .before .before .before .before .before .before .before .before .before .trial .given
 
 same-length-3 : tie.Need-same-length-3
-same-length-3 c = search needs
+same-length-3 c = c .before .before .before .before .before .before .before .flags2 .given ∙ c .before .before .before .before .before .before .before .before .before .before .before .before .before .before .before .flags .given
 
 returns : tie.Need-returns
 returns c = let s = (c .before .before .before .before .before .before .before .before .before .before .before .before .before .before .before .before .before .before .before .before .before .before .before .before .before .before .before .before .before .before .before .before) in let b = (c .before .before .before .before .before .before .before .before .before .before .before .before .before .before .before .before .before) .begin-route .ensures in

@@ -10,7 +10,8 @@ use borrow.Author.Needs.{needs}
 use Rattle.paper.specs.Lists.{nat, size}
 use Rattle.order.specs.Numbering.{partAt}
 use Rattle.order.proofs.Visits.{left-next, left-none}
-use Rattle.groups.specs.Walk.{fresh, Waits, askedAt, firstNumber, Best}
+use Rattle.stacks.specs.Stack.{Waits, askedAt, firstNumber, Best}
+use Rattle.groups.specs.Walk.{fresh}
 use Rattle.groups.proofs.Entering.{Begun, enter-room, enter-begun, enter-state}
 use Rattle.groups.proofs.Going.{Going, visited-known, going-start, going-at, going-less, going-link, going-next, going-step, going-back}
 use Rattle.groups.proofs.Closing.{First, first-of, number-short, closes}
@@ -19,9 +20,9 @@ use borrow.Fn.PlainCycle.{Measures, is, falls, and}
 use Rattle.groups.proofs.walk.visit.Reads as visit
 use Rattle.groups.proofs.walk.visit.Kinds as visit-kinds
 use Rattle.groups.proofs.walk.+visit.Lts-visit as visit-lts
-use Rattle.groups.proofs.walk.enter.Reads as enter-reads
-use Rattle.groups.proofs.walk.group_number.Reads as group-number-reads
-use Rattle.groups.proofs.walk.mark_group.Reads as mark-group-reads
+use Rattle.stacks.proofs.enter.Reads as enter-reads
+use Rattle.stacks.proofs.group_number.Reads as group-number-reads
+use Rattle.stacks.proofs.mark_group.Reads as mark-group-reads
 use Rattle.naturals.proofs.smaller.Reads as smaller-reads
 use Rattle.integers.proofs.wide.Reads as wide-reads
 use Rattle.groups.proofs.walk.+visit.{statement}

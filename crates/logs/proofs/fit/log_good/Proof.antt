@@ -8,8 +8,8 @@ use Rattle.paper.specs.Lists.{nat}
 use Rattle.paper.specs.Checks.{Bounds, boundsIn}
 use Rattle.paper.specs.Log.{Log, logIn, moveGood, back}
 use Rattle.paper.proofs.Scan.{Scan, scan-start, scan-next}
-use Rattle.moves.specs.Moves.{OfMakers}
-use Rattle.noting.proofs.Noted.{log-long}
+use Rattle.allowed.specs.Allowed.{OfMakers}
+use Rattle.rooms.proofs.Room.{log-long}
 use Rattle.logs.proofs.Good.{log-many, log-more, log-bad, log-all}
 use Rattle.logs.proofs.fit.log_good.Statement.{statement}
 use Rattle.logs.proofs.fit.log_good.Tie as tie

@@ -5,7 +5,7 @@ use borrow.Author.Needs.{needs}
 use Rattle.paper.specs.Checks.{accepted, refused, Bounds, boundsIn}
 use Rattle.paper.specs.Log.{Log, logIn}
 use Rattle.tables.proofs.Judged.{accepted-is, refused-is}
-use Rattle.noting.proofs.Noted.{log-long}
+use Rattle.rooms.proofs.Room.{log-long}
 use Rattle.logs.proofs.Good.{back-many, back-told}
 use Rattle.logs.proofs.fit.logged_good.Statement.{statement}
 use Rattle.logs.proofs.fit.logged_good.Tie as tie

@@ -2,13 +2,14 @@
 -- Assumes nothing.
 use Prim.Native.Nat.{ℕ, _+_, _-_, _≤_, _<_}
 use mathlib.Core.List.{_∷_, List·Memᴰ, List·Memᴰ·head}
+use mathlib.Core.Logic.{⊎-elim}
 use mathlib.Core.Path.{_≡_, refl, ap₂, sym, subst}
 use native.Mathlib.Omega.{arith}
 use lib.ListN.{length}
 use lib.Seq.{slice}
 use borrow.Author.Needs.{needs}
 use Rattle.paper.specs.Lists.{size}
-use Rattle.order.specs.Numbering.{partAt, fresh}
+use Rattle.order.specs.Numbering.{partAt, fresh, Visited}
 use Rattle.order.proofs.Visits.{left-next, left-none, visited-known, Begun, Going, going-start, going-less, going-fail, going-small, going-end, going-step}
 use borrow.Fn.Kinds.{In}
 use borrow.Fn.PlainCycle.{Measures, is, falls, and}
@@ -113,18 +114,48 @@ visit-next : (t : ℕ) (c : visit-lts.After-wide4 (told t) (visit-at t) visit.Po
     slice (l .loop .i) stop vars ≡ c .wide4 .result ∷ slice (l .loop .i + 1) stop vars
 visit-next t c = left-next _ _ _ _ (c .before .before .loop-test .taken) (visit-inside t (c .before .before .before)) (c .wide4 .ensures .0)
 
+-- it is an input of v, and below n
+visit-input : (t : ℕ) (c : visit-lts.After-wide4 (told t) (visit-at t) visit.Post visit-Inv-loop visit-μ-loop)
+    → let a = start t (c .before .before .before) .args in List·Memᴰ (c .wide4 .result) (partAt (a .begins .now) (a .stops .now) (a .vars .now) (a .v))
+visit-input t c = c .before .before .before .loop .inv .rest _ (subst (List·Memᴰ _) (sym (visit-next t c)) (List·Memᴰ·head refl))
+
+visit-low : (t : ℕ) (c : visit-lts.After-wide4 (told t) (visit-at t) visit.Post visit-Inv-loop visit-μ-loop) → c .wide4 .result < start t (c .before .before .before) .args .n
+visit-low t c = start t (c .before .before .before) .pre .1 .0 .below _ _ (visit-input t c)
+
+visit-mul-wide-5 : (t : ℕ) → visit-lts.Need-mul-wide-5 (told t) (visit-at t) visit.Post visit-Inv-loop visit-μ-loop
+visit-mul-wide-5 t c = search needs
+
+visit-element-copy-out-wide-4 : (t : ℕ) → visit-lts.Need-element-copy-out-wide-4 (told t) (visit-at t) visit.Post visit-Inv-loop visit-μ-loop
+visit-element-copy-out-wide-4 t c =
+    let l = c .before .before .before in let s = start t l in
+    omega (arith, s .pre .1 .0 .few, visit-low t c)
+
+visit-wide-requires-5 : (t : ℕ) → visit-lts.Need-wide-requires-5 (told t) (visit-at t) visit.Post visit-Inv-loop visit-μ-loop
+visit-wide-requires-5 t c κs = search needs
+
 visit-visit-requires : (t : ℕ) → visit-lts.Need-visit-requires (told t) (visit-at t) visit.Post visit-Inv-loop visit-μ-loop
 visit-visit-requires t c κs =
-    let l = c .before .before .before .before in
+    let w = c .before .before .before .before in
+    let l = w .before .before .before in
     let s = start t l in
     let less = going-less _ _ _ _ (visit-begun t l) _ _ _ (l .loop .inv) in
-    let next = l .loop .inv .rest _ (subst (List·Memᴰ _) (sym (visit-next t (c .before))) (List·Memᴰ·head refl)) in
-    (omega (arith, less, s .pre .0), (s .pre .1 .0, (s .pre .1 .0 .below _ _ next, l .loop .inv .right)))
+    (omega (arith, less, s .pre .0), (s .pre .1 .0, (visit-low t w, l .loop .inv .right)))
+
+-- it has been visited, before or now
+visit-found : (t : ℕ) (j : visit-lts.Joined2 (told t) (visit-at t) visit.Post visit-Inv-loop visit-μ-loop)
+    → let w = j .before .before .before in let l = w .before .before .before in let a = start t l .args in
+    Visited (a .n) (partAt (a .begins .now) (a .stops .now) (a .vars .now)) (w .wide4 .result) (l .loop .state) (j .if2 .state) (j .if2 .found)
+visit-found t j =
+    let l = j .before .before .before .before .before .before in
+    ⊎-elim
+    (λ w. rw (w .3, w .4) (w .2 .ensures))
+    (λ w. rw (w .1, w .2) (visited-known _ _ _ _ _ (l .loop .inv .right) (j .before .wide5 .ensures .0) (omega (arith, w .0 .left))))
+    (j .if2 .came)
 
 visit-returns-2 : (t : ℕ) → visit-lts.Need-returns-2 (told t) (visit-at t) visit.Post visit-Inv-loop visit-μ-loop
 visit-returns-2 t c =
-    let l = c .before .before .before .before .before .before in
-    going-fail _ _ _ _ (visit-begun t l) _ _ _ (l .loop .inv) _ _ _ _ (visit-next t (c .before .before .before)) (c .before .visit .ensures) (c .if2 .taken)
+    let w = c .before .before .before .before in let l = w .before .before .before in
+    going-fail _ _ _ _ (visit-begun t l) _ _ _ (l .loop .inv) _ _ _ _ (visit-next t w) (visit-found t (c .before)) (c .if3 .taken)
 
 visit-larger-requires : (t : ℕ) → visit-lts.Need-larger-requires (told t) (visit-at t) visit.Post visit-Inv-loop visit-μ-loop
 visit-larger-requires t c κs = search needs
@@ -137,9 +168,8 @@ visit-loop-less t c = search needs
 
 visit-loop-again : (t : ℕ) → visit-lts.Need-loop-again (told t) (visit-at t) visit.Post visit-Inv-loop visit-μ-loop
 visit-loop-again t c =
-    let l = c .before .before .before .before .before .before .before in
-    going-step _ _ _ _ _ _ _ _ _ _ _ _ (l .loop .inv) (visit-next t (c .before .before .before .before))
-    (c .before .before .visit .ensures) (c .before .if2 .left) (c .larger .ensures)
+    let j = c .before .before in let w = j .before .before .before in let l = w .before .before .before in
+    going-step _ _ _ _ _ _ _ _ _ _ _ _ (l .loop .inv) (visit-next t w) (visit-found t j) (c .before .if3 .left) (c .larger .ensures)
 
 visit-best : (t : ℕ) (c : Turn t) → c .loop .best ≤ 4097
 visit-best t c = going-small _ _ _ _ (visit-begun t c) _ _ _ (c .loop .inv) (start t c .pre .1 .0 .few)
@@ -184,6 +214,9 @@ pub +visit-spec : {M : Type 1} → statement M
     (visit-mul-wide-4 t)
     (visit-shared-slice-read-wide t)
     (visit-wide-requires-4 t)
+    (visit-mul-wide-5 t)
+    (visit-element-copy-out-wide-4 t)
+    (visit-wide-requires-5 t)
     (visit-visit-requires t)
     (visit-returns-2 t)
     (visit-larger-requires t)

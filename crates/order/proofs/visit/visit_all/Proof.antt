@@ -4,7 +4,7 @@ use mathlib.Core.Path.{_≡_}
 use native.Mathlib.Omega.{arith}
 use borrow.Author.Needs.{needs}
 use Rattle.order.specs.Numbering.{partAt, Swept}
-use Rattle.order.proofs.Sweeps.{swept-start, swept-step}
+use Rattle.order.proofs.Sweeps.{swept-step}
 use Rattle.order.proofs.visit.visit_all.Statement.{statement}
 use Rattle.order.proofs.visit.visit_all.Tie as tie
 
@@ -15,7 +15,7 @@ abbrev μ-loop : tie.MeasureT-loop
 μ-loop n begins stops vars state₀ v₀ state v = n - v
 
 loop-holds : tie.Need-loop-holds Inv-loop μ-loop
-loop-holds c = (omega arith, swept-start _ _ _ (c .before .pre .1))
+loop-holds c = (omega arith, c .before .pre .1)
 
 visit-requires : tie.Need-visit-requires Inv-loop μ-loop
 visit-requires c κs =

@@ -7,7 +7,8 @@ use borrow.Author.Needs.{needs}
 use Rattle.paper.specs.Lists.{nat}
 use Rattle.paper.proofs.Scan.{part-same}
 use Rattle.packing.specs.Packing.{partOf}
-use Rattle.packing.proofs.Packing.{parts-room, Placed, placed-room, placed-next, placed-end}
+use Rattle.flags.proofs.Stored.{Placed, placed-room, placed-next, placed-end}
+use Rattle.packing.proofs.Packing.{parts-room}
 use Rattle.packing.proofs.copy.pack_vars.Statement.{statement}
 use Rattle.packing.proofs.copy.pack_vars.Tie as tie
 

@@ -6,7 +6,8 @@ use mathlib.Core.Path.{_≡_, ap, _∙_}
 use lib.ListN.{replicate, getD, take, drop}
 use borrow.Author.Needs.{needs}
 use Rattle.order.proofs.Sweeps.{clean-new}
-use Rattle.packing.specs.Packing.{chosen, flagged, shape}
+use Rattle.flags.specs.Flags.{chosen, flagged}
+use Rattle.packing.specs.Packing.{shape}
 use Rattle.packing.proofs.Packing.{front-of, known-same, those-below, dropped}
 use Rattle.packing.proofs.number.drop_rows.Statement.{statement}
 use Rattle.packing.proofs.number.drop_rows.Tie as tie

@@ -1,6 +1,6 @@
 -- A variable is permitted if it passes both tests, so the least that is not is the smaller of the least that fail each. Assumes nothing.
 use borrow.Author.Needs.{needs}
-use Rattle.permits.specs.Links.{kinded}
+use Rattle.links.specs.Links.{kinded}
 use Rattle.permits.proofs.Permits.{permitted-least}
 use Rattle.permits.proofs.permit.find_shared.Statement.{statement}
 use Rattle.permits.proofs.permit.find_shared.Tie as tie

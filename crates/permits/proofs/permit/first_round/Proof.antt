@@ -2,7 +2,7 @@
 use borrow.Author.Needs.{needs}
 use mathlib.Core.Bool.{true}
 use Rattle.order.proofs.Sweeps.{clean-new}
-use Rattle.permits.proofs.Barring.{barred-start}
+use Rattle.bars.proofs.Barring.{barred-start}
 use Rattle.permits.proofs.Index.{indexed-of}
 use Rattle.permits.proofs.Permits.{found-over, shared-of, round-least}
 use Rattle.permits.proofs.permit.first_round.Statement.{statement}

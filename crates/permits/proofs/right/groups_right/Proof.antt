@@ -3,7 +3,7 @@ use native.Mathlib.Omega.{arith}
 use lib.ListN.{replicate}
 use borrow.Author.Needs.{needs}
 use Rattle.order.proofs.Sweeps.{clean-new}
-use Rattle.permits.specs.Links.{kinded}
+use Rattle.links.specs.Links.{kinded}
 use Rattle.permits.proofs.Compared.{right-found}
 use Rattle.permits.proofs.right.groups_right.Statement.{statement}
 use Rattle.permits.proofs.right.groups_right.Tie as tie

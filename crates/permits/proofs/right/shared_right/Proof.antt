@@ -1,8 +1,8 @@
 -- Where no chain closes the numbers decide (`right-open`), and elsewhere those found anew. Assumes nothing.
 use borrow.Author.Needs.{needs}
 use Rattle.order.proofs.Bare.{makers-bare}
-use Rattle.permits.specs.Links.{kinded}
-use Rattle.permits.proofs.Kinded.{formed-bare}
+use Rattle.links.specs.Links.{kinded}
+use Rattle.links.proofs.Kinded.{formed-bare}
 use Rattle.permits.proofs.Compared.{right-open}
 use Rattle.permits.proofs.right.shared_right.Statement.{statement}
 use Rattle.permits.proofs.right.shared_right.Tie as tie

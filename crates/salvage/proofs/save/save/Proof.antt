@@ -1,12 +1,11 @@
 -- The rows listed are those flagged, which stand. Assumes nothing.
-use Prim.Native.Nat.{ℕ, _≤_}
+use Prim.Native.Nat.{ℕ, _≤_, zero-le}
 use native.Mathlib.Omega.{arith}
 use mathlib.Core.Bool.{true}
 use mathlib.Core.Path.{refl}
 use lib.ListN.{length, replicate, length-replicate}
-use borrow.Author.Needs.{needs}
 use Rattle.paper.specs.Tables.{Tables, lent}
-use Rattle.packing.specs.Packing.{flagged}
+use Rattle.flags.specs.Flags.{flagged}
 use Rattle.salvage.proofs.Judging.{vars-packable, rows-few}
 use Rattle.packing.proofs.Packing.{front-of}
 use Rattle.salvage.proofs.save.save.Statement.{statement}
@@ -21,7 +20,7 @@ few : (c : tie.Start) → length (flagged true (c .args .row .now) (length (c .a
 few c = vars-packable _ (tables c) _ _ (c .pre .0) _ refl .few
 
 slice-aggregate-list-flagged : tie.Need-slice-aggregate-list-flagged
-slice-aggregate-list-flagged c = search needs
+slice-aggregate-list-flagged c = refl
 
 list-flagged-requires : tie.Need-list-flagged-requires
 list-flagged-requires c κs =
@@ -29,10 +28,10 @@ list-flagged-requires c κs =
     (s .pre .1 .0, omega (arith, rows-few _ (tables s) _ _ (s .pre .0) _ refl), omega (arith, length-replicate {A = ℕ} 4096 0))
 
 sub-save-rows : tie.Need-sub-save-rows
-sub-save-rows c = search needs
+sub-save-rows c = zero-le
 
 part-save-rows-start : tie.Need-part-save-rows-start
-part-save-rows-start c = search needs
+part-save-rows-start c = zero-le
 
 part-save-rows-end : tie.Need-part-save-rows-end
 part-save-rows-end c = let f = few (c .before .before .before .before .before .before .before .before .before .before .before .before .before) in let k = c .before .before .list-flagged in omega (arith, k .kept .1 .1 .1 .1 .0, k .ensures .0, length-replicate {A = ℕ} 4096 0)
@@ -43,16 +42,16 @@ save-rows-requires c κs =
     (s .pre .0, (s .pre .1, front-of _ (replicate 4096 0) (k .result) (omega (arith, length-replicate {A = ℕ} 4096 0)) (k .ensures .1) (k .ensures .0)))
 
 same-length : tie.Need-same-length
-same-length c = search needs
+same-length c = c .before .before .before .before .starts .given
 
 same-length-2 : tie.Need-same-length-2
-same-length-2 c = search needs
+same-length-2 c = c .before .before .before .file .given
 
 same-length-3 : tie.Need-same-length-3
-same-length-3 c = search needs
+same-length-3 c = c .before .list .given
 
 returns : tie.Need-returns
-returns c = search needs
+returns c = c .before .before .before .before .before .save-rows .ensures
 
 pub save-spec : {M : Type 1} → statement M
 save-spec =

@@ -1,4 +1,6 @@
 -- With the row of makers of the tables saved, the start values kept are the paper's (`Starts`). Assumes nothing.
+use Prim.Native.Nat.{zero-le}
+use mathlib.Core.Path.{refl, sym}
 use native.Mathlib.Omega.{arith}
 use mathlib.Core.Bool.{Bool, false}
 use lib.ListN.{length-replicate, length, replicate}
@@ -17,7 +19,7 @@ tables c =
     lent (a .n) (length (a .makes .now)) (length (a .vars .now)) (a .kinds .now) (a .makes .now) (a .params .now) (a .firsts .now) (a .counts .now) (a .vars .now) (a .coefs .now)
 
 slice-aggregate-makers : tie.Need-slice-aggregate-makers
-slice-aggregate-makers c = search needs
+slice-aggregate-makers c = refl
 
 makers-requires : tie.Need-makers-requires
 makers-requires c κs =
@@ -25,10 +27,10 @@ makers-requires c κs =
     ((omega arith, clean-new (s .args .n) 4096 (h .n-most) .long, omega arith), sound-makes (tables s) (packed-sound _ _ (tables s) _ _ (s .pre .0)))
 
 slice-aggregate-keep-starts : tie.Need-slice-aggregate-keep-starts
-slice-aggregate-keep-starts c = search needs
+slice-aggregate-keep-starts c = sym (c .before .by2 .given)
 
 slice-aggregate-keep-starts-2 : tie.Need-slice-aggregate-keep-starts-2
-slice-aggregate-keep-starts-2 c = search needs
+slice-aggregate-keep-starts-2 c = refl
 
 -- the row of makers
 abbrev begun : tie.After-makers → tie.Start
@@ -46,16 +48,16 @@ keep-starts-requires c κs =
     (h .n-most, by-is m .long, s .pre .1 .1, omega arith)
 
 sub-write-saved : tie.Need-sub-write-saved
-sub-write-saved c = search needs
+sub-write-saved c = zero-le
 
 part-write-saved-start : tie.Need-part-write-saved-start
-part-write-saved-start c = search needs
+part-write-saved-start c = zero-le
 
 part-write-saved-end : tie.Need-part-write-saved-end
 part-write-saved-end c = search needs
 
 slice-aggregate-write-saved : tie.Need-slice-aggregate-write-saved
-slice-aggregate-write-saved c = search needs
+slice-aggregate-write-saved c = sym (c .before .before .before .taken2 .given)
 
 write-saved-requires : tie.Need-write-saved-requires
 write-saved-requires c κs =
@@ -67,16 +69,16 @@ write-saved-requires c κs =
     )
 
 same-length : tie.Need-same-length
-same-length c = search needs
+same-length c = c .before .before .before .before .before .before .before .before .before .before .before .starts .given
 
 same-length-2 : tie.Need-same-length-2
-same-length-2 c = search needs
+same-length-2 c = c .before .before .before .file .given
 
 same-length-3 : tie.Need-same-length-3
-same-length-3 c = search needs
+same-length-3 c = c .before .list .given
 
 returns : tie.Need-returns
-returns c = search needs
+returns c = c .before .before .before .before .write-saved .ensures
 
 pub save-packed-spec : {M : Type 1} → statement M
 save-packed-spec =

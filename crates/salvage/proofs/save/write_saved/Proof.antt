@@ -7,9 +7,9 @@ use borrow.Author.Needs.{needs}
 use borrow.Author.Tests.{not-true, not-false}
 use Rattle.paper.specs.Tables.{Tables, lent}
 use Rattle.paper.proofs.Sizes.{Sized}
-use Rattle.packing.specs.Packing.{chosen}
+use Rattle.flags.specs.Flags.{chosen}
 use Rattle.salvage.proofs.Outcome.{ready-sized, ready-few, ready-short, ready-room, ready-done}
-use Rattle.packing.proofs.Packing.{those-most}
+use Rattle.flags.proofs.Stored.{those-most}
 use Rattle.salvage.proofs.save.write_saved.Statement.{statement}
 use Rattle.salvage.proofs.save.write_saved.Tie as tie
 
@@ -60,8 +60,8 @@ returns c =
     let k = c .before .before .before in let a = begun k .args in
     ready-short _ _ (tables k) _ _ _ (begun k .pre .0) (a .file .now) (a .list .now) refl (c .before .before .count-flagged .ensures) (c .before .count-flagged2 .ensures) (not-true _ (c .if1 .taken))
 
-write-list-requires : tie.Need-write-list-requires
-write-list-requires c κs =
+list-unset-requires : tie.Need-list-unset-requires
+list-unset-requires c κs =
     let k = c .before .before .before .before in let a = begun k .args in let h = says k in let f = ready-few _ _ (tables k) _ _ _ (begun k .pre .0) in (
       (begun k .pre .1 .0, begun k .pre .1 .1, f, h .n-most),
       ready-room _ _ (tables k) _ _ _ (begun k .pre .0) (a .file .now) (a .list .now) refl (c .before .before .before .count-flagged .ensures) (c .before .before .count-flagged2 .ensures) (not-false _ (c .before .if1 .left)),
@@ -81,7 +81,7 @@ returns-2 c =
     let i = c .before .before .before .before .before .before .before .before in
     let k = i .before .before .before in let a = begun k .args in
     ready-done _ _ (tables k) _ _ _ (begun k .pre .0) (a .file .now) (a .list .now) refl (i .before .before .count-flagged .ensures) (i .before .count-flagged2 .ensures) (not-false _ (i .if1 .left))
-    (c .before .before .before .before .before .before .write-list .ensures) (c .before .before .write .ensures)
+    (c .before .before .before .before .before .before .list-unset .ensures) (c .before .before .write .ensures)
 
 pub write-saved-spec : {M : Type 1} → statement M
 write-saved-spec =
@@ -97,7 +97,7 @@ write-saved-spec =
     count-flagged-requires-2
     add-fits
     returns
-    write-list-requires
+    list-unset-requires
     write-requires
     same-length
     same-length-2

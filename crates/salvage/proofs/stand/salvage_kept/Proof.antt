@@ -2,7 +2,6 @@
 use Prim.Native.Nat.{_≤_}
 use native.Mathlib.Omega.{arith}
 use lib.ListN.{length}
-use borrow.Author.Needs.{needs}
 use Rattle.paper.specs.Tables.{Tables, lent}
 use Rattle.salvage.proofs.Judging.{gives-few, gives-long, kept-numberable, left-judged}
 use Rattle.salvage.proofs.stand.salvage_kept.Statement.{statement}
@@ -27,16 +26,16 @@ save-requires c κs =
     (left-judged _ (tables s) (s .pre .0) _ (s .pre .1 .0) h _ (s .pre .1 .1 .1) (d .drop-rows .ensures), (omega arith, s .pre .1 .1 .0))
 
 same-length : tie.Need-same-length
-same-length c = search needs
+same-length c = c .before .before .before .before .starts .given
 
 same-length-2 : tie.Need-same-length-2
-same-length-2 c = search needs
+same-length-2 c = c .before .before .before .file .given
 
 same-length-3 : tie.Need-same-length-3
-same-length-3 c = search needs
+same-length-3 c = c .before .list .given
 
 returns : tie.Need-returns
-returns c = search needs
+returns c = c .before .before .before .before .before .save .ensures
 
 pub salvage-kept-spec : {M : Type 1} → statement M
 salvage-kept-spec =

@@ -1,9 +1,9 @@
 -- Without room nothing is written; with it the core's equation holds of all but the reasons, which are noted over the values that an accepted core stored. Assumes nothing.
+use Prim.Native.Nat.{_<_}
 use mathlib.Core.Bool.{true}
 use mathlib.Core.Path.{_≡_, refl, sym, ap, _∙_}
 use lib.ListN.{length}
 use native.Mathlib.Omega.{arith}
-use borrow.Author.Needs.{needs}
 use borrow.Author.Tests.{leb-true, le-leb, lt-leb}
 use Rattle.paper.specs.Lists.{over}
 use Rattle.paper.specs.Chains.{worth}
@@ -41,39 +41,42 @@ stored c = let b = c .before .before .before .before .before .before .before .be
 room : (c : tie.After-build-core) → reasonsFit (lent (start c) .tables) (start c .args .reasons .now) ≡ true
 room c = le-leb (start c .args .n) (length (start c .args .reasons .now)) (omega arith)
 
+place-zero : 0 < 65536
+place-zero = omega arith
+
 refused-requires : tie.Need-refused-requires
-refused-requires c κs = search needs
+refused-requires c κs = place-zero
 
 returns : tie.Need-returns
 returns c = let s = c .before .before .before .before .before .before .before .before .before .before .before .before .before in
     ap (λ a. withReasons (buildAsWas (lent s) (answerIn a)) (s .args .reasons .now)) (c .refused .ensures) ∙ sym (build-roomy (lent s) (s .args .reasons .now) .no-room (lt-leb _ _ (c .before .if1 .taken)))
 
 build-core-requires : tie.Need-build-core-requires
-build-core-requires c κs = search needs
+build-core-requires c κs = tt
 
 enum-told : tie.Need-enum-told
-enum-told c = search needs
+enum-told c = c .match .keys1
 
 enum-told-2 : tie.Need-enum-told-2
-enum-told-2 c = search needs
+enum-told-2 c = c .match .keys2
 
 same-length : tie.Need-same-length
-same-length c = search needs
+same-length c = c .before .before .before .before .before .before .before .before .before .before .before .before .numbers .given
 
 same-length-2 : tie.Need-same-length-2
-same-length-2 c = search needs
+same-length-2 c = c .before .before .before .before .before .before .before .before .before .before .order .given
 
 same-length-3 : tie.Need-same-length-3
-same-length-3 c = search needs
+same-length-3 c = c .before .before .before .before .before .before .before .before .stored .given
 
 same-length-4 : tie.Need-same-length-4
-same-length-4 c = search needs
+same-length-4 c = c .before .before .before .before .before .before .before .reader-starts .given
 
 same-length-5 : tie.Need-same-length-5
-same-length-5 c = search needs
+same-length-5 c = c .before .before .before .before .before .reader-places .given
 
 same-length-6 : tie.Need-same-length-6
-same-length-6 c = search needs
+same-length-6 c = c .before .before .before .log-sizes .given
 
 returns-2 : tie.Need-returns-2
 returns-2 c = let b = c .before .before .before .before .before .before .before .before .before .before .before .before .before in
@@ -85,25 +88,25 @@ first-reasons-requires c κs =
     (k .sound, (filled-long (l .tables .n) _ (l .stored) _ (stored e) (leb-true (l .tables .n) (length (l .stored)) (each _ (and-right (sized (l .tables)) _ (k .fits)) .1 .1 .1 .0)), leb-true (l .tables .n) (length (start (e .before .before .before .before .before .before .before .before .before .before .before .before .before) .args .reasons .now)) (room (e .before .before .before .before .before .before .before .before .before .before .before .before .before))))
 
 same-length-7 : tie.Need-same-length-7
-same-length-7 c = search needs
+same-length-7 c = c .before .before .before .before .before .before .before .before .before .before .before .before .before .before .before .before .before .numbers .given
 
 same-length-8 : tie.Need-same-length-8
-same-length-8 c = search needs
+same-length-8 c = c .before .before .before .before .before .before .before .before .before .before .before .before .before .before .before .order .given
 
 same-length-9 : tie.Need-same-length-9
-same-length-9 c = search needs
+same-length-9 c = c .before .before .before .before .before .before .before .before .before .before .before .before .before .stored .given
 
 same-length-10 : tie.Need-same-length-10
-same-length-10 c = search needs
+same-length-10 c = c .before .before .before .before .before .before .before .before .before .before .before .before .reader-starts .given
 
 same-length-11 : tie.Need-same-length-11
-same-length-11 c = search needs
+same-length-11 c = c .before .before .before .before .before .before .before .before .before .before .reader-places .given
 
 same-length-12 : tie.Need-same-length-12
-same-length-12 c = search needs
+same-length-12 c = c .before .reasons .given
 
 same-length-13 : tie.Need-same-length-13
-same-length-13 c = search needs
+same-length-13 c = c .before .before .before .before .before .before .before .before .log-sizes .given
 
 returns-3 : tie.Need-returns-3
 returns-3 c =

@@ -1,9 +1,9 @@
 -- Without room nothing is written; with it the core's equation holds of all but the reasons, which are noted over the values and flags that an accepted core left. Assumes nothing.
+use Prim.Native.Nat.{_<_}
 use mathlib.Core.Bool.{true}
 use mathlib.Core.Path.{_≡_, refl, sym, ap, _∙_}
 use lib.ListN.{length}
 use native.Mathlib.Omega.{arith}
-use borrow.Author.Needs.{needs}
 use borrow.Author.Tests.{leb-true, le-leb, lt-leb}
 use Rattle.paper.specs.Net.{input-to-output, moved}
 use Rattle.paper.specs.Checks.{accepted, movePairs}
@@ -50,8 +50,11 @@ stored c = let b = core c in let s = start b in ap (λ (x : KeepLeft). x .stored
 flags : (c : tie.After-enum-told) → let s = start (core c) in core c .take-back-core .last .1 .1 .1 .1 .1 .1 .1 .1 .1 .1 .1 .1 .1 .1 .1 .1 .1 .1 .0 ≡ keptFlags (model s .tables) (model s .stored) (latest (log (s)) (s .args .flags .now))
 flags c = let b = core c in let s = start b in ap (λ (x : KeepLeft). x .flags) (b .take-back-core .ensures ∙ take-judged (session s) (log s) (model s) (s .args .flags .now) .is accepted (passed c))
 
+place-zero : 0 < 65536
+place-zero = omega arith
+
 refused-requires : tie.Need-refused-requires
-refused-requires c κs = search needs
+refused-requires c κs = place-zero
 
 returns : tie.Need-returns
 returns c = let s = c .before .before .before .before .before .before .before .before .before .before .before .before .before .before .before in
@@ -59,22 +62,22 @@ returns c = let s = c .before .before .before .before .before .before .before .b
     ∙ sym (take-roomy (session s) (log s) (model s) (s .args .reasons .now) (s .args .flags .now) .no-room (lt-leb _ _ (c .before .if1 .taken)))
 
 take-back-core-requires : tie.Need-take-back-core-requires
-take-back-core-requires c κs = search needs
+take-back-core-requires c κs = tt
 
 enum-told : tie.Need-enum-told
-enum-told c = search needs
+enum-told c = c .match .keys1
 
 enum-told-2 : tie.Need-enum-told-2
-enum-told-2 c = search needs
+enum-told-2 c = c .match .keys2
 
 same-length : tie.Need-same-length
-same-length c = search needs
+same-length c = c .before .before .before .before .before .before .stored .given
 
 same-length-2 : tie.Need-same-length-2
-same-length-2 c = search needs
+same-length-2 c = c .before .before .before .before .before .flags .given
 
 same-length-3 : tie.Need-same-length-3
-same-length-3 c = search needs
+same-length-3 c = c .before .before .before .log-sizes .given
 
 returns-2 : tie.Need-returns-2
 returns-2 c = let b = c .before .before .before .before .before .before .before in let s = start b in
@@ -87,16 +90,16 @@ note-reasons-requires c κs =
     (k .model .sound, (filled-long n _ (model s .stored) _ (stored e) (ready .in-stored), filled-long n _ (s .args .flags .now) _ (flags e) (ready .in-flags), leb-true n (length (s .args .reasons .now)) (room (core e))))
 
 same-length-4 : tie.Need-same-length-4
-same-length-4 c = search needs
+same-length-4 c = c .before .before .before .before .before .before .before .before .before .before .before .before .stored .given
 
 same-length-5 : tie.Need-same-length-5
-same-length-5 c = search needs
+same-length-5 c = c .before .reasons .given
 
 same-length-6 : tie.Need-same-length-6
-same-length-6 c = search needs
+same-length-6 c = c .before .before .before .before .before .before .before .before .before .before .before .flags .given
 
 same-length-7 : tie.Need-same-length-7
-same-length-7 c = search needs
+same-length-7 c = c .before .before .before .before .before .before .before .before .before .log-sizes .given
 
 returns-3 : tie.Need-returns-3
 returns-3 c =

@@ -1,0 +1,2 @@
+pub mod OverMakers
+pub mod Judged

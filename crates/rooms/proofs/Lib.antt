@@ -1,0 +1,3 @@
+mod Slid
+mod Laid
+pub mod Room
