@@ -3,11 +3,11 @@ use Prim.Native.Nat.{ℕ, _≤_, _<_}
 use native.Mathlib.Omega.{arith}
 use mathlib.Core.Bool.{Bool}
 use mathlib.Core.List.{List, [], _++_}
-use mathlib.Core.Path.{_≡_, refl, ap, ap₂, sym, subst, _∙_}
+use mathlib.Core.Path.{_≡_, ap, ap₂, sym, subst, _∙_}
 use borrow.Author.Tests.{lt-ltb, le-ltb}
 use lib.IntN.{ℤ, pos}
 use lib.ListN.{length, take, drop, replicate, take-append-drop}
-use lib.Seq.{take-nil, take-all}
+use lib.Seq.{take-all}
 use Rattle.io.specs.Counts.{Counts}
 use Rattle.paper.specs.Tables.{Tables}
 use Rattle.paper.specs.Calls.{BuildLeft}
@@ -30,10 +30,6 @@ pub told : {before after : List ℕ} {count : ℕ} (reasons : Bool) (done : Done
     → let left = built .left in Shows (said reasons (left .answer) n (left .numbers) (left .stored) (built .reasons)) before after count
 told {before} {after} {count} reasons done numbers order stored starts places sizes row n e s =
     subst (λ x. let left = x .left in Shows (said reasons (left .answer) n (left .numbers) (left .stored) (x .reasons)) before after count) e s
-
--- nothing is shown by no bytes
-pub shows-nothing : (l : List ℕ) → Shows [] l l 0
-shows-nothing l = record { shown = sym (take-nil (length l)); rest = refl }
 
 -- the line of an answer, by its case
 module _ {before after : List ℕ} {count : ℕ} where

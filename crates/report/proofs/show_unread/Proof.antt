@@ -1,7 +1,8 @@
 -- A refused answer has its line, and an accepted one none. Assumes nothing.
 use native.Mathlib.Omega.{arith}
 use Rattle.io.proofs.Counting.{counts}
-use Rattle.report.proofs.Told.{shows-nothing, reading-line, reading-none}
+use Rattle.saying.proofs.Told.{shows-nothing}
+use Rattle.report.proofs.Told.{reading-line, reading-none}
 use Rattle.report.proofs.show_unread.Statement.{statement}
 use Rattle.report.proofs.show_unread.Tie as tie
 
