@@ -14,7 +14,7 @@ use files::write;
 use headers::Reading;
 
 // What `write` and `write_bounded` answer, as three numbers.
-pub fn written_numbers(told: Written) -> Outcome
+pub(crate) fn written_numbers(told: Written) -> Outcome
     ensures { λ r. ⌜ r ≡ inNumbers (answered (verdict told) 0) ⌝ }
 {
     match told {
@@ -32,7 +32,7 @@ pub fn written_numbers(told: Written) -> Outcome
 }
 
 // What `read` and `read_bounded` answer, as five numbers.
-pub fn read_numbers(told: Reading) -> ReadOutcome
+pub(crate) fn read_numbers(told: Reading) -> ReadOutcome
     requires { ⌜ Small told ⌝ }
     ensures { λ r. ⌜ r ≡ readInNumbers told ⌝ }
 {

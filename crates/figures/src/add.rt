@@ -49,7 +49,7 @@ fn one_if(test: bool) -> u32
 }
 
 // The figures with one more move.
-pub fn add(totals: Totals, outcome: Outcome) -> Totals
+pub(crate) fn add(totals: Totals, outcome: Outcome) -> Totals
     requires { ⌜ Room totals × Small outcome ⌝ }
     ensures { λ r. ⌜ r ≡ plus totals (single outcome) ⌝ }
 {

@@ -191,7 +191,7 @@ fn save_rows(
 }
 
 // Saves the rows that stand.
-pub fn save(
+pub(crate) fn save(
     bytes: &[u8],
     n: usize,
     starts: &mut [i32],

@@ -150,7 +150,7 @@ fn salvage_laid(
 }
 
 // Salvages a file whose version and counts are right.
-pub fn salvage_given(
+pub(crate) fn salvage_given(
     bytes: &[u8],
     n: usize,
     m: usize,

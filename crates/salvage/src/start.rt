@@ -19,7 +19,7 @@ fn value_if(kept: bool, value: i32) -> i32
 }
 
 // Says which start values are kept, and puts 0 in the place of the others. `by` is the row of makers.
-pub fn keep_starts(size: usize, n: usize, by: &[u16], starts: &mut [i32], taken: &mut [bool])
+pub(crate) fn keep_starts(size: usize, n: usize, by: &[u16], starts: &mut [i32], taken: &mut [bool])
     requires { ⌜ (n ≤ 4096) × (n ≤ length (now by)) × (n ≤ length (now starts)) × (n ≤ length (now taken)) ⌝ }
     ensures say { λ _. ⌜ now (taken .exit) ≡ over n (startTaken size (now (by .entry)) (now (starts .entry))) (now (taken .entry)) ⌝ }
     ensures put { λ _. ⌜ now (starts .exit) ≡ over n (λ v. cond (startTaken size (now (by .entry)) (now (starts .entry)) v) (getD (now (starts .entry)) v (pos 0)) (pos 0)) (now (starts .entry)) ⌝ }
