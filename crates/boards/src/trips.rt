@@ -58,7 +58,12 @@ fn counted_on(count: usize, departures: i32) -> usize
 }
 
 // How many departures there are, and 2,001 for any more than 2,000.
-pub(crate) fn count_departures(windows: usize, starts: &[i32], ends: &[i32], headways: &[i32]) -> usize
+pub(crate) fn count_departures(
+    windows: usize,
+    starts: &[i32],
+    ends: &[i32],
+    headways: &[i32],
+) -> usize
     requires { ⌜ (windows ≤ length (now starts)) × (windows ≤ length (now ends)) × (windows ≤ length (now headways)) ⌝ }
     requires { ⌜ Numbered (lends windows (now starts) (now ends) (now headways) []) ⌝ }
     ensures { λ r. ⌜ r ≡ min (length (timesBelow (lends windows (now (starts .entry)) (now (ends .entry)) (now (headways .entry)) []) windows)) 2001 ⌝ }
