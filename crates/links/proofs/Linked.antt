@@ -6,26 +6,19 @@ use mathlib.Core.Bool.{Bool, true, false, cond, not, _&&_}
 use mathlib.Core.List.{List, [], List·Memᴰ, List·Memᴰ·not-nil}
 use mathlib.Core.Path.{_≡_, refl, ap, ap₂, sym, _∙_, subst}
 use lib.Dec.{ltb}
-use lib.ListN.{length, drop, replicate}
-use lib.Seq.{slice, slice-empty, drop-at, drop-nil, getD-drop}
+use lib.ListN.{length, replicate}
+use lib.Seq.{slice, slice-empty, drop-nil}
 use borrow.Author.Tests.{ltb-true, ltb-false, ne-eqb}
-use Rattle.paper.specs.Lists.{nat, below, over}
+use Rattle.paper.specs.Lists.{nat, over}
 use Rattle.paper.specs.Tables.{Tables, part, rowOf, isMade, inputsOf}
-use Rattle.paper.proofs.Buffers.{length-below, over-at, over-length}
+use Rattle.paper.proofs.Buffers.{over-at, over-length}
 use Rattle.tables.specs.Makers.{Makers}
 use Rattle.paper.specs.Chains.{isElement, plain}
 use Rattle.order.specs.Formed.{Formed}
 use Rattle.order.specs.Numbering.{Clean, ofMaker, stopOf, partAt, Parted}
-use Rattle.order.proofs.Parted.{Parts, columns-of, parts-of}
+use Rattle.order.proofs.Parted.{over-out, Parts, columns-of, parts-of}
 use Rattle.order.proofs.Sweeps.{clean-new}
 use Rattle.links.specs.Links.{linksOf, byElement, linkCount, linkStop, Linked}
-
--- a row filled below n is beyond n what it was
-over-beyond : (f : ℕ → ℕ) (n : ℕ) (before : List ℕ) (v : ℕ) → n ≤ v → nat (over n f before) v ≡ nat before v
-over-beyond f n before v h =
-    let s : n + (v - n) ≡ v = omega arith in
-    ap (nat (over n f before)) (sym s) ∙ sym (getD-drop n (over n f before) (v - n) 0)
-    ∙ ap (λ l. nat l (v - n)) (drop-at (below f n) (drop n before) n (length-below f n)) ∙ getD-drop n before (v - n) 0 ∙ ap (nat before) s
 
 -- no more links than inputs
 count-le : (all : Bool) (kinds counts : List ℕ) (maker : ℕ) → linkCount all kinds counts maker ≤ ofMaker maker counts
@@ -154,7 +147,7 @@ module _ (t : Tables) (F : Formed t) where
         stop-in v l = rw es (over-at stop (t .n) s₀ v 0 l)
 
         stop-out : (v : ℕ) → t .n ≤ v → nat s v ≡ 0
-        stop-out v h = rw es (over-beyond stop (t .n) s₀ v h ∙ S .at v)
+        stop-out v h = rw es (over-out stop (t .n) s₀ v 0 h ∙ S .at v)
 
         inside : (v : ℕ) (c : Bool) → ltb v (t .n) ≡ c → nat s v ≤ length (t .vars)
         inside v true e =
