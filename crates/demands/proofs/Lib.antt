@@ -5,5 +5,5 @@ pub mod Two
 pub mod Three
 pub mod Logs
 pub mod Planners
-pub mod NotAllowed
 pub mod Reasons
+pub mod NotAllowed

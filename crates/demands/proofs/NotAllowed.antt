@@ -13,9 +13,10 @@ use Rattle.paper.specs.Net.{Values, runs}
 use Rattle.paper.specs.Tables.{Tables, lent, rowOf}
 use Rattle.paper.specs.Chains.{groupNumber, determined}
 use Rattle.paper.specs.Checks.{accepted}
-use Rattle.paper.specs.Log.{logIn, logged}
-use Rattle.paper.specs.Calls.{Accepted, Refused, numberOf, BuildLent, BuildLeft, buildVerdict, build, Model, Tried, TrialLeft, trialVerdict, trial, Kept, KeepLeft, keepVerdict, storedValues, keepLeaves, keep, latest, takeVerdict, takeBack}
+use Rattle.paper.specs.Log.{Log, logIn, logged}
+use Rattle.paper.specs.Calls.{Session, Accepted, Refused, numberOf, BuildLent, BuildLeft, buildVerdict, build, Model, Tried, TrialLeft, trialVerdict, trial, Kept, KeepLeft, keepVerdict, storedValues, keepLeaves, keep, latest, takeVerdict, takeBack}
 use Rattle.paper.specs.Demands.{Call, State, modelOf, old, renewed, restored}
+use Rattle.paper.specs.ReasonRuns.{Reasoning, ReasonState, roomy}
 use Rattle.worked.specs.Runs.{building, modelA, startA, zeros, zerosZ, ones}
 use Rattle.paper.proofs.Buffers.{over-at}
 use Rattle.paper.proofs.Known.{KeepKnown, keep-known, take-known}
@@ -23,9 +24,11 @@ use Rattle.paper.proofs.Outcomes.{keep-judged, take-judged}
 use Rattle.demands.specs.Stated.{BuildOutcome, leftBuilt, TrialOutcome, leftTried, KeepOutcome, leftKept, TakeOutcome, leftTaken}
 use Rattle.demands.specs.Runs.{ownOf, afterBuild, Run}
 use Rattle.demands.specs.Planners.{handsOn, Keeping}
+use Rattle.demands.specs.Reasons.{BuildTold, builtTold, TrialTold, triedTold, KeepTold, keptTold, ownTold, RunTold}
 use Rattle.demands.specs.Demands.{RunRight}
 use Rattle.demands.proofs.Three.{demand3}
 use Rattle.demands.proofs.Logs.{noted-value}
+use Rattle.demands.proofs.Reasons.{room-first, reason-demand}
 
 -- ── keeps and a taking back after a build ──
 abbrev rows : List ℕ × List ℤ
@@ -217,3 +220,18 @@ module _ {b : BuildLent} (start : BuildOutcome b) (room : List ℕ × List ℤ) 
       → numberOf (leftTried o .answer) ≡ 0 → numberOf (leftTried o′ .answer) ≡ 0 → (i : ℕ) → i < c .asked → i < c′ .asked
       → (renewed b room cs (c .move) (nat (c .askedVars) i) ≡ renewed b room cs (c′ .move) (nat (c′ .askedVars) i) → ⊥) → o .results ≡ o′ .results → ⊥
   same-trial c c′ o o′ z z′ i k k′ moves same = moves (sym (result-at c o z i k) ∙ ap (λ row. getD row i (pos 0)) same ∙ result-at c′ o′ z′ i k′)
+
+-- ── calls with reasons ──
+-- a trial that gives the right reasons and 0 for every result, where the fresh value of what is asked is not 0; after any run
+pub zero-results : {b : BuildLent} {first : List ℕ} (start : BuildTold b first) (room : List ℕ × List ℤ) → numberOf (builtTold start .answer) ≡ 0
+    → (rs : List Reasoning) (now : ReasonState) → RunTold start room rs now
+    → (c : Tried) (why : List ℕ) (o : TrialTold (now .state .session) (modelOf (now .state) (ownTold start room)) (now .reasons) c why) → numberOf (triedTold o .answer) ≡ 0
+    → (i : ℕ) → i < c .asked → (renewed b room (roomy b first room rs) (c .move) (nat (c .askedVars) i) ≡ pos 0 → ⊥) → getD (o .results) i (pos 0) ≡ pos 0 → ⊥
+zero-results {b} {first} start room ok rs now r c why o z i low differs zero =
+    differs (sym (ap (λ row. getD row i (pos 0)) (reason-demand b first start room ok rs now r .trial-accepted c why o z .results)
+    ∙ over-at (λ j. renewed b room (roomy b first room rs) (c .move) (nat (c .askedVars) j)) (c .asked) (c .results) i (pos 0) low) ∙ zero)
+
+-- a keep that is refused and clears its reasons, where one of them is not 0
+pub cleared-reasons : (s : Session) (g : Log) (w : Model) (lent : List ℕ) (c : Kept) (o : KeepTold s g w lent c) → (numberOf (keptTold o .answer) ≡ 0 → ⊥)
+    → (v : ℕ) → (nat lent v ≡ 0 → ⊥) → nat (o .reasons) v ≡ 0 → ⊥
+cleared-reasons s g w lent c o wrong v some zero = some (ap (λ row. nat row v) (sym (room-first .keep-refused s g w lent c o wrong)) ∙ zero)
