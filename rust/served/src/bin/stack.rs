@@ -1,5 +1,6 @@
-//! Measures the least stack on which the proved engine answers each call on the deepest models, in steps of 16 KiB:
-//! `cargo run --release --bin stack`. The stack is the whole program's, which has a few KiB of its own.
+//! Measures the least stack on which the proved engine answers each call on the deepest models, chains and rings of
+//! 4,095 rows, in steps of 16 KiB: `cargo run --release --bin stack`. The stack is the whole program's, which has a few
+//! KiB of its own.
 
 use std::ops::Range;
 
@@ -15,12 +16,25 @@ const LEAST: usize = 128 << 10;
 
 fn main() {
     println!("KiB of stack for the deepest models, on {}:", std::env::consts::ARCH);
-    let models: Vec<_> = models().iter().chain(&rings()).map(|model| calls(&Second, model)).collect();
-    for which in 0..models[0].len() {
-        let name = models[0][which].0;
-        let cases: Vec<&Case> = models.iter().map(|calls| &calls[which].1).collect();
-        println!("{name:<8} {:>5}", least(LEAST / STEP..STACK / STEP + 1, &cases) * STEP / 1024);
+    println!("{:<14} {:>5} {:>5}", "", "chain", "ring");
+    let [chains, rings] = [models(), rings()].map(|models| models.iter().map(|model| calls(&Second, model)).collect());
+    for which in 0..calls(&Second, &models()[0]).len() {
+        println!("{:<14} {:>5} {:>5}", named(&chains, which), least_of(&chains, which), least_of(&rings, which));
     }
+}
+
+/// Every call on each of some models, by name.
+type Calls = Vec<[(&'static str, Case); 13]>;
+
+/// The name of a call.
+fn named(models: &Calls, which: usize) -> &'static str {
+    models[0][which].0
+}
+
+/// The least stack on which a call is answered on all models, in KiB.
+fn least_of(models: &Calls, which: usize) -> usize {
+    let cases: Vec<&Case> = models.iter().map(|calls| &calls[which].1).collect();
+    least(LEAST / STEP..STACK / STEP + 1, &cases) * STEP / 1024
 }
 
 /// The least number of steps in a range on which all cases are answered.
