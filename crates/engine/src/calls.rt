@@ -4,7 +4,9 @@ ghost use Rattle.paper.specs.Log.{logIn};
 ghost use Rattle.fits.specs.Lent.{toBuild, toModel, toTry, toKeep};
 ghost use Rattle.records.specs.Left.{recordIn, leftByBuild, leftByTrial, leftByKeep};
 ghost use Rattle.paper.specs.Reasoned.{withReasons, buildReasoned, trialReasoned, keepReasoned, takeReasoned};
-use crate::counters::set_counts;
+use crate::counters::set_blanks;
+use crate::counters::set_evaluations;
+use crate::counters::set_kept;
 use records::Session;
 use storing::build_reasoned;
 use storing::keep_reasoned;
@@ -61,12 +63,9 @@ pub fn build(
         reasons,
         log_sizes,
     );
-    set_counts(
-        session,
-        done.session.kept,
-        done.session.evaluations,
-        done.session.blanks,
-    );
+    set_kept(session, done.session.kept);
+    set_evaluations(session, done.session.evaluations);
+    set_blanks(session, done.session.blanks);
     done.answer
 }
 
@@ -135,12 +134,9 @@ pub fn trial(
         flags,
         why,
     );
-    set_counts(
-        session,
-        done.session.kept,
-        done.session.evaluations,
-        done.session.blanks,
-    );
+    set_kept(session, done.session.kept);
+    set_evaluations(session, done.session.evaluations);
+    set_blanks(session, done.session.blanks);
     done.answer
 }
 
@@ -203,12 +199,9 @@ pub fn keep(
         log_vars,
         log_values,
     );
-    set_counts(
-        session,
-        done.session.kept,
-        done.session.evaluations,
-        done.session.blanks,
-    );
+    set_kept(session, done.session.kept);
+    set_evaluations(session, done.session.evaluations);
+    set_blanks(session, done.session.blanks);
     done.answer
 }
 
@@ -265,11 +258,8 @@ pub fn take_back(
         log_vars,
         log_values,
     );
-    set_counts(
-        session,
-        done.session.kept,
-        done.session.evaluations,
-        done.session.blanks,
-    );
+    set_kept(session, done.session.kept);
+    set_evaluations(session, done.session.evaluations);
+    set_blanks(session, done.session.blanks);
     done.answer
 }
