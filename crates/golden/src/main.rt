@@ -1,10 +1,28 @@
 // The golden runs: what `values` prints for each file that the arguments name, and then what `reasons` does, under the file's name.
+ghost use Rattle.io.specs.Counts.{Counts};
 use libc::STDOUT_FILENO;
+use report::build_file;
+use tables::Answer;
+
+// The text for a file, with reasons or without, in front of the buffer, and how many bytes it has.
+fn put_text(reasons: bool, file: &[u8], out: &mut [u8; 98304]) -> usize
+    ensures { λ r. ⌜ Counts r (now (out .exit)) ⌝ }
+{
+    let mut numbers = [0u16; 4096];
+    let mut stored = [0i32; 4096];
+    let mut row = [0u8; 4096];
+    let built = build_file(file, &mut numbers, &mut stored, &mut row);
+    let answer = built.answer;
+    let Answer::Refused { number, place } = answer else {
+        return text::lines(reasons, built.n, &numbers, &stored, &row, out);
+    };
+    text::refusal(number, place, out)
+}
 
 // Prints the text for a file, with reasons or without.
 fn show_text(reasons: bool, file: &[u8]) {
     let mut out = [0u8; 98304];
-    let k = report::show(reasons, file, &mut out);
+    let k = put_text(reasons, file, &mut out);
     io::write_all(STDOUT_FILENO, &out[..k]);
 }
 

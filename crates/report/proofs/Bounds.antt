@@ -34,8 +34,7 @@ use Rattle.paper.proofs.Reason.{at-most-5}
 use Rattle.paper.proofs.Ranges.{good, formula-good}
 use Rattle.text.specs.Lines.{refusal}
 use Rattle.text.proofs.Lengths.{lines-length, refusal-length}
-use Rattle.saying.specs.Said.{said}
-use Rattle.report.specs.Printed.{fresh, ofTables, ofRead, empty, printed}
+use Rattle.report.specs.Printed.{fresh, ofTables, ofRead, ofFile, FileLeft, unbuilt, empty, said, textOf, printed}
 
 -- ── values ──
 good-near : (z : ℤ) → good z ≡ true → natAbs z ≤ 2147483648
@@ -121,8 +120,8 @@ module _ (reasons : Bool) (b : BuildLent) (row : List ℕ) (from : (v : ℕ) →
       go (refused number place) e = let h = refusal-length number place in omega arith
 
 -- ── the text of a file ──
-module _ (reasons : Bool) (file : List ℕ) (t₀ : Tables) (starts₀ : List ℤ) where
-  read-length : length (ofRead reasons (read file t₀ starts₀)) ≤ 90112
+module _ (reasons : Bool) (file : List ℕ) (t₀ : Tables) (starts₀ : List ℤ) (numbers : List ℕ) (stored : List ℤ) (row : List ℕ) where
+  read-length : length (textOf reasons (ofRead numbers stored row (read file t₀ starts₀))) ≤ 90112
   unfolding ofTables
   read-length = go (readVerdictAs version1 file (plain t₀ starts₀))
     where
@@ -135,15 +134,18 @@ module _ (reasons : Bool) (file : List ℕ) (t₀ : Tables) (starts₀ : List �
       after : Verdict → Contents
       after u = leaves u (laidAs file (nIn file) (mIn file) (eIn file) version1 (plain t₀ starts₀)) (countedAs 0 0 0 (plain t₀ starts₀))
 
-      go : (u : Verdict) → length (ofRead reasons (u, (after u .tables, after u .starts))) ≤ 90112
-      go accepted = built-length reasons (fresh _ _) _ from
+      go : (u : Verdict) → length (textOf reasons (ofRead numbers stored row (u, (after u .tables, after u .starts)))) ≤ 90112
+      go accepted = built-length reasons (fresh _ _ numbers stored) row from
       go (refused number place) = let h = refusal-length number place in omega arith
 
 pub printed-length : (reasons : Bool) (file : List ℕ) → length (printed reasons file) ≤ 98304
-unfolding printed
-printed-length reasons file = go (ltb 65536 (length file)) (read-length reasons file empty (replicate 4096 (pos 0)))
+unfolding printed ofFile
+printed-length reasons file = go (ltb 65536 (length file)) (read-length reasons file empty (replicate 4096 (pos 0)) (replicate 4096 0) (replicate 4096 (pos 0)) (replicate 4096 0))
   where
-    go : (b : Bool) → length (ofRead reasons (read file empty (replicate 4096 (pos 0)))) ≤ 90112
-        → length (cond b (refusal 1 0) (ofRead reasons (read file empty (replicate 4096 (pos 0))))) ≤ 98304
+    left : FileLeft
+    left = ofRead (replicate 4096 0) (replicate 4096 (pos 0)) (replicate 4096 0) (read file empty (replicate 4096 (pos 0)))
+
+    go : (b : Bool) → length (textOf reasons left) ≤ 90112
+        → length (textOf reasons (cond b (unbuilt (replicate 4096 0) (replicate 4096 (pos 0)) (replicate 4096 0) 1 0) left)) ≤ 98304
     go true h = let l = refusal-length 1 0 in omega arith
     go false h = omega arith

@@ -1,45 +1,26 @@
--- The text that is printed for a model file, with the reasons of blanks or without. Assumes nothing.
+-- What building a model file leaves, and the text that is printed of it, with the reasons of blanks or without. Assumes nothing.
 use Prim.Native.Nat.{ℕ}
 use mathlib.Core.Bool.{Bool, cond}
-use mathlib.Core.List.{List, []}
+use mathlib.Core.List.{List}
 use lib.Dec.{ltb}
 use lib.IntN.{ℤ, pos}
 use lib.ListN.{length, replicate}
 use Rattle.paper.specs.Tables.{Tables, lent, indexIn}
 use Rattle.paper.specs.Checks.{Verdict, accepted, refused, boundsIn, lowest, highest}
-use Rattle.paper.specs.Calls.{BuildLent}
+use Rattle.paper.specs.Calls.{Answer, Accepted, Refused, BuildLent}
 use Rattle.paper.specs.Reasoned.{buildReasoned}
 use Rattle.paper.specs.File.{read}
-use Rattle.headers.specs.declared.Reading.{Reading}
-use Rattle.headers.specs.declared.Reading.the-variants as reading
-use Rattle.text.specs.Lines.{refusal}
-use Rattle.saying.specs.Said.{said}
+use Rattle.records.specs.Left.{answerIn}
+use Rattle.text.specs.Lines.{lines, refusal}
+use Rattle.report.specs.declared.Built.{Built}
 
--- what build is lent: the tables and start values that a file held, and rows of zeros to fill
-abbrev pub fresh : Tables → List ℤ → BuildLent
-fresh t starts = record {
-  session = record { kept = 0; evaluations = 0; blanks = 0 };
-  tables = t;
-  bounds = boundsIn (replicate 4096 lowest) (replicate 4096 highest);
-  starts = starts;
-  numbers = replicate 4096 0;
-  order = replicate 4096 0;
-  stored = replicate 4096 (pos 0);
-  index = indexIn (replicate 4097 0) (replicate 16384 0);
-  logSizes = replicate 65 0;
-}
-
--- the text for tables and start values: what is said of what build leaves of them, and of the reasons in a row that was zeros
-unfoldable pub ofTables : Bool → Tables → List ℤ → List ℕ
-ofTables reasons t starts =
-    let built = buildReasoned (fresh t starts) (replicate 4096 0) in
-    let left = built .left in
-    said reasons (left .answer) (t .n) (left .numbers) (left .stored) (built .reasons)
-
--- the text for what reading gave: the refusal line, or the text for what the file held
-abbrev pub ofRead : Bool → Verdict × (Tables × List ℤ) → List ℕ
-ofRead reasons (accepted, (t, starts)) = ofTables reasons t starts
-ofRead reasons (refused number place, left) = refusal number place
+-- what building a file leaves: the answer, how many variables the file holds, their topological numbers and values, and the reasons
+pub record FileLeft : Type 0 where
+  pub answer : Answer
+  pub n : ℕ
+  pub numbers : List ℕ
+  pub stored : List ℤ
+  pub reasons : List ℕ
 
 -- the rows of zeros that a file is laid over
 abbrev pub empty : Tables
@@ -47,11 +28,55 @@ empty =
     lent 0 0 0 (replicate 4096 0) (replicate 4096 0) (replicate 4096 (pos 0)) (replicate 4096 0) (replicate 4096 0)
     (replicate 16384 0) (replicate 16384 (pos 0))
 
--- the text for a file: one of more than 65,536 bytes is refused before any other check
-unfoldable pub printed : Bool → List ℕ → List ℕ
-printed reasons file = cond (ltb 65536 (length file)) (refusal 1 0) (ofRead reasons (read file empty (replicate 4096 (pos 0))))
+-- what build is lent: the tables and start values that a file held, full bounds, rows for numbers and values, and else rows of zeros to fill
+abbrev pub fresh : Tables → List ℤ → List ℕ → List ℤ → BuildLent
+fresh t starts numbers stored = record {
+  session = record { kept = 0; evaluations = 0; blanks = 0 };
+  tables = t;
+  bounds = boundsIn (replicate 4096 lowest) (replicate 4096 highest);
+  starts = starts;
+  numbers = numbers;
+  order = replicate 4096 0;
+  stored = stored;
+  index = indexIn (replicate 4097 0) (replicate 16384 0);
+  logSizes = replicate 65 0;
+}
 
--- the refusal line of an answer of a call that reads, nothing if it is accepted
-abbrev pub refusalOf : Reading → List ℕ
-refusalOf (reading.Accepted n m e) = []
-refusalOf (reading.Refused number place) = refusal number place
+-- ── what building leaves in rows that are lent for numbers, values and reasons ──
+module _ (numbers : List ℕ) (stored : List ℤ) (reasons : List ℕ) where
+  -- of tables and start values: what build leaves of them
+  unfoldable pub ofTables : Tables → List ℤ → FileLeft
+  ofTables t starts =
+      let built = buildReasoned (fresh t starts numbers stored) reasons in
+      let left = built .left in
+      record { answer = left .answer; n = t .n; numbers = left .numbers; stored = left .stored; reasons = built .reasons }
+
+  -- of a file that is not built: the refusal, and the rows as they were
+  abbrev pub unbuilt : ℕ → ℕ → FileLeft
+  unbuilt number place = record { answer = Refused number place; n = 0; numbers = numbers; stored = stored; reasons = reasons }
+
+  -- of what reading gave: the refusal, or what build leaves of what the file held
+  abbrev pub ofRead : Verdict × (Tables × List ℤ) → FileLeft
+  ofRead (accepted, (t, starts)) = ofTables t starts
+  ofRead (refused number place, left) = unbuilt number place
+
+  -- of a file: one of more than 65,536 bytes is refused before any other check
+  unfoldable pub ofFile : List ℕ → FileLeft
+  ofFile file = cond (ltb 65536 (length file)) (unbuilt 1 0) (ofRead (read file empty (replicate 4096 (pos 0))))
+
+-- the same of what the code gives: its answer, and the rows after it
+abbrev pub leftByFile : Built → List ℕ → List ℤ → List ℕ → FileLeft
+leftByFile r numbers stored reasons = record { answer = answerIn (r .answer); n = r .n; numbers = numbers; stored = stored; reasons = reasons }
+
+-- ── the text ──
+-- what is said of an answer: the refusal line, or the list of what build left, with the reasons or without
+abbrev pub said : Bool → Answer → ℕ → List ℕ → List ℤ → List ℕ → List ℕ
+said reasons (Accepted evaluations) n numbers stored row = lines reasons n numbers stored row
+said reasons (Refused number place) n numbers stored row = refusal number place
+
+abbrev pub textOf : Bool → FileLeft → List ℕ
+textOf reasons left = said reasons (left .answer) (left .n) (left .numbers) (left .stored) (left .reasons)
+
+-- the text for a file: what is said of what building it leaves in rows of zeros
+unfoldable pub printed : Bool → List ℕ → List ℕ
+printed reasons file = textOf reasons (ofFile (replicate 4096 0) (replicate 4096 (pos 0)) (replicate 4096 0) file)

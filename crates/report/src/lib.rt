@@ -1,39 +1,38 @@
-// What the programs print for a model file: the refusal line if it is refused, and otherwise the list of its variables, with the reasons of
-// blanks or without.
-ghost use mathlib.Core.List.{_++_};
+// A model file read and built: what the programs print is what build answers, and what it leaves in the rows that they lend.
 ghost use mathlib.Core.Path.{_≡_};
-ghost use lib.ListN.{length, drop};
-ghost use Rattle.io.specs.Counts.{Counts};
 ghost use Rattle.paper.specs.Tables.{lent};
-ghost use Rattle.report.specs.Printed.{ofTables, printed, refusalOf};
-ghost use Rattle.buffers.specs.Buffer.{Shows};
+ghost use Rattle.report.specs.Printed.{leftByFile, ofTables, ofFile};
 use bounds::HIGHEST;
 use bounds::LOWEST;
 use headers::Reading;
 use records::Session;
-use saying::say_built;
 use storing::build_reasoned;
+use tables::Answer;
 
-// The refusal line of a file that is not read; one that is read has none.
-fn show_unread(told: Reading, out: &mut [u8]) -> usize
-    ensures { λ r. ⌜ Counts r (now (out .exit)) ⌝ }
-    ensures { λ r. ⌜ Shows (refusalOf told) (now (out .entry)) (now (out .exit)) r ⌝ }
-{
-    let Reading::Refused { number, place } = told else {
-        return 0;
-    };
-    text::refusal(number, place, out)
+// What building a file comes to: build's answer, or the refusal of a file that is not read, and how many variables the file holds, 0 if it is
+// not read.
+pub struct Built {
+    pub answer: Answer,
+    pub n: usize,
 }
 
-// The text for a file, with reasons or without: it stands whole in front of the buffer, which holds every text, and the answer is how many
-// bytes it has. A file of more than 65,536 bytes is refused before any other check.
-pub fn show(reasons: bool, file: &[u8], out: &mut [u8; 98304]) -> usize
-    ensures { λ r. ⌜ Counts r (now (out .exit)) ⌝ }
-    ensures { λ r. ⌜ r ≡ length (printed reasons (now (file .entry))) ⌝ }
-    ensures { λ r. ⌜ now (out .exit) ≡ printed reasons (now (file .entry)) ++ drop r (now (out .entry)) ⌝ }
+// What a file that is not read comes to.
+fn unread(number: u32, place: u32) -> Built
+    ensures { λ r. ⌜ (r .answer ≡ Answer.Refused number place) × (r .n ≡ 0) ⌝ }
+{
+    Built {
+        answer: Answer::Refused { number, place },
+        n: 0,
+    }
+}
+
+// Reads a file and builds what it holds, with full bounds: topological numbers, values and reasons are left in the lent rows. A file of more
+// than 65,536 bytes is refused before any other check.
+pub fn build_file(file: &[u8], numbers: &mut [u16], stored: &mut [i32], reasons: &mut [u8]) -> Built
+    ensures { λ r. ⌜ leftByFile r (now (numbers .exit)) (now (stored .exit)) (now (reasons .exit)) ≡ ofFile (now (numbers .entry)) (now (stored .entry)) (now (reasons .entry)) (now (file .entry)) ⌝ }
 {
     if 65536 < file.len() {
-        return text::refusal(1, 0, out);
+        return unread(1, 0);
     }
     let mut starts = [0i32; 4096];
     let mut kinds = [0u16; 4096];
@@ -54,29 +53,29 @@ pub fn show(reasons: bool, file: &[u8], out: &mut [u8; 98304]) -> usize
         &mut vars,
         &mut coefs,
     );
-    let Reading::Accepted { n, m, e } = told else {
-        return show_unread(told, out);
-    };
-    list_built(
-        reasons,
-        n,
-        m,
-        e,
-        &kinds,
-        &makes,
-        &params,
-        &firsts,
-        &counts,
-        &vars,
-        &coefs,
-        &starts,
-        out,
-    )
+    match told {
+        Reading::Accepted { n, m, e } => build_tables(
+            n,
+            m,
+            e,
+            &kinds,
+            &makes,
+            &params,
+            &firsts,
+            &counts,
+            &vars,
+            &coefs,
+            &starts,
+            numbers,
+            stored,
+            reasons,
+        ),
+        Reading::Refused { number, place } => unread(number, place),
+    }
 }
 
-// The text for tables that a file held: build's refusal, or the list of what it left, with reasons or without.
-fn list_built(
-    reasons: bool,
+// Builds the tables and start values that a file held.
+fn build_tables(
     n: usize,
     m: usize,
     e: usize,
@@ -88,19 +87,22 @@ fn list_built(
     vars: &[u16],
     coefs: &[i16],
     starts: &[i32],
-    out: &mut [u8],
-) -> usize
-    ensures { λ r. ⌜ Counts r (now (out .exit)) ⌝ }
-    ensures { λ r. ⌜ Shows (ofTables reasons (lent n m e (now (kinds .entry)) (now (makes .entry)) (now (params .entry)) (now (firsts .entry)) (now (counts .entry)) (now (vars .entry)) (now (coefs .entry))) (now (starts .entry))) (now (out .entry)) (now (out .exit)) r ⌝ }
+    numbers: &mut [u16],
+    stored: &mut [i32],
+    reasons: &mut [u8],
+) -> Built
+    ensures { λ r. ⌜
+        leftByFile r (now (numbers .exit)) (now (stored .exit)) (now (reasons .exit))
+        ≡ ofTables (now (numbers .entry)) (now (stored .entry)) (now (reasons .entry))
+        (lent n m e (now (kinds .entry)) (now (makes .entry)) (now (params .entry)) (now (firsts .entry)) (now (counts .entry)) (now (vars .entry)) (now (coefs .entry)))
+        (now (starts .entry))
+        ⌝ }
 {
     let lows = [LOWEST; 4096];
     let highs = [HIGHEST; 4096];
-    let mut numbers = [0u16; 4096];
     let mut order = [0u16; 4096];
-    let mut stored = [0i32; 4096];
     let mut reader_starts = [0u16; 4097];
     let mut reader_places = [0u16; 16384];
-    let mut row = [0u8; 4096];
     let mut log_sizes = [0u16; 65];
     let done = build_reasoned(
         Session {
@@ -121,14 +123,14 @@ fn list_built(
         &lows,
         &highs,
         starts,
-        &mut numbers,
+        numbers,
         &mut order,
-        &mut stored,
+        stored,
         &mut reader_starts,
         &mut reader_places,
-        &mut row,
+        reasons,
         &mut log_sizes,
     );
     let answer = done.answer;
-    say_built(answer, reasons, n, &numbers, &stored, &row, out)
+    Built { answer, n }
 }
