@@ -71,11 +71,11 @@ pub outcome-typed : {M : Type 1} {𝓤 : URA M} {H : Heap 𝓤} {A : Atoms 𝓤}
 outcome-typed {𝓤 = 𝓤} {H = H} {A = A} W out u is = LL.lawful O.the-type O′.the-laws 𝓤 H A W .typed out _ is .0
 
 -- x is what the call beneath leaves, and r its answer in numbers
-pub put-out : {Left Rest : Type 0} (out : Left → Outcome × Rest) {x left : Left} {r : Outcome} → r ≡ out x .0 → x ≡ left → _≡_ {A = Outcome × Rest} (r, out x .1) (out left)
+pub put-out : {Left Out Rest : Type 0} (out : Left → Out × Rest) {x left : Left} {r : Out} → r ≡ out x .0 → x ≡ left → _≡_ {A = Out × Rest} (r, out x .1) (out left)
 put-out out {x} e f = ap (λ z. (z, out x .1)) e ∙ ap out f
 
 -- the same of what two contracts ensure
-pub said-out : {M : Type 1} (𝓤 : URA M) {Left Rest : Type 0} (out : Left → Outcome × Rest) {x left : Left} {r : Outcome} → r ≡ out x .0
-    → ent 𝓤 (fact 𝓤 (x ≡ left)) (fact 𝓤 (_≡_ {A = Outcome × Rest} (r, out x .1) (out left)))
-said-out 𝓤 {Left} {Rest} out {x} {left} {r} e =
-    fact-use 𝓤 (x ≡ left) (id⊢ 𝓤 (fact 𝓤 (x ≡ left))) (λ f. factI 𝓤 (_≡_ {A = Outcome × Rest} (r, out x .1) (out left)) (fact 𝓤 (x ≡ left)) (put-out out e f))
+pub said-out : {M : Type 1} (𝓤 : URA M) {Left Out Rest : Type 0} (out : Left → Out × Rest) {x left : Left} {r : Out} → r ≡ out x .0
+    → ent 𝓤 (fact 𝓤 (x ≡ left)) (fact 𝓤 (_≡_ {A = Out × Rest} (r, out x .1) (out left)))
+said-out 𝓤 {Left} {Out} {Rest} out {x} {left} {r} e =
+    fact-use 𝓤 (x ≡ left) (id⊢ 𝓤 (fact 𝓤 (x ≡ left))) (λ f. factI 𝓤 (_≡_ {A = Out × Rest} (r, out x .1) (out left)) (fact 𝓤 (x ≡ left)) (put-out out e f))

@@ -1,3 +1,4 @@
 pub mod Answered
+pub mod Figured
 pub mod Read
 pub mod Moved

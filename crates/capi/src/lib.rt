@@ -1,18 +1,24 @@
 // The calls for C and Rust. Each states what the call beneath it states.
+mod batch;
 mod bounded;
 mod build;
+mod departures;
 mod file;
+mod inputs;
 mod keep;
 mod saving;
 mod take_back;
 mod trial;
 mod versions;
 
+pub use batch::lukhandro_figures;
 pub use bounded::lukhandro_read_bounded;
 pub use bounded::lukhandro_write_bounded;
 pub use build::lukhandro_build;
+pub use departures::lukhandro_departures;
 pub use file::lukhandro_read;
 pub use file::lukhandro_write;
+pub use inputs::lukhandro_inputs_of_row;
 pub use keep::lukhandro_keep;
 pub use saving::lukhandro_salvage;
 pub use take_back::lukhandro_take_back;
@@ -44,6 +50,29 @@ pub struct SalvageOutcome {
 // What a move of a file from one version to the other answers: 0 and place 0 if accepted, and then how long the new file is.
 #[repr(C)]
 pub struct MoveOutcome {
+    pub number: u32,
+    pub place: u32,
+    pub length: usize,
+}
+
+// What a batch in figures answers: 0 and place 0 if accepted, and then how many results are blank, the least, the greatest and the sum of those that
+// have a value, and the evaluations by each of the three routes.
+#[repr(C)]
+pub struct FiguresOutcome {
+    pub number: u32,
+    pub place: u32,
+    pub blank: u32,
+    pub least: i32,
+    pub greatest: i32,
+    pub sum: i64,
+    pub first: u32,
+    pub second: u32,
+    pub third: u32,
+}
+
+// What a departure board answers: 0 and place 0 if accepted, and then how long the list is.
+#[repr(C)]
+pub struct ListOutcome {
     pub number: u32,
     pub place: u32,
     pub length: usize,

@@ -1,13 +1,25 @@
--- The two tests together are those that guard the part in the paper (`asked`); past them the part is the row's. Assumes nothing.
-use Prim.Native.Nat.{_<_}
-use mathlib.Core.Bool.{false, true}
-use mathlib.Core.Path.{refl}
+-- The part that is named ends within the lent entries (`within`), and it is cut out where it lies (`very`). Assumes nothing.
+use Prim.Native.Nat.{_+_, _≤_}
+use native.Mathlib.Omega.{arith}
+use mathlib.Core.Path.{ap}
 use lib.ListN.{length}
 use borrow.Author.Needs.{needs}
-use borrow.Author.Tests.{not-true, not-false}
-use Rattle.parts.proofs.Asked.{row-there, part-inside, asked, very}
+use Rattle.parts.specs.declared.Part.{Part}
+use Rattle.parts.proofs.Asked.{within, very}
 use Rattle.parts.proofs.inputs_of_row.Statement.{statement}
 use Rattle.parts.proofs.inputs_of_row.Tie as tie
+
+part-of-row-requires : tie.Need-part-of-row-requires
+part-of-row-requires c κs = search needs
+
+ends : (c : tie.After-struct-known) → let r = c .before .part-of-row .result in r .first + r .count ≤ length (c .before .before .before .before .before .args .vars .now)
+ends c = let a = c .before .before .before .before .before .args in within (a .m) (a .e) (a .firsts .now) (a .counts .now) (a .vars .now) (a .row) _ (c .before .part-of-row .ensures)
+
+add-end : tie.Need-add-end
+add-end c = let h = ends c in search needs
+
+mul-result : tie.Need-mul-result
+mul-result c = let h = ends c in search needs
 
 sub-result : tie.Need-sub-result
 sub-result c = search needs
@@ -16,97 +28,10 @@ part-result-start : tie.Need-part-result-start
 part-result-start c = search needs
 
 part-result-end : tie.Need-part-result-end
-part-result-end c = search needs
+part-result-end c = ends c
 
 returns : tie.Need-returns
-returns c =
-    let a = c .before .before .before .before .before .args in
-    very (a .vars) 0 0 _ (asked (a .m) (a .e) (a .firsts .now) (a .counts .now) (a .vars .now) (a .row) _ _ refl refl false _ (not-true _ (c .before .if1 .taken)) refl)
-
-there : (c : tie.Else1) → let a = c .before .before .before .before .args in (a .row < length (a .firsts .now)) × (a .row < length (a .counts .now))
-there c =
-    let a = c .before .before .before .before .args in
-    row-there (a .m) (a .e) (a .firsts .now) (a .counts .now) (a .vars .now) (a .row) (not-false _ (c .if1 .left))
-
-mul-wide : tie.Need-mul-wide
-mul-wide c = let h = there c in search needs
-
-shared-slice-read-wide : tie.Need-shared-slice-read-wide
-shared-slice-read-wide c = there (c .before) .0
-
-wide-requires : tie.Need-wide-requires
-wide-requires c κs = search needs
-
-mul-wide-2 : tie.Need-mul-wide-2
-mul-wide-2 c = let h = there (c .before .before) in search needs
-
-shared-slice-read-wide-2 : tie.Need-shared-slice-read-wide-2
-shared-slice-read-wide-2 c = there (c .before .before .before) .1
-
-wide-requires-2 : tie.Need-wide-requires-2
-wide-requires-2 c κs = search needs
-
-add-end : tie.Need-add-end
-add-end c = search needs
-
-sub-result-2 : tie.Need-sub-result-2
-sub-result-2 c = search needs
-
-part-result-start-2 : tie.Need-part-result-start-2
-part-result-start-2 c = search needs
-
-part-result-end-2 : tie.Need-part-result-end-2
-part-result-end-2 c = search needs
-
-returns-2 : tie.Need-returns-2
-returns-2 c =
-    let a = c .before .before .before .before .before .before .before .before .before .before .args in
-    very (a .vars) 0 0 _
-    (asked (a .m) (a .e) (a .firsts .now) (a .counts .now) (a .vars .now) (a .row) _ _ (c .before .before .before .before .wide .ensures .0) (c .before .before .wide2 .ensures .0)
-    true false (not-false _ (c .before .before .before .before .before .before .if1 .left)) (not-true _ (c .before .if2 .taken)))
-
-mul-result : tie.Need-mul-result
-mul-result c = search needs
-
-sub-result-3 : tie.Need-sub-result-3
-sub-result-3 c = search needs
-
-part-result-start-3 : tie.Need-part-result-start-3
-part-result-start-3 c = search needs
-
-part-result-end-3 : tie.Need-part-result-end-3
-part-result-end-3 c =
-    let a = c .before .before .before .before .before .before .before .before .before .args in
-    part-inside (a .m) (a .e) (a .firsts .now) (a .counts .now) (a .vars .now) (a .row) _ (not-false _ (c .if2 .left))
-
-returns-3 : tie.Need-returns-3
-returns-3 c =
-    let a = c .before .before .before .before .before .before .before .before .before .before .args in
-    very (a .vars) _ _ _
-    (asked (a .m) (a .e) (a .firsts .now) (a .counts .now) (a .vars .now) (a .row) _ _ (c .before .before .before .before .wide .ensures .0) (c .before .before .wide2 .ensures .0)
-    true true (not-false _ (c .before .before .before .before .before .before .if1 .left)) (not-false _ (c .before .if2 .left)))
+returns c = let r = c .before .before .part-of-row in very (c .before .before .before .before .before .before .args .vars) (r .result .first) (r .result .count) _ (ap (λ (p : Part). (p .first, p .count)) (r .ensures))
 
 pub inputs-of-row-spec : {M : Type 1} → statement M
-inputs-of-row-spec =
-    tie.close
-    (tie.spec
-    sub-result
-    part-result-start
-    part-result-end
-    returns
-    mul-wide
-    shared-slice-read-wide
-    wide-requires
-    mul-wide-2
-    shared-slice-read-wide-2
-    wide-requires-2
-    add-end
-    sub-result-2
-    part-result-start-2
-    part-result-end-2
-    returns-2
-    mul-result
-    sub-result-3
-    part-result-start-3
-    part-result-end-3
-    returns-3)
+inputs-of-row-spec = tie.close (tie.spec part-of-row-requires add-end mul-result sub-result part-result-start part-result-end returns)
