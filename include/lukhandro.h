@@ -36,9 +36,17 @@
  *                                                    the other version, for which 163,868 are
  *   list                                             what was not saved: rows of the damaged file, ascending, and then
  *                                                    variables, ascending; m + n places are room for any, and 8,192
+ *   move_pairs                             moves     a batch (0 to 1,000 moves): how many pairs each move has; move_vars
+ *                                                    and move_values then hold the pairs of all moves, one move behind
+ *                                                    the other
+ *   by_number                              22        the moves of a batch, counted: those accepted at place 0, those
+ *                                                    refused with number k at place k
+ *   starts, ends, headways                 windows   of lukhandro_departures: the windows of one trip (0 to 64)
+ *   list                                             of lukhandro_departures: the departures in time order; 2,000 places
+ *                                                    are room for any
  *
- * Parameters stand in groups: record and counts, tables, what build fills, a move, what is asked, what a trial fills,
- * the log. A parameter that joins a group comes at its end, as the index of readers does behind stored and the bounds do
+ * Parameters stand in groups: record and counts, tables, what build fills, a move or the moves of a batch, what is asked,
+ * what a trial or a batch fills, the log. A parameter that joins a group comes at its end, as the index of readers does behind stored and the bounds do
  * behind coefs; reasons stand behind the readers, and why behind flags. The log came last, and its rows stand at the end
  * of the list.
  *
@@ -101,7 +109,7 @@
  *   21 in a model with a closed chain a stored value is not the one worked out afresh from the stored values of the search
  *      variables, or that is not determined; place the least such variable
  * Checks run in ascending number, but 8 and then 19 come before 7, 17 right after 12, 16 before 15, and 21 before 20; of
- * the calls on files 14 comes first, then 18, then 1.
+ * the calls on files 14 comes first, then 18, then 1. lukhandro_departures has refusals of its own, 1 to 5.
  *
  * STACK. On the deepest models, chains of 4,095 rows, a program that makes this call and no other needs a stack of
  *     lukhandro_build                          480 KiB
@@ -168,6 +176,30 @@ typedef struct {
     uint32_t place;  /* 0 if accepted */
     size_t length;   /* bytes of the new file, 0 if refused */
 } lukhandro_move_outcome;
+
+typedef struct {
+    uint32_t number;       /* 0 accepted, else the refusal */
+    uint32_t place;        /* 0 */
+    uint32_t blank;        /* blank results; this, the sum and the evaluations 0 if refused */
+    int32_t least;         /* of the results that are values; LUKHANDRO_BLANK if none is, and if refused */
+    int32_t greatest;      /* likewise */
+    int64_t sum;           /* of the results that are values */
+    uint32_t first;        /* evaluations by route 1 */
+    uint32_t second;       /* evaluations by route 2 */
+    uint32_t third;        /* evaluations by route 3 */
+} lukhandro_figures_outcome;
+
+typedef struct {
+    uint32_t number; /* 0 accepted, else the refusal */
+    uint32_t place;  /* 0 if accepted */
+    size_t length;   /* departures of the list, 0 if refused */
+} lukhandro_list_outcome;
+
+/* A part of the entries: those of vars and coefs from place first to before first + count. */
+typedef struct {
+    size_t first;
+    size_t count;
+} lukhandro_part;
 
 /* Fills numbers, order, stored, the readers and reasons from tables and start values, and empties the log. Refusals 1 to
  * 7, and then 20. */
@@ -299,6 +331,44 @@ lukhandro_move_outcome lukhandro_to_version_2(
  * does going back and up where back is accepted. */
 lukhandro_move_outcome lukhandro_to_version_1(
     const uint8_t *bytes, size_t bytes_length, uint8_t *file, size_t file_length);
+
+/* Tries every move of a batch on the same stored values and a copy of the record, by each of the three routes, and keeps
+ * none: fills by_number, and gives the figures of the accepted moves, whose results are the values of the variable asked
+ * by route 1. The order of the moves changes nothing. A move that is refused is only counted, one whose pairs are not all
+ * lent under 1; a model that trials refuse has every move counted under their number. Refusal 1, place 0: more than 1,000
+ * moves, fewer places of move_pairs than moves, or fewer than 22 of by_number. */
+lukhandro_figures_outcome lukhandro_figures(
+    const lukhandro_session *session, size_t n, size_t m, size_t e,
+    const uint16_t *kinds, size_t kinds_length, const uint16_t *makes, size_t makes_length,
+    const int32_t *params, size_t params_length, const uint16_t *firsts, size_t firsts_length,
+    const uint16_t *counts, size_t counts_length, const uint16_t *vars, size_t vars_length,
+    const int16_t *coefs, size_t coefs_length, const int32_t *lows, size_t lows_length,
+    const int32_t *highs, size_t highs_length, const uint16_t *numbers, size_t numbers_length,
+    const uint16_t *order, size_t order_length, const int32_t *stored, size_t stored_length,
+    const uint16_t *reader_starts, size_t reader_starts_length,
+    const uint16_t *reader_places, size_t reader_places_length,
+    size_t moves, const uint16_t *move_pairs, size_t move_pairs_length,
+    const uint16_t *move_vars, size_t move_vars_length, const int32_t *move_values, size_t move_values_length,
+    uint16_t asked, uint32_t *by_number, size_t by_number_length);
+
+/* Fills the front of list with all departures of one trip's windows in time order: of each window its start, and then one
+ * after each headway, as long as that is before its end. Windows come in any order. Refusals of this call, in this order:
+ *    1 more than 64 windows, or starts, ends or headways with fewer places, place 0
+ *    2 a blank number or a headway of 0 or less, place the least such window
+ *    3 two windows overlap, place the least window that overlaps another: each has its start before its own end and
+ *      before the other's
+ *    4 more than 2,000 departures, place 0
+ *    5 list with fewer places than there are departures, place 0 */
+lukhandro_list_outcome lukhandro_departures(
+    size_t windows, const int32_t *starts, size_t starts_length, const int32_t *ends, size_t ends_length,
+    const int32_t *headways, size_t headways_length, int32_t *list, size_t list_length);
+
+/* The inputs of a row, as the part of the entries that they are: its variables stand from vars + first on. The part is
+ * empty, with both numbers 0, if there is no such row or its part ends after e; so it is where a buffer is too short to
+ * tell. This call looks at nothing else of the tables, and refuses nothing. */
+lukhandro_part lukhandro_inputs_of_row(
+    size_t m, size_t e, const uint16_t *firsts, size_t firsts_length, const uint16_t *counts, size_t counts_length,
+    const uint16_t *vars, size_t vars_length, size_t row);
 
 #ifdef __cplusplus
 }

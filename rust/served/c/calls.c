@@ -11,6 +11,7 @@
 #define H LUKHANDRO_HIGHEST
 #define LOG LENT(log_sizes), LENT(log_vars), LENT(log_values)
 #define MOVE 1, LENT(move_vars), LENT(move_values)
+#define BATCH LENT(move_pairs), LENT(batch_vars), LENT(batch_values)
 
 static uint16_t kinds[3] = {8, 9, 1}, makes[3] = {3, 4, 5}, firsts[3] = {0, 3, 6}, counts[3] = {3, 3, 1};
 static uint16_t vars[7] = {0, 1, 2, 0, 1, 2, 3}, numbers[6], order[3], reader_starts[7], reader_places[7];
@@ -26,6 +27,12 @@ static uint8_t flags[6], bytes[112], file[112], bounded[164];
 /* one place more than asked of each */
 static uint8_t reasons[7] = {9, 9, 9, 9, 9, 9, 9}, why[3] = {8, 8, 8};
 static lukhandro_session session = {9, 9, 9};
+/* four moves, the last of which is refused, and one place more than asked */
+static uint16_t move_pairs[4] = {0, 1, 2, 1}, batch_vars[4] = {1, 1, 2, 3};
+static int32_t batch_values[4] = {28801, 28500, 700, 1};
+static uint32_t by_number[23] = {[22] = 99};
+static int32_t window_starts[2] = {25200, 21600}, window_ends[2] = {28800, 25200}, headways[2] = {600, 1200};
+static int32_t departures[10];
 
 static void print(const char *call, lukhandro_outcome outcome) {
     printf("%s %u %u %u, session %u %u %u, stored", call, outcome.number, outcome.place, outcome.evaluations,
@@ -42,6 +49,27 @@ static void print_saved(lukhandro_salvage_outcome saved) {
 
 static void print_moved(const char *call, lukhandro_move_outcome moved) {
     printf("%s %u %u %zu", call, moved.number, moved.place, moved.length);
+}
+
+static void print_figures(lukhandro_figures_outcome figures) {
+    printf("figures %u %u, %u blank, %d to %d, sum %lld, evaluations %u %u %u, by number", figures.number, figures.place,
+        figures.blank, figures.least, figures.greatest, (long long)figures.sum, figures.first, figures.second,
+        figures.third);
+    for (int number = 0; number < 23; number++) printf(" %u", by_number[number]);
+    printf("\n");
+}
+
+static void print_departures(lukhandro_list_outcome listed) {
+    printf("departures %u %u %zu:", listed.number, listed.place, listed.length);
+    for (int place = 0; place < 10; place++) printf(" %d", departures[place]);
+    printf("\n");
+}
+
+static void print_inputs(size_t row) {
+    lukhandro_part part = lukhandro_inputs_of_row(3, 7, LENT(firsts), LENT(counts), LENT(vars), row);
+    printf("inputs of row %zu from %zu, %zu:", row, part.first, part.count);
+    for (size_t place = 0; place < part.count; place++) printf(" %u", vars[part.first + place]);
+    printf("\n");
 }
 
 static int same(const uint8_t *one, const uint8_t *other, size_t length) {
@@ -120,5 +148,18 @@ int main(void) {
     print_moved("to version 1", lukhandro_to_version_1(LENT(bounded), LENT(file)));
     read = lukhandro_read(LENT(bounded), LENT(starts), TABLES);
     printf("\nread %u %u %u %u %u\n", read.number, read.place, read.n, read.m, read.e);
+    lows[2] = L;
+    print("build", lukhandro_build(&session, 6, 3, 7, TABLES, BOUNDS, LENT(starts), BUILT, LENT(log_sizes)));
+    print_figures(lukhandro_figures(&session, 6, 3, 7, TABLES, BOUNDS, INDEXED, 4, BATCH, 5, LENT(by_number)));
+    print_figures(lukhandro_figures(&session, 6, 3, 7, TABLES, BOUNDS, INDEXED, 4, BATCH, 5, by_number, 21));
+    print_figures(lukhandro_figures(&session, 6, 3, 7, TABLES, BOUNDS, INDEXED, 5, BATCH, 5, LENT(by_number)));
+    print_figures(lukhandro_figures(&session, 6, 3, 7, TABLES, BOUNDS, INDEXED, 0, BATCH, 5, by_number, 22));
+    print_departures(lukhandro_departures(2, LENT(window_starts), LENT(window_ends), LENT(headways), departures, 8));
+    print_departures(lukhandro_departures(2, LENT(window_starts), LENT(window_ends), LENT(headways), LENT(departures)));
+    window_ends[1]++;
+    print_departures(lukhandro_departures(2, LENT(window_starts), LENT(window_ends), LENT(headways), LENT(departures)));
+    print_inputs(1);
+    print_inputs(2);
+    print_inputs(3);
     return 0;
 }

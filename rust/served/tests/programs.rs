@@ -70,6 +70,17 @@ to version 1 0 0 112, the same bytes 1
 write 0 0 0, session 0 3 0, stored 6 28200 26, reasons 0 0 0
 to version 1 18 2 0
 read 14 0 0 0 0
+build 0 0 3, session 0 3 0, stored 6 28200 26, reasons 0 0 0
+figures 0 0, 0 blank, 22 to 30, sum 78, evaluations 6 6 4, by number 3 0 0 0 0 0 0 0 0 0 1 0 0 0 0 0 0 0 0 0 0 0 99
+figures 1 0, 0 blank, -2147483648 to -2147483648, sum 0, evaluations 0 0 0, by number 3 0 0 0 0 0 0 0 0 0 1 0 0 0 0 0 0 0 0 0 0 0 99
+figures 1 0, 0 blank, -2147483648 to -2147483648, sum 0, evaluations 0 0 0, by number 3 0 0 0 0 0 0 0 0 0 1 0 0 0 0 0 0 0 0 0 0 0 99
+figures 0 0, 0 blank, -2147483648 to -2147483648, sum 0, evaluations 0 0 0, by number 0 0 0 0 0 0 0 0 0 0 0 0 0 0 0 0 0 0 0 0 0 0 99
+departures 5 0 0: 0 0 0 0 0 0 0 0 0 0
+departures 0 0 9: 21600 22800 24000 25200 25800 26400 27000 27600 28200 0
+departures 3 0 0: 21600 22800 24000 25200 25800 26400 27000 27600 28200 0
+inputs of row 1 from 3, 3: 0 1 2
+inputs of row 2 from 6, 1: 3
+inputs of row 3 from 0, 0:
 ";
     assert_eq!(printed("calls"), expected);
 }
