@@ -111,15 +111,18 @@
  * Checks run in ascending number, but 8 and then 19 come before 7, 17 right after 12, 16 before 15, and 21 before 20; of
  * the calls on files 14 comes first, then 18, then 1. lukhandro_departures has refusals of its own, 1 to 5.
  *
- * STACK. On the deepest models, chains of 4,095 rows, a program that makes this call and no other needs a stack of
- *     lukhandro_build                          480 KiB
- *     lukhandro_trial by route 2 or 3        1,056 KiB
+ * STACK. On the deepest models, chains and rings of 4,095 rows, a program that makes this call and no other needs a stack of
+ *     lukhandro_build                        1,008 KiB
+ *     lukhandro_trial by route 2 or 3        1,104 KiB
+ *     lukhandro_figures                      1,120 KiB
  *     lukhandro_trial by route 1, and
- *     lukhandro_keep, _take_back,
- *     _read, _write, _read_bounded,
- *     _write_bounded, _to_version_2
- *     and _to_version_1                        128 KiB or less
+ *     lukhandro_keep and _take_back            976 KiB
  *     lukhandro_salvage                        768 KiB
+ *     lukhandro_departures                     144 KiB
+ *     lukhandro_read, _write,
+ *     _read_bounded, _write_bounded,
+ *     _to_version_2, _to_version_1
+ *     and _inputs_of_row                       128 KiB or less
  * These figures were measured, in steps of 16 KiB, on an x86-64 machine; no proof states them. The tests send
  * these models through every call on a stack of 2 MiB: a thread that calls should have as much.
  */

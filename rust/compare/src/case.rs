@@ -1,6 +1,6 @@
 //! One call with everything that is lent to it, and what comes back.
 
-use lent::{Session, Tables};
+use lent::{Session, Tables, Totals};
 use second::{BLANK, Refused};
 
 use crate::{Buffer, Guarded};
@@ -31,9 +31,17 @@ pub enum Call {
     ToVersion2,
     /// A file of version 1 from one of version 2.
     ToVersion1,
+    /// A batch of moves in figures.
+    Figures,
+    /// The departures of one trip's windows in time order.
+    Departures,
+    /// The inputs of a row, as a part of the lent entries.
+    InputsOfRow,
 }
 
-/// A call with its counts and every buffer that any call is lent; a call uses those that are its own.
+/// A call with its counts and every buffer that any call is lent; a call uses those that are its own. `asked` is how many
+/// variables a trial asks, and the one variable that a batch asks; `starts` are start values, and those of a board's windows;
+/// `board` is its list.
 #[derive(Clone, Debug, Default, PartialEq)]
 #[expect(missing_docs, reason = "the fields are the parameters of the calls, by their names")]
 pub struct Case {
@@ -74,6 +82,14 @@ pub struct Case {
     pub bytes: Guarded<u8>,
     pub file: Guarded<u8>,
     pub list: Guarded<u16>,
+    pub moves: usize,
+    pub move_pairs: Guarded<u16>,
+    pub by_number: Guarded<u32>,
+    pub windows: usize,
+    pub ends: Guarded<i32>,
+    pub headways: Guarded<i32>,
+    pub board: Guarded<i32>,
+    pub row: usize,
 }
 
 /// The buffers of a case by name, borrowed one way or the other.
@@ -109,6 +125,11 @@ macro_rules! buffers_of {
             ("bytes", $($borrowed)+ $case.bytes),
             ("file", $($borrowed)+ $case.file),
             ("list", $($borrowed)+ $case.list),
+            ("move_pairs", $($borrowed)+ $case.move_pairs),
+            ("by_number", $($borrowed)+ $case.by_number),
+            ("ends", $($borrowed)+ $case.ends),
+            ("headways", $($borrowed)+ $case.headways),
+            ("board", $($borrowed)+ $case.board),
         ]
     };
 }
@@ -133,13 +154,13 @@ impl Case {
 
     /// Every buffer by name, in the order of the fields.
     #[must_use]
-    pub fn buffers(&self) -> [(&'static str, &dyn Buffer); 29] {
+    pub fn buffers(&self) -> [(&'static str, &dyn Buffer); 34] {
         buffers_of!(self, &)
     }
 
     /// Every buffer by name, to be changed.
     #[must_use]
-    pub fn buffers_mut(&mut self) -> [(&'static str, &mut dyn Buffer); 29] {
+    pub fn buffers_mut(&mut self) -> [(&'static str, &mut dyn Buffer); 34] {
         buffers_of!(self, &mut)
     }
 
@@ -159,7 +180,8 @@ impl Case {
     pub fn fields(&self) -> Vec<(&'static str, String)> {
         let mut fields = vec![("call", format!("{:?}", self.call)), ("session", format!("{:?}", self.session))];
         let numbers = [("n", self.n), ("m", self.m), ("e", self.e), ("pairs", self.pairs), ("asked", self.asked)];
-        fields.extend(numbers.map(|(name, number)| (name, number.to_string())));
+        let above = [("moves", self.moves), ("windows", self.windows), ("row", self.row)];
+        fields.extend(numbers.iter().chain(&above).map(|&(name, number)| (name, number.to_string())));
         fields.push(("route", self.route.to_string()));
         fields.extend(self.buffers().map(|(name, buffer)| (name, format!("{buffer:?}"))));
         fields
@@ -185,6 +207,14 @@ pub struct Answer {
     pub length: u32,
     pub rows: u32,
     pub values: u32,
+    pub blank: u32,
+    pub least: i32,
+    pub greatest: i32,
+    pub first: u32,
+    pub second: u32,
+    pub third: u32,
+    pub count: u32,
+    pub sum: i64,
 }
 
 impl Answer {
@@ -212,13 +242,36 @@ impl Answer {
         })
     }
 
-    /// The answer of a move from one version to the other.
+    /// The answer of a move from one version to the other, and of a board.
     #[must_use]
-    pub fn of_move(length: Result<usize, Refused>) -> Answer {
+    pub fn of_length(length: Result<usize, Refused>) -> Answer {
         length.map_or_else(Answer::refused, |length| {
             let length = u32::try_from(length).unwrap_or(u32::MAX);
             Answer { length, ..Answer::default() }
         })
+    }
+
+    /// The answer of a batch in figures.
+    #[must_use]
+    pub fn of_figures(totals: Result<Totals, Refused>) -> Answer {
+        let none = |refused| Answer { least: BLANK, greatest: BLANK, ..Answer::refused(refused) };
+        totals.map_or_else(none, |Totals { blank, least, greatest, sum, first, second, third }| Answer {
+            blank,
+            least,
+            greatest,
+            sum,
+            first,
+            second,
+            third,
+            ..Answer::default()
+        })
+    }
+
+    /// The answer of the inputs of a row: where they start among the entries, 0 if there are none, and how many there are.
+    #[must_use]
+    pub fn of_part(first: usize, count: usize) -> Answer {
+        let [first, count] = [first, count].map(|number| u32::try_from(number).unwrap_or(u32::MAX));
+        Answer { first, count, ..Answer::default() }
     }
 
     /// A refusal.

@@ -1,6 +1,6 @@
 //! Cases made wrong in one place, longer than needed, or one too short.
 
-use lent::{LOG_PLACES, LOG_SIZES};
+use lent::{LOG_PLACES, LOG_SIZES, NUMBERS};
 use second::{BLANK, MOST_ASKED, MOST_ENTRIES, MOST_LOGGED, MOST_PAIRS, MOST_VARIABLES};
 
 use crate::bounds::{damage_bounds, near_a_bound};
@@ -272,6 +272,19 @@ fn buffers(case: &mut Case) -> Vec<(&mut dyn Length, usize)> {
         let length = moved_length(&case.bytes, case.call == Call::ToVersion2);
         return vec![(&mut case.file, length)];
     }
+    if case.call == Call::Departures {
+        let (windows, list) = (case.windows, crate::boards::length_of(case));
+        return vec![
+            (&mut case.starts, windows),
+            (&mut case.ends, windows),
+            (&mut case.headways, windows),
+            (&mut case.board, list),
+        ];
+    }
+    if case.call == Call::InputsOfRow {
+        let (row, e) = (case.row.saturating_add(1), case.e);
+        return vec![(&mut case.firsts, row), (&mut case.counts, row), (&mut case.vars, e)];
+    }
     let Case { n, m, e, pairs, asked, .. } = *case;
     let total = n.saturating_mul(4).saturating_add(m.saturating_mul(12)).saturating_add(e.saturating_mul(4));
     let mut lent: Vec<(&mut dyn Length, usize)> = vec![
@@ -297,7 +310,14 @@ fn buffers(case: &mut Case) -> Vec<(&mut dyn Length, usize)> {
             lent.push((&mut case.move_vars, pairs));
             lent.push((&mut case.move_values, pairs));
         }
-        Call::TakeBack | Call::Salvage | Call::ToVersion2 | Call::ToVersion1 => {}
+        Call::Figures => {
+            let pairs = case.move_pairs.iter().take(case.moves).map(|&pairs| usize::from(pairs)).sum();
+            lent.push((&mut case.move_pairs, case.moves));
+            lent.push((&mut case.move_vars, pairs));
+            lent.push((&mut case.move_values, pairs));
+            lent.push((&mut case.by_number, NUMBERS));
+        }
+        _ => {}
     }
     if case.call == Call::Trial {
         lent.push((&mut case.trial, n));
@@ -319,12 +339,14 @@ fn buffers(case: &mut Case) -> Vec<(&mut dyn Length, usize)> {
         lent.push((&mut case.lows, n));
         lent.push((&mut case.highs, n));
     }
-    if matches!(case.call, Call::Build | Call::Trial | Call::Keep | Call::TakeBack) {
+    if matches!(case.call, Call::Build | Call::Trial | Call::Keep | Call::TakeBack | Call::Figures) {
         lent.push((&mut case.numbers, n));
         lent.push((&mut case.order, m));
         lent.push((&mut case.stored, n));
         lent.push((&mut case.reader_starts, n.saturating_add(1)));
         lent.push((&mut case.reader_places, e));
+    }
+    if matches!(case.call, Call::Build | Call::Trial | Call::Keep | Call::TakeBack) {
         lent.push((&mut case.reasons, n));
     }
     lent

@@ -2,6 +2,9 @@
 
 use std::thread;
 
+use crate::boards::board;
+use crate::figures::batch;
+use crate::parts::asking;
 use crate::runs::{built, keep, take_back, trial};
 use crate::salvages::salvage_of;
 use crate::versions::{moving, reading_bounded, writing};
@@ -41,6 +44,9 @@ fn every_row(name: &str, answer: Answer) {
         "to version 2" => assert_eq!(answer.length, 163_840),
         "to version 1" => assert_eq!(answer.length, 131_068),
         "salvage" => assert_eq!((answer.length, answer.rows, answer.values), (131_068, 0, 0)),
+        "figures" => assert!(answer.first > 0 && (answer.second, answer.third) == (4095, 4095), "{answer:?}"),
+        "departures" => assert_eq!(answer.length, 2000),
+        "inputs" => assert_eq!((answer.first, answer.count), (16376, 4)),
         "route 1" | "keep" | "taking back" => assert!(answer.evaluations > 0, "{name}"),
         _ => assert_eq!(answer.evaluations, 4095, "{name}"),
     }
@@ -58,9 +64,9 @@ pub fn models() -> Vec<Case> {
     models
 }
 
-/// Every call on a deepest model by name; a move at the near end of the chain is tried, kept and taken back, and the far
-/// end asked.
-pub fn calls(engine: &dyn Engine, model: &Case) -> [(&'static str, Case); 13] {
+/// Every call on a deepest model by name; a move at the near end of the chain is tried, seen in figures, kept and taken back,
+/// and the far end asked.
+pub fn calls(engine: &dyn Engine, model: &Case) -> [(&'static str, Case); 16] {
     let built = built(engine, model);
     let search = built.numbers.iter().position(|&number| number == 0).unwrap_or(0) as u16;
     let moved = [(search, 2)];
@@ -75,6 +81,7 @@ pub fn calls(engine: &dyn Engine, model: &Case) -> [(&'static str, Case); 13] {
         ("route 1", route(1)),
         ("route 2", route(2)),
         ("route 3", route(3)),
+        ("figures", batch(&built, &[moved.to_vec()], model.makes[4094])),
         ("taking back", take_back(&Side::of(engine, &kept).left)),
         ("keep", kept),
         ("write", write),
@@ -84,7 +91,14 @@ pub fn calls(engine: &dyn Engine, model: &Case) -> [(&'static str, Case); 13] {
         ("read bounded", reading_bounded(&moved_up)),
         ("write bounded", writing(model, &vec![(0, 1); model.n])),
         ("read", read),
+        ("departures", board(&many_windows())),
+        ("inputs", asking(model, 4094)),
     ]
+}
+
+/// As many windows as a board may have, with as many departures together.
+fn many_windows() -> Vec<(i32, i32, i32)> {
+    (0..64).map(|window| (100 * window, 100 * window + if window < 16 { 32 } else { 31 }, 1)).collect()
 }
 
 /// A chain of ELEMENT rows, each of which takes the variable before its own for its index and chooses variable 0.

@@ -1,6 +1,9 @@
 //! Who answers a case.
 
-use lent::{Asked, Bounds, BoundsMut, Built, Keep, Move, Session, State, Tables, TablesMut, TakeBack, Trial, Tried};
+use lent::{
+    Asked, Batch, Bounds, BoundsMut, Built, Figures, Keep, Move, Session, State, Tables, TablesMut, TakeBack, Trial,
+    Tried, Windows,
+};
 
 use crate::{Answer, Call, Case};
 
@@ -48,6 +51,15 @@ pub trait Calls {
 
     /// A file of version 1 from one of version 2.
     fn to_version_1(bytes: &[u8], file: &mut [u8]) -> Answer;
+
+    /// A batch of moves in figures.
+    fn figures(session: &Session, tables: Tables<'_>, bounds: Bounds<'_>, lent: Figures<'_>) -> Answer;
+
+    /// The departures of one trip's windows in time order.
+    fn departures(windows: Windows<'_>, list: &mut [i32]) -> Answer;
+
+    /// The inputs of a row, as a part of the lent entries.
+    fn inputs_of_row(m: usize, e: usize, firsts: &[u16], counts: &[u16], vars: &[u16], row: usize) -> Answer;
 }
 
 impl<C: Calls> Engine for C {
@@ -116,6 +128,18 @@ impl<C: Calls> Engine for C {
             Call::WriteBounded => C::write_bounded(tables, starts, bounds, &mut case.bytes),
             Call::ToVersion2 => C::to_version_2(&case.bytes, &mut case.file),
             Call::ToVersion1 => C::to_version_1(&case.bytes, &mut case.file),
+            Call::Figures => {
+                let (vars, values) = (&case.move_vars, &case.move_values);
+                let batch = Batch { moves: case.moves, pairs: &case.move_pairs, vars, values };
+                let (asked, by_number) = (case.asked as u16, &mut case.by_number);
+                let lent = Figures { numbers, order, stored, reader_starts, reader_places, batch, asked, by_number };
+                C::figures(session, tables, bounds, lent)
+            }
+            Call::Departures => {
+                let windows = Windows { windows: case.windows, starts, ends: &case.ends, headways: &case.headways };
+                C::departures(windows, &mut case.board)
+            }
+            Call::InputsOfRow => C::inputs_of_row(*m, *e, firsts, counts, vars, case.row),
         }
     }
 }
@@ -168,10 +192,23 @@ impl Calls for Second {
     }
 
     fn to_version_2(bytes: &[u8], file: &mut [u8]) -> Answer {
-        Answer::of_move(second::to_version_2(bytes, file))
+        Answer::of_length(second::to_version_2(bytes, file))
     }
 
     fn to_version_1(bytes: &[u8], file: &mut [u8]) -> Answer {
-        Answer::of_move(second::to_version_1(bytes, file))
+        Answer::of_length(second::to_version_1(bytes, file))
+    }
+
+    fn figures(session: &Session, tables: Tables<'_>, bounds: Bounds<'_>, lent: Figures<'_>) -> Answer {
+        Answer::of_figures(second::figures(session, tables, bounds, lent))
+    }
+
+    fn departures(windows: Windows<'_>, list: &mut [i32]) -> Answer {
+        Answer::of_length(second::departures(windows, list))
+    }
+
+    fn inputs_of_row(m: usize, e: usize, firsts: &[u16], counts: &[u16], vars: &[u16], row: usize) -> Answer {
+        let part = second::part_of_row(m, e, firsts, counts, vars, row);
+        Answer::of_part(part.start, part.len())
     }
 }

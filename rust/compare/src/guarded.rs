@@ -42,6 +42,7 @@ element!(u8, 0xA5);
 element!(u16, 0xA5C3);
 element!(i16, 0x25C3);
 element!(i32, 0x25C3_A51E);
+element!(u32, 0xA5C3_251E);
 
 /// A buffer with guard elements before and after it.
 #[derive(Clone, PartialEq)]

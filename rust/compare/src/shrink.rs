@@ -30,6 +30,7 @@ impl Search<'_> {
     fn round(&mut self) -> bool {
         let case = &self.best.case;
         let (n, m, e, pairs, asked, logged) = (case.n, case.m, case.e, case.pairs, case.asked, case.logged());
+        let (moves, windows) = (case.moves, case.windows);
         let damaged = if case.call == Call::Salvage { case.bytes.len() } else { 0 };
         let mut smaller = self.try_case(cut);
         smaller |= self.without(damaged, |case, place| shorter(&mut case.bytes, place));
@@ -38,6 +39,8 @@ impl Search<'_> {
         smaller |= self.without(logged, remove_logged);
         smaller |= self.without(m, remove_row);
         smaller |= self.without(pairs, remove_pair);
+        smaller |= self.without(moves, remove_move);
+        smaller |= self.without(windows, remove_window);
         smaller |= self.without(asked, remove_asked);
         smaller |= self.without(e, remove_entry);
         smaller |= self.without(n, remove_variable);
@@ -187,6 +190,33 @@ fn remove_pair(case: &mut Case, pair: usize) -> bool {
     remove(&mut case.move_vars, pair);
     remove(&mut case.move_values, pair);
     case.pairs -= 1;
+    true
+}
+
+/// Takes a move of a batch away with its pairs.
+fn remove_move(case: &mut Case, place: usize) -> bool {
+    if place >= case.moves || place >= case.move_pairs.len() {
+        return false;
+    }
+    let before: usize = case.move_pairs[..place].iter().map(|&pairs| usize::from(pairs)).sum();
+    for _ in 0..case.move_pairs[place] {
+        remove(&mut case.move_vars, before);
+        remove(&mut case.move_values, before);
+    }
+    remove(&mut case.move_pairs, place);
+    case.moves -= 1;
+    true
+}
+
+/// Takes a window of a board away.
+fn remove_window(case: &mut Case, place: usize) -> bool {
+    if place >= case.windows {
+        return false;
+    }
+    for row in [&mut case.starts, &mut case.ends, &mut case.headways] {
+        remove(row, place);
+    }
+    case.windows -= 1;
     true
 }
 

@@ -30,7 +30,8 @@ pub fn random_calls(engine: &dyn Engine) {
 
 /// The tests of an engine: the runs that the specification names, why values are blank, closed chains, both sides of the edge of every
 /// refusal, files there and back, the deepest models on a small stack, random calls beside the second implementation, long sessions of keeps
-/// and takings back, the fuzz runs, files of both versions, and damaged files that are saved.
+/// and takings back, the fuzz runs, files of both versions, damaged files that are saved, batches in figures, departure boards and the inputs of
+/// rows.
 /// The second expression is the engine whose calls have a stack of 2 MiB if their thread has.
 #[macro_export]
 macro_rules! tests_of {
@@ -118,6 +119,32 @@ macro_rules! tests_of {
         #[test]
         fn random_damaged_files_are_saved() {
             $crate::salvages::damaged_files(&$engine);
+        }
+
+        #[test]
+        fn batches_in_figures() {
+            $crate::hold(&$engine, $crate::figures::FIGURES);
+        }
+
+        #[test]
+        fn random_batches_in_figures() {
+            $crate::figures::random_batches(&$engine);
+        }
+
+        #[test]
+        fn departure_boards_on_both_sides() {
+            $crate::hold(&$engine, $crate::boards::BOARDS);
+        }
+
+        #[test]
+        fn random_departure_boards() {
+            $crate::boards::random_boards(&$engine);
+        }
+
+        #[test]
+        fn inputs_of_rows() {
+            $crate::hold(&$engine, $crate::parts::PARTS);
+            $crate::parts::random_parts(&$engine);
         }
     };
 }

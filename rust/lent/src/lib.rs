@@ -10,6 +10,18 @@ pub const LOG_SIZES: usize = 65;
 /// The places of a log's variables and of its values: the pairs of move k stand from place 64 k on.
 pub const LOG_PLACES: usize = 4096;
 
+/// The most moves of a batch in figures.
+pub const MOST_MOVES: usize = 1000;
+
+/// The places that a batch fills with its moves counted by number: the accepted ones at 0, those refused with k at k.
+pub const NUMBERS: usize = 22;
+
+/// The most windows of a departure board.
+pub const MOST_WINDOWS: usize = 64;
+
+/// The most departures of a board.
+pub const MOST_DEPARTURES: usize = 2000;
+
 /// The session record: the counters that build, trial, keep and taking back set. A trial leaves `kept` and `blanks`.
 #[repr(C)]
 #[derive(Clone, Copy, Debug, Default, PartialEq, Eq)]
@@ -227,4 +239,70 @@ pub struct TakeBack<'a> {
     pub log_vars: &'a [u16],
     /// The values that they had before the move, at the same places.
     pub log_values: &'a [i32],
+}
+
+/// A batch of moves, one behind the other.
+#[derive(Clone, Copy, Debug)]
+pub struct Batch<'a> {
+    /// The number of moves, at most 1,000.
+    pub moves: usize,
+    /// Each move's number of pairs.
+    pub pairs: &'a [u16],
+    /// The variables of all pairs; those of a move stand behind those of the moves before it.
+    pub vars: &'a [u16],
+    /// The new values of all pairs, at the same places.
+    pub values: &'a [i32],
+}
+
+/// What a batch in figures is lent besides the record, the tables and the bounds.
+#[derive(Debug)]
+pub struct Figures<'a> {
+    /// Each variable's topological number.
+    pub numbers: &'a [u16],
+    /// The rows by the number of the variable made, ties by row.
+    pub order: &'a [u16],
+    /// Each variable's value, on which every move is tried.
+    pub stored: &'a [i32],
+    /// Where the readers of each variable start, and where the last one's end.
+    pub reader_starts: &'a [u16],
+    /// The rows that read each variable, ascending, each once.
+    pub reader_places: &'a [u16],
+    /// The moves.
+    pub batch: Batch<'a>,
+    /// The variable that each of them is asked for.
+    pub asked: u16,
+    /// The moves accepted at place 0, those refused with k at place k; 22 places.
+    pub by_number: &'a mut [u32],
+}
+
+/// The figures of the accepted moves of a batch together.
+#[derive(Clone, Copy, Debug, PartialEq, Eq)]
+pub struct Totals {
+    /// Blank results.
+    pub blank: u32,
+    /// The least result that is a value, blank if none is.
+    pub least: i32,
+    /// The greatest result that is a value, blank if none is.
+    pub greatest: i32,
+    /// The sum of the results that are values.
+    pub sum: i64,
+    /// Evaluations by route 1.
+    pub first: u32,
+    /// Evaluations by route 2.
+    pub second: u32,
+    /// Evaluations by route 3.
+    pub third: u32,
+}
+
+/// The windows of one trip, at most 64.
+#[derive(Clone, Copy, Debug)]
+pub struct Windows<'a> {
+    /// The number of windows.
+    pub windows: usize,
+    /// Each window's start.
+    pub starts: &'a [i32],
+    /// Each window's end, at which nothing departs any more.
+    pub ends: &'a [i32],
+    /// The time from one departure of a window to its next.
+    pub headways: &'a [i32],
 }

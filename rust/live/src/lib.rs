@@ -3,8 +3,8 @@
 #![warn(missing_docs)]
 
 use compare::{Answer, Calls};
-use lent::{Bounds, BoundsMut, Built, Keep, Session, Tables, TablesMut, TakeBack, Trial};
-use lukhandro::sys::{MoveOutcome, Outcome, ReadOutcome, SalvageOutcome};
+use lent::{Bounds, BoundsMut, Built, Figures, Keep, Session, Tables, TablesMut, TakeBack, Trial, Windows};
+use lukhandro::sys::{FiguresOutcome, ListOutcome, MoveOutcome, Outcome, Part, ReadOutcome, SalvageOutcome};
 
 /// The engine that the archive holds.
 #[derive(Clone, Copy, Debug)]
@@ -64,6 +64,25 @@ impl Calls for Proved {
 
     fn to_version_1(bytes: &[u8], file: &mut [u8]) -> Answer {
         moved(lukhandro::lent::to_version_1(bytes, file))
+    }
+
+    fn figures(session: &Session, tables: Tables<'_>, bounds: Bounds<'_>, lent: Figures<'_>) -> Answer {
+        let FiguresOutcome { number, place, blank, least, greatest, sum, first, second, third } =
+            lukhandro::lent::figures(session, tables, bounds, lent);
+        Answer { number, place, blank, least, greatest, sum, first, second, third, ..Answer::default() }
+    }
+
+    fn departures(windows: Windows<'_>, list: &mut [i32]) -> Answer {
+        let ListOutcome { number, place, length } = lukhandro::lent::departures(windows, list);
+        let length = u32::try_from(length).expect("the length of a list");
+        Answer { number, place, length, ..Answer::default() }
+    }
+
+    fn inputs_of_row(m: usize, e: usize, firsts: &[u16], counts: &[u16], vars: &[u16], row: usize) -> Answer {
+        let Part { first, count } = lukhandro::lent::part_of_row(m, e, firsts, counts, vars, row);
+        let inputs = lukhandro::lent::inputs_of_row(m, e, firsts, counts, vars, row);
+        assert!(std::ptr::eq(inputs, &vars[first..first + count]), "the very part");
+        Answer::of_part(first, count)
     }
 }
 

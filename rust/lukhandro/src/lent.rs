@@ -4,10 +4,10 @@
 //! and refuses what does not fit. A slice may be longer than its count asks; what lies beyond is neither looked at nor
 //! changed. A refused call changes nothing.
 
-use crate::sys::{self, MoveOutcome, Outcome, ReadOutcome, SalvageOutcome};
+use crate::sys::{self, FiguresOutcome, ListOutcome, MoveOutcome, Outcome, Part, ReadOutcome, SalvageOutcome};
 pub use ::lent::{
-    Asked, Bounds, BoundsMut, Built, Keep, LOG_PLACES, LOG_SIZES, Move, Session, State, Tables, TablesMut, TakeBack,
-    Trial, Tried,
+    Asked, Batch, Bounds, BoundsMut, Built, Figures, Keep, LOG_PLACES, LOG_SIZES, Move, NUMBERS, Session, State,
+    Tables, TablesMut, TakeBack, Totals, Trial, Tried, Windows,
 };
 
 /// Fills numbers, order, stored values, the index of readers and the reasons from tables and start values, and empties the
@@ -200,4 +200,58 @@ pub fn to_version_2(bytes: &[u8], file: &mut [u8]) -> MoveOutcome {
 pub fn to_version_1(bytes: &[u8], file: &mut [u8]) -> MoveOutcome {
     // SAFETY: each pointer goes with the length of its own slice, and the two do not overlap.
     unsafe { sys::lukhandro_to_version_1(bytes.as_ptr(), bytes.len(), file.as_mut_ptr(), file.len()) }
+}
+
+/// Tries every move of a batch on the same stored values by each of the three routes and keeps none: fills the first 22
+/// places of `by_number` with the moves accepted and those refused by each number, and gives the figures of the accepted
+/// ones. Refusal 1 for more than 1,000 moves, fewer numbers of pairs than moves, or fewer than 22 places; a move that is
+/// refused is only counted.
+#[rustfmt::skip]
+pub fn figures(session: &Session, tables: Tables<'_>, bounds: Bounds<'_>, lent: Figures<'_>) -> FiguresOutcome {
+    let Tables { n, m, e, kinds, makes, params, firsts, counts, vars, coefs } = tables;
+    let Bounds { lows, highs } = bounds;
+    let Figures { numbers, order, stored, reader_starts, reader_places, batch, asked, by_number } = lent;
+    // SAFETY: each pointer goes with the length of its own slice, and no slice that is written overlaps another.
+    unsafe {
+        sys::lukhandro_figures(
+            session, n, m, e,
+            kinds.as_ptr(), kinds.len(), makes.as_ptr(), makes.len(), params.as_ptr(), params.len(),
+            firsts.as_ptr(), firsts.len(), counts.as_ptr(), counts.len(), vars.as_ptr(), vars.len(),
+            coefs.as_ptr(), coefs.len(), lows.as_ptr(), lows.len(), highs.as_ptr(), highs.len(),
+            numbers.as_ptr(), numbers.len(), order.as_ptr(), order.len(),
+            stored.as_ptr(), stored.len(), reader_starts.as_ptr(), reader_starts.len(),
+            reader_places.as_ptr(), reader_places.len(),
+            batch.moves, batch.pairs.as_ptr(), batch.pairs.len(), batch.vars.as_ptr(), batch.vars.len(),
+            batch.values.as_ptr(), batch.values.len(), asked, by_number.as_mut_ptr(), by_number.len(),
+        )
+    }
+}
+
+/// Fills the front of `list` with all departures of one trip's windows in time order; gives how many there are. The
+/// refusals are the board's own, 1 to 5.
+#[rustfmt::skip]
+pub fn departures(windows: Windows<'_>, list: &mut [i32]) -> ListOutcome {
+    let Windows { windows, starts, ends, headways } = windows;
+    // SAFETY: each pointer goes with the length of its own slice, and no slice that is written overlaps another.
+    unsafe {
+        sys::lukhandro_departures(
+            windows, starts.as_ptr(), starts.len(), ends.as_ptr(), ends.len(), headways.as_ptr(), headways.len(),
+            list.as_mut_ptr(), list.len(),
+        )
+    }
+}
+
+/// The part of the lent entries that a row's inputs are; none if there is no such row or its part ends after e.
+pub fn part_of_row(m: usize, e: usize, firsts: &[u16], counts: &[u16], vars: &[u16], row: usize) -> Part {
+    let (firsts_length, counts_length, vars_length) = (firsts.len(), counts.len(), vars.len());
+    let (firsts, counts, vars) = (firsts.as_ptr(), counts.as_ptr(), vars.as_ptr());
+    // SAFETY: each pointer goes with the length of its own slice, and nothing is written.
+    unsafe { sys::lukhandro_inputs_of_row(m, e, firsts, firsts_length, counts, counts_length, vars, vars_length, row) }
+}
+
+/// The input variables of a row: that very part of the lent entries.
+#[must_use]
+pub fn inputs_of_row<'a>(m: usize, e: usize, firsts: &[u16], counts: &[u16], vars: &'a [u16], row: usize) -> &'a [u16] {
+    let Part { first, count } = part_of_row(m, e, firsts, counts, vars, row);
+    &vars[first..first + count]
 }

@@ -1,12 +1,12 @@
 //! A model that owns its buffers.
 
 use crate::lent::{
-    self, Asked, Bounds, BoundsMut, Built, Keep, LOG_PLACES, LOG_SIZES, Move, Session, State, Tables, TablesMut,
-    TakeBack, Tried,
+    self, Asked, Batch, Bounds, BoundsMut, Built, Keep, LOG_PLACES, LOG_SIZES, Move, NUMBERS, Session, State, Tables,
+    TablesMut, TakeBack, Tried,
 };
 use crate::sys::ReadOutcome;
 use crate::{
-    BLANK, HIGHEST, LOWEST, MOST_ASKED, MOST_ENTRIES, MOST_PAIRS, MOST_VARIABLES, Reason, Refused, Route, Row,
+    BLANK, Figures, HIGHEST, LOWEST, MOST_ASKED, MOST_ENTRIES, MOST_PAIRS, MOST_VARIABLES, Reason, Refused, Route, Row,
 };
 
 /// A model with its values and a log of its kept moves, built and ready to try moves, keep them and take them back.
@@ -323,6 +323,49 @@ impl Model {
         Ok(Trial { evaluations, results, values: &self.trial, flags: &self.flags, why })
     }
 
+    /// Tries up to 1,000 moves, each on the values that are stored now, and gives what they come to for one variable. None is
+    /// kept; a move that is refused is only counted, and the order of the moves changes nothing.
+    ///
+    /// ```
+    /// use lukhandro::{Model, Row};
+    ///
+    /// let rows = [Row::departures(3, 0, 1, 2), Row::last(4, 0, 1, 2), Row::linear(5, 2, &[(3, 4)])];
+    /// let sheet = Model::build(&[25200, 28800, 600, 0, 0, 0], &rows)?;
+    ///
+    /// // Headways of six to fifteen minutes, and of none: how many crews?
+    /// let moves = [360, 720, 900, 0].map(|headway| [(2, headway)]);
+    /// let figures = sheet.figures(&moves, 5)?;
+    /// assert_eq!((figures.accepted(), figures.blank), (4, 1));
+    /// assert_eq!((figures.least, figures.greatest, figures.sum), (Some(18), Some(42), 82));
+    /// # Ok::<(), lukhandro::Refused>(())
+    /// ```
+    ///
+    /// # Errors
+    /// Refusal 1 for more than 1,000 moves.
+    pub fn figures<M: AsRef<[(u16, i32)]>>(&self, moves: &[M], asked: u16) -> Result<Figures, Refused> {
+        // more pairs than a move may have are as good as one more: the move is refused
+        let moves = moves.iter().map(|pairs| pairs.as_ref()).map(|pairs| &pairs[..pairs.len().min(MOST_PAIRS + 1)]);
+        let (mut sizes, mut vars, mut values) = (Vec::new(), Vec::new(), Vec::new());
+        for pairs in moves {
+            sizes.push(pairs.len() as u16);
+            vars.extend(pairs.iter().map(|&(variable, _)| variable));
+            values.extend(pairs.iter().map(|&(_, value)| value));
+        }
+        let mut by_number = [0; NUMBERS];
+        let lent = lent::Figures {
+            numbers: &self.numbers,
+            order: &self.order,
+            stored: &self.stored,
+            reader_starts: &self.reader_starts,
+            reader_places: &self.reader_places,
+            batch: Batch { moves: sizes.len(), pairs: &sizes, vars: &vars, values: &values },
+            asked,
+            by_number: &mut by_number,
+        };
+        let totals = lent::figures(&self.session, tables_of!(self), bounds_of!(self), lent).judged();
+        Figures::of(by_number, totals)
+    }
+
     /// Keeps a move: changes the stored values, and gives the number of formulas evaluated. The latest 64 kept moves can be
     /// taken back.
     ///
@@ -502,6 +545,21 @@ impl Model {
             Some(&[start, end, ..]) => &self.reader_places[usize::from(start)..usize::from(end)],
             _ => &[],
         }
+    }
+
+    /// The input variables of a row, one for each place; none if there is no such row.
+    ///
+    /// ```
+    /// use lukhandro::{Model, Row};
+    ///
+    /// let sheet = Model::build(&[5, 8, 0, 0], &[Row::over(2, 1, 0), Row::max(3, &[0, 2, 0])])?;
+    /// assert_eq!(sheet.inputs(1), [0, 2, 0]);
+    /// # Ok::<(), lukhandro::Refused>(())
+    /// ```
+    #[must_use]
+    pub fn inputs(&self, row: u16) -> &[u16] {
+        let Tables { m, e, firsts, counts, vars, .. } = tables_of!(self);
+        lent::inputs_of_row(m, e, firsts, counts, vars, row.into())
     }
 
     /// Moves kept and not taken back.

@@ -1,7 +1,7 @@
 //! The calls as the archive exports them. A slice is a pointer and a length.
 
-use crate::Refused;
-use crate::lent::Session;
+use crate::lent::{Session, Totals};
+use crate::{BoardRefused, Refused};
 
 /// What build, trial, keep, taking back and write give.
 #[repr(C)]
@@ -57,6 +57,79 @@ pub struct MoveOutcome {
     pub place: u32,
     /// Bytes of the new file, 0 if refused.
     pub length: usize,
+}
+
+/// What a batch in figures gives.
+#[repr(C)]
+#[derive(Clone, Copy, Debug, PartialEq, Eq)]
+pub struct FiguresOutcome {
+    /// 0 if accepted.
+    pub number: u32,
+    /// 0.
+    pub place: u32,
+    /// Blank results, 0 if refused.
+    pub blank: u32,
+    /// The least result that is a value, blank if none is or the batch is refused.
+    pub least: i32,
+    /// The greatest result that is a value, blank if none is or the batch is refused.
+    pub greatest: i32,
+    /// The sum of the results that are values, 0 if refused.
+    pub sum: i64,
+    /// Evaluations by route 1, 0 if refused.
+    pub first: u32,
+    /// Evaluations by route 2, 0 if refused.
+    pub second: u32,
+    /// Evaluations by route 3, 0 if refused.
+    pub third: u32,
+}
+
+/// What a departure board gives.
+#[repr(C)]
+#[derive(Clone, Copy, Debug, PartialEq, Eq)]
+pub struct ListOutcome {
+    /// 0 if accepted.
+    pub number: u32,
+    /// The smallest offending window.
+    pub place: u32,
+    /// The length of the list, 0 if refused.
+    pub length: usize,
+}
+
+/// A part of the lent entries.
+#[repr(C)]
+#[derive(Clone, Copy, Debug, PartialEq, Eq)]
+pub struct Part {
+    /// Where it starts among the entries.
+    pub first: usize,
+    /// How many entries it has.
+    pub count: usize,
+}
+
+impl FiguresOutcome {
+    /// The figures, or the refusal.
+    ///
+    /// # Errors
+    /// The refusal, if the batch was refused.
+    pub fn judged(self) -> Result<Totals, Refused> {
+        let FiguresOutcome { number, place, blank, least, greatest, sum, first, second, third } = self;
+        match number {
+            0 => Ok(Totals { blank, least, greatest, sum, first, second, third }),
+            _ => Err(Refused { number, place }),
+        }
+    }
+}
+
+impl ListOutcome {
+    /// The length of the list, or the refusal.
+    ///
+    /// # Errors
+    /// The refusal, if the board was refused.
+    pub fn judged(self) -> Result<usize, BoardRefused> {
+        match self {
+            ListOutcome { number: 0, length, .. } => Ok(length),
+            ListOutcome { number, place, .. } => Err(BoardRefused { number, place }),
+        }
+    }
 }
 
 impl MoveOutcome {
@@ -231,4 +304,31 @@ unsafe extern "C" {
     pub fn lukhandro_to_version_1(
         bytes: *const u8, bytes_length: usize, file: *mut u8, file_length: usize,
     ) -> MoveOutcome;
+
+    /// A batch of moves in figures.
+    pub fn lukhandro_figures(
+        session: *const Session, n: usize, m: usize, e: usize,
+        kinds: *const u16, kinds_length: usize, makes: *const u16, makes_length: usize,
+        params: *const i32, params_length: usize, firsts: *const u16, firsts_length: usize,
+        counts: *const u16, counts_length: usize, vars: *const u16, vars_length: usize,
+        coefs: *const i16, coefs_length: usize, lows: *const i32, lows_length: usize,
+        highs: *const i32, highs_length: usize, numbers: *const u16, numbers_length: usize,
+        order: *const u16, order_length: usize, stored: *const i32, stored_length: usize,
+        reader_starts: *const u16, reader_starts_length: usize, reader_places: *const u16, reader_places_length: usize,
+        moves: usize, move_pairs: *const u16, move_pairs_length: usize,
+        move_vars: *const u16, move_vars_length: usize, move_values: *const i32, move_values_length: usize,
+        asked: u16, by_number: *mut u32, by_number_length: usize,
+    ) -> FiguresOutcome;
+
+    /// The departures of one trip's windows in time order.
+    pub fn lukhandro_departures(
+        windows: usize, starts: *const i32, starts_length: usize, ends: *const i32, ends_length: usize,
+        headways: *const i32, headways_length: usize, list: *mut i32, list_length: usize,
+    ) -> ListOutcome;
+
+    /// The inputs of a row.
+    pub fn lukhandro_inputs_of_row(
+        m: usize, e: usize, firsts: *const u16, firsts_length: usize, counts: *const u16, counts_length: usize,
+        vars: *const u16, vars_length: usize, row: usize,
+    ) -> Part;
 }

@@ -1,8 +1,8 @@
 //! The model that owns its buffers.
 
 use lukhandro::{
-    BLANK, FULL, HIGHEST, Kind, LOWEST, MOST_LOGGED, Model, Reason, Refused, Route, Row, Salvage, salvage,
-    to_version_1, to_version_2,
+    BLANK, BoardRefused, FULL, Figures, HIGHEST, Kind, LOWEST, MOST_LOGGED, Model, Reason, Refused, Route, Row,
+    Salvage, Window, departures, salvage, to_version_1, to_version_2,
 };
 
 fn refused(number: u32, place: u32) -> Refused {
@@ -371,4 +371,52 @@ fn everything_is_listed_at_most() {
     let saved = salvage(&header).expect("4,096 variables and rows, and 16,384 entries");
     let all: Vec<u16> = (0..4096).collect();
     assert_eq!((saved.file.len(), &saved.rows, &saved.values), (24 + 4 * 4096, &all, &all));
+}
+
+#[test]
+fn a_batch_in_figures() {
+    let sheet = model_a();
+    let moves = [vec![], vec![(1, 28801)], vec![(2, 0)], vec![(3, 1)], vec![(0, 1); 65], vec![(0, 1); 70_000]];
+    let mut by_number = [0; 22];
+    (by_number[0], by_number[1], by_number[10]) = (3, 2, 1);
+    let figures = sheet.figures(&moves, 5).expect("a batch");
+    let (least, greatest) = (Some(26), Some(30));
+    assert_eq!(figures, Figures { by_number, blank: 1, least, greatest, sum: 56, evaluations: [6, 6, 4] });
+    assert_eq!((figures.accepted(), figures.refused()), (3, 3));
+    assert_eq!((sheet.value(5), sheet.evaluations()), (Some(26), 3), "nothing is kept, and the record stays");
+
+    let none: [[(u16, i32); 0]; 0] = [];
+    let figures = sheet.figures(&none, 65535).expect("no moves");
+    let nothing = Figures { by_number: [0; 22], blank: 0, least: None, greatest: None, sum: 0, evaluations: [0; 3] };
+    assert_eq!(figures, nothing);
+    assert_eq!(sheet.figures(&vec![[(1, 28801)]; 1000], 5).map(|figures| figures.sum), Ok(30_000));
+    assert_eq!(sheet.figures(&vec![[(1, 28801)]; 1001], 5), Err(refused(1, 0)));
+}
+
+#[test]
+fn a_departure_board() {
+    let window = |start, end, headway| Window { start, end, headway };
+    let mut list = [7; 5];
+    assert_eq!(departures(&[window(20, 30, 9), window(0, 20, 9)], &mut list), Ok(5));
+    assert_eq!(list, [0, 9, 18, 20, 29]);
+    assert_eq!(departures(&[], &mut list), Ok(0));
+    for (windows, number, place) in [
+        (vec![window(0, 0, 1); 65], 1, 0),
+        (vec![window(0, 1, 1), window(5, 9, 0)], 2, 1),
+        (vec![window(5, 9, 9), window(0, 6, 9)], 3, 0),
+        (vec![window(0, 2001, 1)], 4, 0),
+        (vec![window(0, 6, 1)], 5, 0),
+    ] {
+        let refused = departures(&windows, &mut list).expect_err("a refusal");
+        assert_eq!(refused, BoardRefused { number, place });
+        assert!(!refused.to_string().ends_with("has this number"), "{refused}");
+        assert_eq!(list, [0, 9, 18, 20, 29], "the row stays");
+    }
+}
+
+#[test]
+fn the_inputs_of_a_row() {
+    let sheet = model_a();
+    assert_eq!((sheet.inputs(0), sheet.inputs(1), sheet.inputs(2)), (&[0, 1, 2][..], &[0, 1, 2][..], &[3][..]));
+    assert_eq!((sheet.inputs(3), sheet.inputs(65535)), (&[][..], &[][..]));
 }

@@ -1,5 +1,7 @@
 //! The calls over the session record: the checks in the specification's order, and then the work.
 
+use std::ops::Range;
+
 use crate::bounds::{bounds_fit, counted_bounds};
 use crate::checks::{self, Makers, asked_fits, fits, move_fits, state_fits, tables_fit};
 use crate::choices::Afresh;
@@ -207,15 +209,21 @@ fn new_values(tables: &Tables<'_>, makers: &[u16], state: &State<'_>, moved: &Mo
     Ok(new.values)
 }
 
-/// The input variables of a row: its part of the lent entries, empty if there is no such row or its part ends after e.
+/// The part of the lent entries that a row's inputs are; from 0 to 0 if there is no such row or its part ends after e.
 #[must_use]
-pub fn inputs_of_row<'a>(m: usize, e: usize, firsts: &[u16], counts: &[u16], vars: &'a [u16], row: usize) -> &'a [u16] {
+pub fn part_of_row(m: usize, e: usize, firsts: &[u16], counts: &[u16], vars: &[u16], row: usize) -> Range<usize> {
     let part = || {
         let first = usize::from(*firsts.get(row)?);
         let end = first + usize::from(*counts.get(row)?);
-        if row < m && end <= e { vars.get(first..end) } else { None }
+        (row < m && end <= e && end <= vars.len()).then_some(first..end)
     };
-    part().unwrap_or(&[])
+    part().unwrap_or(0..0)
+}
+
+/// The input variables of a row: that very part.
+#[must_use]
+pub fn inputs_of_row<'a>(m: usize, e: usize, firsts: &[u16], counts: &[u16], vars: &'a [u16], row: usize) -> &'a [u16] {
+    &vars[part_of_row(m, e, firsts, counts, vars, row)]
 }
 
 /// What the checks of a model find.

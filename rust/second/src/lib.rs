@@ -8,10 +8,12 @@
 #![forbid(unsafe_code)]
 #![warn(missing_docs)]
 
+mod boards;
 mod bounds;
 mod calls;
 mod checks;
 mod choices;
+mod figures;
 mod file;
 mod formulas;
 mod groups;
@@ -25,7 +27,9 @@ mod routes;
 mod salvage;
 mod versions;
 
-pub use calls::{build, inputs_of_row, keep, take_back, trial};
+pub use boards::departures;
+pub use calls::{build, inputs_of_row, keep, part_of_row, take_back, trial};
+pub use figures::figures;
 pub use file::{read, write};
 pub use reasons::reasons;
 pub use refused::Refused;

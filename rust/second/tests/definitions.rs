@@ -2,6 +2,11 @@
 
 mod naive;
 
+use std::panic::catch_unwind;
+
+use compare::boards::random_boards;
+use compare::figures::tiny_batches;
+use compare::parts::random_parts;
 use compare::salvages::tiny_damaged_files;
 use compare::{
     Answer, Call, Case, Engine, Random, Second, Side, Sizes, compare, has_closed_chain, interlined, model, run, seed,
@@ -26,6 +31,66 @@ fn agrees_with_the_definitions() {
 #[test]
 fn saves_as_the_definitions_do() {
     tiny_damaged_files(&Naive);
+}
+
+#[test]
+fn figures_as_the_definitions_have_them() {
+    tiny_batches(&Naive);
+}
+
+/// A fault in a call above the engine, over what was lent, what is left and the answer.
+type FaultAbove = fn(&Case, &mut Case, &mut Answer);
+
+/// What is wrong, the test that is to find it, and the fault.
+type Above = (&'static str, fn(&dyn Engine), FaultAbove);
+
+/// An engine with such a fault.
+struct FaultyAbove(FaultAbove);
+
+impl Engine for FaultyAbove {
+    fn answer(&self, case: &mut Case) -> Answer {
+        let lent = case.clone();
+        let mut answer = Second.answer(case);
+        self.0(&lent, case, &mut answer);
+        answer
+    }
+}
+
+#[test]
+fn finds_faults_above_the_engine() {
+    let faults: [Above; 12] = [
+        ("blank results left out", tiny_batches, |_, _, answer| answer.blank = 0),
+        ("a sum of 32 bits", tiny_batches, |_, _, answer| answer.sum = i64::from(answer.sum as i32)),
+        ("the least of no result is 0", tiny_batches, |_, _, answer| answer.least = answer.least.max(-i32::MAX)),
+        ("one route for all", tiny_batches, |_, _, answer| answer.third = answer.second),
+        ("accepted moves left out", tiny_batches, |_, case, _| case.by_number.put(0, 0)),
+        ("a record that is set", tiny_batches, |_, case, answer| case.session.evaluations = answer.first),
+        ("a refused batch that writes", tiny_batches, |_, case, answer| {
+            if answer.number == 1 {
+                case.by_number.put(0, 0);
+            }
+        }),
+        ("a list that ends early", random_boards, |lent, case, _| {
+            let last = case.board.len().saturating_sub(1);
+            let before = lent.board.get(last).copied().unwrap_or(0);
+            case.board.put(last, before);
+        }),
+        ("an overlap at the first window", random_boards, |_, _, answer| {
+            if answer.number == 3 {
+                answer.place = 0;
+            }
+        }),
+        ("a short row before too many", random_boards, |_, _, answer| {
+            if answer.number == 5 {
+                answer.number = 4;
+            }
+        }),
+        ("a length that is refused", random_boards, |_, case, answer| answer.length = case.board.len() as u32),
+        ("a part from the front", random_parts, |_, _, answer| answer.first = 0),
+    ];
+    for (name, test, fault) in faults {
+        assert!(catch_unwind(|| test(&FaultyAbove(fault))).is_err(), "{name}");
+    }
 }
 
 /// An engine with one fault that is easy to write.

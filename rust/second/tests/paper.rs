@@ -2,10 +2,13 @@
 
 mod naive;
 
+use compare::boards::{BOARDS, random_boards};
 use compare::chains::CHAINS;
 use compare::deep::deepest_models;
 use compare::edges::EDGES;
+use compare::figures::{FIGURES, random_batches};
 use compare::files::FILES;
+use compare::parts::{PARTS, random_parts};
 use compare::reasons::REASONS;
 use compare::runs::{RUNS, model_a};
 use compare::salvages::{SALVAGES, damaged_files};
@@ -130,6 +133,41 @@ fn random_files_of_both_versions_by_the_definitions() {
 #[test]
 fn the_deepest_models_on_a_small_stack() {
     deepest_models(Second);
+}
+
+#[test]
+fn batches_in_figures() {
+    hold(FIGURES, &Second);
+}
+
+#[test]
+fn batches_in_figures_by_the_definitions() {
+    let small = |name: &str| !["the whole range", "figures: 1"].contains(&name);
+    let tests: Vec<_> = FIGURES.iter().copied().filter(|(name, _)| small(name)).collect();
+    hold(&tests, &Naive);
+}
+
+#[test]
+fn random_batches_in_figures() {
+    random_batches(&Second);
+}
+
+#[test]
+fn departure_boards() {
+    hold(BOARDS, &Second);
+    hold(BOARDS, &Naive);
+}
+
+#[test]
+fn random_departure_boards_by_the_definitions() {
+    random_boards(&Naive);
+}
+
+#[test]
+fn inputs_of_rows() {
+    hold(PARTS, &Second);
+    hold(PARTS, &Naive);
+    random_parts(&Naive);
 }
 
 #[test]

@@ -12,26 +12,33 @@
 #include <unistd.h>
 #include "lukhandro.h"
 
-enum call { BUILD, TRIAL, KEEP, TAKE_BACK, READ, WRITE, SALVAGE, READ_BOUNDED, WRITE_BOUNDED, TO_VERSION_2, TO_VERSION_1 };
+enum call {
+    BUILD, TRIAL, KEEP, TAKE_BACK, READ, WRITE, SALVAGE, READ_BOUNDED, WRITE_BOUNDED, TO_VERSION_2, TO_VERSION_1, FIGURES,
+    DEPARTURES, INPUTS_OF_ROW
+};
 
 enum buffer {
     SESSION, KINDS, MAKES, PARAMS, FIRSTS, COUNTS, VARS, COEFS, LOWS, HIGHS, STARTS, NUMBERS, ORDER, STORED,
     READER_STARTS, READER_PLACES, REASONS, MOVE_VARS, MOVE_VALUES, ASKED_VARS, RESULTS, TRIED, FLAGS, WHY, LOG_SIZES, LOG_VARS,
-    LOG_VALUES, BYTES, SAVED, LIST, BUFFERS
+    LOG_VALUES, BYTES, SAVED, LIST, MOVE_PAIRS, BY_NUMBER, ENDS, HEADWAYS, BOARD, BUFFERS
 };
 
 /* Bytes of one element of each buffer; the record is three elements, its counters. */
 static const uint64_t width[BUFFERS] = {
-    4, 2, 2, 4, 2, 2, 2, 2, 4, 4, 4, 2, 2, 4, 2, 2, 1, 2, 4, 2, 4, 4, 1, 1, 2, 2, 4, 1, 1, 2};
+    4, 2, 2, 4, 2, 2, 2, 2, 4, 4, 4, 2, 2, 4, 2, 2, 1, 2, 4, 2, 4, 4, 1, 1, 2, 2, 4, 1, 1, 2, 2, 4, 4, 4, 4};
 
 struct request {
-    uint64_t call, n, m, e, pairs, asked, route;
+    uint64_t call, n, m, e, pairs, asked, route, moves, windows, row;
     uint64_t block; /* bytes of the block */
     struct { uint64_t place, length; } lent[BUFFERS]; /* first byte in the block, elements */
 };
 
 struct answer {
     uint32_t number, place, evaluations, n, m, e, length, rows, values; /* what the call does not give is 0 */
+    uint32_t blank;
+    int32_t least, greatest;
+    uint32_t first, second, third, count;
+    int64_t sum;
 };
 
 static struct request request;
@@ -83,25 +90,42 @@ static void take_block(void) {
     request.lent[which].length
 #define ROWS_AND_ENTRIES LENT(KINDS), LENT(MAKES), LENT(PARAMS), LENT(FIRSTS), LENT(COUNTS), LENT(VARS), LENT(COEFS)
 #define BOUNDS LENT(LOWS), LENT(HIGHS)
-#define BUILT LENT(NUMBERS), LENT(ORDER), LENT(STORED), LENT(READER_STARTS), LENT(READER_PLACES), LENT(REASONS)
+#define INDEXED LENT(NUMBERS), LENT(ORDER), LENT(STORED), LENT(READER_STARTS), LENT(READER_PLACES)
+#define BUILT INDEXED, LENT(REASONS)
+#define BATCH request.moves, LENT(MOVE_PAIRS), LENT(MOVE_VARS), LENT(MOVE_VALUES)
 #define MOVE request.pairs, LENT(MOVE_VARS), LENT(MOVE_VALUES)
 #define LOG LENT(LOG_SIZES), LENT(LOG_VARS), LENT(LOG_VALUES)
 
 static struct answer of_call(lukhandro_outcome outcome) {
-    return (struct answer){outcome.number, outcome.place, outcome.evaluations, 0, 0, 0, 0, 0, 0};
+    return (struct answer){.number = outcome.number, .place = outcome.place, .evaluations = outcome.evaluations};
 }
 
 static struct answer of_read(lukhandro_read_outcome outcome) {
-    return (struct answer){outcome.number, outcome.place, 0, outcome.n, outcome.m, outcome.e, 0, 0, 0};
+    return (struct answer){
+        .number = outcome.number, .place = outcome.place, .n = outcome.n, .m = outcome.m, .e = outcome.e};
 }
 
 static struct answer of_salvage(lukhandro_salvage_outcome outcome) {
-    return (struct answer){outcome.number, outcome.place, 0, 0, 0, 0,
-        (uint32_t)outcome.length, (uint32_t)outcome.rows, (uint32_t)outcome.values};
+    return (struct answer){.number = outcome.number, .place = outcome.place, .length = (uint32_t)outcome.length,
+        .rows = (uint32_t)outcome.rows, .values = (uint32_t)outcome.values};
 }
 
 static struct answer of_move(lukhandro_move_outcome outcome) {
-    return (struct answer){outcome.number, outcome.place, 0, 0, 0, 0, (uint32_t)outcome.length, 0, 0};
+    return (struct answer){.number = outcome.number, .place = outcome.place, .length = (uint32_t)outcome.length};
+}
+
+static struct answer of_figures(lukhandro_figures_outcome outcome) {
+    return (struct answer){.number = outcome.number, .place = outcome.place, .blank = outcome.blank,
+        .least = outcome.least, .greatest = outcome.greatest, .first = outcome.first, .second = outcome.second,
+        .third = outcome.third, .sum = outcome.sum};
+}
+
+static struct answer of_list(lukhandro_list_outcome outcome) {
+    return (struct answer){.number = outcome.number, .place = outcome.place, .length = (uint32_t)outcome.length};
+}
+
+static struct answer of_part(lukhandro_part part) {
+    return (struct answer){.first = (uint32_t)part.first, .count = (uint32_t)part.count};
 }
 
 static struct answer made(void) {
@@ -131,6 +155,14 @@ static struct answer made(void) {
         return of_move(lukhandro_to_version_2(LENT(BYTES), LENT(SAVED)));
     case TO_VERSION_1:
         return of_move(lukhandro_to_version_1(LENT(BYTES), LENT(SAVED)));
+    case FIGURES:
+        return of_figures(lukhandro_figures(session, COUNTED, ROWS_AND_ENTRIES, BOUNDS, INDEXED, BATCH,
+            (uint16_t)request.asked, LENT(BY_NUMBER)));
+    case DEPARTURES:
+        return of_list(lukhandro_departures(request.windows, LENT(STARTS), LENT(ENDS), LENT(HEADWAYS), LENT(BOARD)));
+    case INPUTS_OF_ROW:
+        return of_part(lukhandro_inputs_of_row(request.m, request.e, LENT(FIRSTS), LENT(COUNTS), LENT(VARS),
+            request.row));
     default:
         exit(2);
     }

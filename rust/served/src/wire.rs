@@ -8,11 +8,13 @@ const GAP: u8 = 0x5A;
 /// Every buffer of a block begins at a multiple of this, guards and all.
 const ALIGNED: usize = 8;
 
-/// The bytes of a request before its block: 8 numbers, and the place and length of the record and the 29 buffers.
-const REQUEST: usize = 8 * (8 + 2 * 30);
+/// The numbers of a request before its places and lengths, and all its bytes before its block: the numbers, and the place and
+/// length of the record and the 34 buffers.
+const NUMBERS: usize = 11;
+const REQUEST: usize = 8 * (NUMBERS + 2 * 35);
 
-/// The bytes of an answer before its block.
-const ANSWER: usize = 4 * 9;
+/// The bytes of an answer before its block: 16 numbers of 4 bytes, and one of 8.
+const ANSWER: usize = 4 * 16 + 8;
 
 /// The session record between guards.
 fn record(case: &Case) -> Guarded<i32> {
@@ -29,8 +31,9 @@ pub fn request(case: &Case) -> Vec<u8> {
         block.resize(block.len().next_multiple_of(ALIGNED), GAP);
         lent.extend([buffer.send(&mut block), buffer.length()]);
     }
-    let Case { call, n, m, e, pairs, asked, route, .. } = *case;
-    let numbers = [call as usize, n, m, e, pairs, asked, route as usize, block.len()];
+    let Case { call, n, m, e, pairs, asked, route, moves, windows, row, .. } = *case;
+    let numbers: [usize; NUMBERS] =
+        [call as usize, n, m, e, pairs, asked, route as usize, moves, windows, row, block.len()];
     let mut request = Vec::with_capacity(REQUEST + block.len());
     request.extend(numbers.iter().chain(&lent).flat_map(|&number| (number as u64).to_le_bytes()));
     request.extend(block);
@@ -60,8 +63,13 @@ pub fn take_answer(bytes: &[u8], case: &mut Case) -> Answer {
         rest = buffer.receive(after);
     }
     let number = |at: usize| u32::from_le_bytes(answer[4 * at..][..4].try_into().expect("four bytes"));
-    let [number, place, evaluations, n, m, e, length, rows, values] = [0, 1, 2, 3, 4, 5, 6, 7, 8].map(number);
-    Answer { number, place, evaluations, n, m, e, length, rows, values }
+    let [evaluations, n, m, e, length, rows, values, blank] = [2, 3, 4, 5, 6, 7, 8, 9].map(number);
+    let [least, greatest] = [10, 11].map(|at| number(at) as i32);
+    let [number, place, first, second, third, count] = [0, 1, 12, 13, 14, 15].map(number);
+    let sum = i64::from_le_bytes(answer[4 * 16..].try_into().expect("eight bytes"));
+    let refusal = Answer { number, place, ..Answer::default() };
+    let counts = Answer { evaluations, n, m, e, length, rows, values, count, ..refusal };
+    Answer { blank, least, greatest, first, second, third, sum, ..counts }
 }
 
 #[cfg(test)]
@@ -92,7 +100,13 @@ mod tests {
         let mut left = case.clone();
         let answer = take_answer(&bytes, &mut left);
         let (n, m, e) = (4, 5, 6);
-        assert_eq!(answer, Answer { number: 1, place: 2, evaluations: 3, n, m, e, length: 7, rows: 8, values: 9 });
+        let counts =
+            Answer { number: 1, place: 2, evaluations: 3, n, m, e, length: 7, rows: 8, values: 9, count: 16, ..answer };
+        let sum = 17 + (18 << 32);
+        assert_eq!(
+            answer,
+            Answer { blank: 10, least: 11, greatest: 12, first: 13, second: 14, third: 15, sum, ..counts }
+        );
         assert_eq!(left, case);
     }
 
@@ -116,12 +130,12 @@ mod tests {
         let case = Side::of(&Second, &model_a()).left;
         let request = request(&case);
         let number = |at: usize| u64::from_le_bytes(request[8 * at..][..8].try_into().expect("eight bytes")) as usize;
-        assert_eq!(number(7), request.len() - REQUEST);
+        assert_eq!(number(NUMBERS - 1), request.len() - REQUEST);
         for (which, (name, buffer)) in case.buffers().into_iter().enumerate() {
-            let (place, length) = (number(8 + 2 * (which + 1)), number(9 + 2 * (which + 1)));
+            let (place, length) = (number(NUMBERS + 2 * (which + 1)), number(NUMBERS + 1 + 2 * (which + 1)));
             assert_eq!((length, place % buffer.width()), (buffer.length(), 0), "{name}");
         }
-        let stored = REQUEST + number(8 + 2 * 13);
+        let stored = REQUEST + number(NUMBERS + 2 * 13);
         assert_eq!(request[stored..][..4], 25200i32.to_le_bytes());
     }
 }

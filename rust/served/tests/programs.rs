@@ -97,7 +97,7 @@ fn ends(input: &[u8]) -> Option<i32> {
 fn the_server_ends_with_its_input() {
     assert_eq!(ends(&[]), Some(0));
     assert_eq!(ends(&[0; 10]), Some(2), "a request that breaks off");
-    assert_eq!(ends(&[0; 544]), Some(2), "a request without a record");
+    assert_eq!(ends(&[0; 648]), Some(2), "a request without a record");
 }
 
 #[test]

@@ -2,6 +2,7 @@
 //!
 //! A check is the list of all places that offend; a value is worked out anew each time it is looked at.
 
+mod above;
 mod salvage;
 mod versions;
 
@@ -57,6 +58,9 @@ impl Engine for Naive {
         }
         if matches!(case.call, Call::ReadBounded | Call::WriteBounded | Call::ToVersion2 | Call::ToVersion1) {
             return versions::answer(case);
+        }
+        if matches!(case.call, Call::Figures | Call::Departures | Call::InputsOfRow) {
+            return above::answer(case);
         }
         match verdict(case) {
             Some(refused) => Answer::refused(refused),
@@ -131,7 +135,7 @@ fn check_1_bounds(case: &Case) -> bool {
     case.lows.len() >= case.n && case.highs.len() >= case.n
 }
 
-/// Check 1 of every call but read, salvage and those over version 2.
+/// Check 1 of every call but read, salvage, those over version 2 and those above the engine.
 fn check_1(case: &Case) -> bool {
     let Case { n, m, e, pairs, asked, .. } = *case;
     let tables = check_1_tables(case);
@@ -153,6 +157,7 @@ fn check_1(case: &Case) -> bool {
         Call::TakeBack => changes && log,
         Call::Read | Call::Salvage => true,
         Call::ReadBounded | Call::WriteBounded | Call::ToVersion2 | Call::ToVersion1 => true,
+        Call::Figures | Call::Departures | Call::InputsOfRow => true,
         Call::Write => tables && case.starts.len() >= n && case.bytes.len() >= 24 + 4 * n + 12 * m + 4 * e,
     }
 }
