@@ -36,19 +36,19 @@
  *                                                    the other version, for which 163,868 are
  *   list                                             what was not saved: rows of the damaged file, ascending, and then
  *                                                    variables, ascending; m + n places are room for any, and 8,192
- *   move_pairs                             moves     a batch (0 to 1,000 moves): how many pairs each move has; move_vars
- *                                                    and move_values then hold the pairs of all moves, one move behind
- *                                                    the other
+ *   move_pairs                             moves     a batch (0 to 1,000 moves): how many pairs each move has;
+ *                                                    move_vars and move_values then hold the pairs of all moves, one
+ *                                                    move behind the other
  *   by_number                              22        the moves of a batch, counted: those accepted at place 0, those
  *                                                    refused with number k at place k
  *   starts, ends, headways                 windows   of lukhandro_departures: the windows of one trip (0 to 64)
- *   list                                             of lukhandro_departures: the departures in time order; 2,000 places
- *                                                    are room for any
+ *   list                                             of lukhandro_departures: the departures in time order; 2,000
+ *                                                    places are room for any
  *
- * Parameters stand in groups: record and counts, tables, what build fills, a move or the moves of a batch, what is asked,
- * what a trial or a batch fills, the log. A parameter that joins a group comes at its end, as the index of readers does behind stored and the bounds do
- * behind coefs; reasons stand behind the readers, and why behind flags. The log came last, and its rows stand at the end
- * of the list.
+ * Parameters stand in groups: record and counts, tables, what build fills, a move or the moves of a batch, what is
+ * asked, what a trial or a batch fills, the log. A parameter that joins a group comes at its end, as the index of readers
+ * does behind stored and the bounds do behind coefs; reasons stand behind the readers, and why behind flags. The log came
+ * last, and its rows stand at the end of the list.
  *
  * THE LOG lets the latest 64 kept moves be taken back, one after another, the latest first. Its three rows need no
  * content before build, which empties it (it writes log_sizes[0]) and is lent no more of it than log_sizes. Lend the same
@@ -111,7 +111,8 @@
  * Checks run in ascending number, but 8 and then 19 come before 7, 17 right after 12, 16 before 15, and 21 before 20; of
  * the calls on files 14 comes first, then 18, then 1. lukhandro_departures has refusals of its own, 1 to 5.
  *
- * STACK. On the deepest models, chains and rings of 4,095 rows, a program that makes this call and no other needs a stack of
+ * STACK. On the deepest models, chains and rings of 4,095 rows, a program that makes this call and no other needs a
+ * stack of
  *     lukhandro_build                        1,008 KiB
  *     lukhandro_trial by route 2 or 3        1,104 KiB
  *     lukhandro_figures                      1,120 KiB
@@ -335,11 +336,11 @@ lukhandro_move_outcome lukhandro_to_version_2(
 lukhandro_move_outcome lukhandro_to_version_1(
     const uint8_t *bytes, size_t bytes_length, uint8_t *file, size_t file_length);
 
-/* Tries every move of a batch on the same stored values and a copy of the record, by each of the three routes, and keeps
- * none: fills by_number, and gives the figures of the accepted moves, whose results are the values of the variable asked
- * by route 1. The order of the moves changes nothing. A move that is refused is only counted, one whose pairs are not all
- * lent under 1; a model that trials refuse has every move counted under their number. Refusal 1, place 0: more than 1,000
- * moves, fewer places of move_pairs than moves, or fewer than 22 of by_number. */
+/* Tries every move of a batch on the same stored values and a copy of the record, by each of the three routes, and
+ * keeps none: fills by_number, and gives the figures of the accepted moves, whose results are the values of the variable
+ * asked by route 1. The order of the moves changes nothing. A move that is refused is only counted, one whose pairs are
+ * not all lent under 1; a model that trials refuse has every move counted under their number. Refusal 1, place 0: more
+ * than 1,000 moves, fewer places of move_pairs than moves, or fewer than 22 of by_number. */
 lukhandro_figures_outcome lukhandro_figures(
     const lukhandro_session *session, size_t n, size_t m, size_t e,
     const uint16_t *kinds, size_t kinds_length, const uint16_t *makes, size_t makes_length,
@@ -354,8 +355,9 @@ lukhandro_figures_outcome lukhandro_figures(
     const uint16_t *move_vars, size_t move_vars_length, const int32_t *move_values, size_t move_values_length,
     uint16_t asked, uint32_t *by_number, size_t by_number_length);
 
-/* Fills the front of list with all departures of one trip's windows in time order: of each window its start, and then one
- * after each headway, as long as that is before its end. Windows come in any order. Refusals of this call, in this order:
+/* Fills the front of list with all departures of one trip's windows in time order: of each window its start, and then
+ * one after each headway, as long as that is before its end. Windows come in any order. Refusals of this call, in this
+ * order:
  *    1 more than 64 windows, or starts, ends or headways with fewer places, place 0
  *    2 a blank number or a headway of 0 or less, place the least such window
  *    3 two windows overlap, place the least window that overlaps another: each has its start before its own end and

@@ -1,7 +1,7 @@
 // The inputs of a row across the C boundary.
 ghost use mathlib.Core.Path.{_≡_};
 ghost use Rattle.paper.specs.Tables.{partAsked};
-ghost use Rattle.parts.specs.Given.{partOf};
+ghost use Rattle.parts.specs.Given.{partNamed};
 use parts::Part;
 use parts::part_of_row;
 
@@ -15,7 +15,7 @@ pub extern "C" fn lukhandro_inputs_of_row(
     vars: &[u16],
     row: usize,
 ) -> Part
-    ensures { λ r. ⌜ r ≡ partOf (partAsked m e (now (firsts .entry)) (now (counts .entry)) (now (vars .entry)) row) ⌝ }
+    ensures { λ r. ⌜ r ≡ partNamed (partAsked m e (now (firsts .entry)) (now (counts .entry)) (now (vars .entry)) row) ⌝ }
 {
     part_of_row(m, e, firsts, counts, vars, row)
 }

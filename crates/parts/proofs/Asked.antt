@@ -14,7 +14,7 @@ use Rattle.paper.specs.Tables.{partAsked}
 use Rattle.paper.proofs.Lists.{and-left, and-right, each}
 use Rattle.tables.proofs.Tests.{in-two}
 use Rattle.tables.proofs.Parts.{cut}
-use Rattle.parts.specs.Given.{liesAt, partOf}
+use Rattle.parts.specs.Given.{liesAt, partNamed}
 use Rattle.parts.specs.declared.Part.{Part}
 
 module _ (m e : ℕ) (firsts counts vars : List ℕ) (row : ℕ) where
@@ -45,7 +45,7 @@ module _ (m e : ℕ) (firsts counts vars : List ℕ) (row : ℕ) where
   ends-inside true h = leb-true _ _ (each (tests (nat firsts row + nat counts row)) h .1 .1 .1 .1 .0)
   ends-inside false h = omega arith
 
-  pub within : (part : Part) → part ≡ partOf (partAsked m e firsts counts vars row) → part .first + part .count ≤ length vars
+  pub within : (part : Part) → part ≡ partNamed (partAsked m e firsts counts vars row) → part .first + part .count ≤ length vars
   within part said = rw said (ends-inside _ refl)
 
 -- a part cut out by its two ends, where it lies, is that very part

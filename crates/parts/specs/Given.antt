@@ -7,8 +7,8 @@ use denote.Ref.{RefT, ptr, now}
 use Rattle.parts.specs.declared.Part.{Part}
 
 -- a part as it is named: its first place and how many it has
-abbrev pub partOf : ℕ × ℕ → Part
-partOf part = record { first = part .0; count = part .1 }
+abbrev pub partNamed : ℕ × ℕ → Part
+partNamed part = record { first = part .0; count = part .1 }
 
 -- where the entry at a place of a lent row of 16-bit numbers lies: 2 bytes on for each before it
 abbrev pub liesAt : RefT (List ℕ) → ℕ → ℕ × ℕ

@@ -1,7 +1,7 @@
 // The part of the lent entries that a row names, for whoever asks.
 ghost use mathlib.Core.Path.{_≡_};
 ghost use Rattle.paper.specs.Tables.{partAsked};
-ghost use Rattle.parts.specs.Given.{VeryPart, partOf};
+ghost use Rattle.parts.specs.Given.{VeryPart, partNamed};
 use integers::wide;
 
 // A part of the lent entries: where it starts among them, and how many it has.
@@ -20,7 +20,7 @@ pub fn part_of_row(
     vars: &[u16],
     row: usize,
 ) -> Part
-    ensures { λ r. ⌜ r ≡ partOf (partAsked m e (now (firsts .entry)) (now (counts .entry)) (now (vars .entry)) row) ⌝ }
+    ensures { λ r. ⌜ r ≡ partNamed (partAsked m e (now (firsts .entry)) (now (counts .entry)) (now (vars .entry)) row) ⌝ }
 {
     let there = (row < m) & (row < firsts.len()) & (row < counts.len());
     if !there {

@@ -188,7 +188,8 @@ pub fn random_boards(engine: &dyn Engine) {
     assert!(by_number.iter().all(|&boards| boards > BOARDS_DRAWN / 100), "every answer comes back: {by_number:?}");
 }
 
-/// Windows one behind the other in random order, some empty, at times with one other number, or a row of another length.
+/// Windows one behind the other in random order, some empty, at times with one other number, or a row of another
+/// length.
 fn draw(random: &mut Random) -> Case {
     let few = random.once_in(2);
     let mut at = random.pick(&[0, 25200, -5000, LOWEST, HIGHEST - 4000]);

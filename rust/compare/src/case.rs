@@ -39,9 +39,9 @@ pub enum Call {
     InputsOfRow,
 }
 
-/// A call with its counts and every buffer that any call is lent; a call uses those that are its own. `asked` is how many
-/// variables a trial asks, and the one variable that a batch asks; `starts` are start values, and those of a board's windows;
-/// `board` is its list.
+/// A call with its counts and every buffer that any call is lent; a call uses those that are its own. `asked` is how
+/// many variables a trial asks, and the one variable that a batch asks; `starts` are start values, and those of a
+/// board's windows; `board` is its list.
 #[derive(Clone, Debug, Default, PartialEq)]
 #[expect(missing_docs, reason = "the fields are the parameters of the calls, by their names")]
 pub struct Case {
@@ -267,7 +267,8 @@ impl Answer {
         })
     }
 
-    /// The answer of the inputs of a row: where they start among the entries, 0 if there are none, and how many there are.
+    /// The answer of the inputs of a row: where they start among the entries, 0 if there are none, and how many there
+    /// are.
     #[must_use]
     pub fn of_part(first: usize, count: usize) -> Answer {
         let [first, count] = [first, count].map(|number| u32::try_from(number).unwrap_or(u32::MAX));

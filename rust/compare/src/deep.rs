@@ -64,8 +64,8 @@ pub fn models() -> Vec<Case> {
     models
 }
 
-/// Every call on a deepest model by name; a move at the near end of the chain is tried, seen in figures, kept and taken back,
-/// and the far end asked.
+/// Every call on a deepest model by name; a move at the near end of the chain is tried, seen in figures, kept and taken
+/// back, and the far end asked.
 pub fn calls(engine: &dyn Engine, model: &Case) -> [(&'static str, Case); 16] {
     let built = built(engine, model);
     let search = built.numbers.iter().position(|&number| number == 0).unwrap_or(0) as u16;

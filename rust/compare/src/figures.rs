@@ -1,5 +1,5 @@
-//! A batch of moves in figures, as tests of any engine: what it reports of model A, both sides of its refusal, and random
-//! batches, each held also to the engine's own trials.
+//! A batch of moves in figures, as tests of any engine: what it reports of model A, both sides of its refusal, and
+//! random batches, each held also to the engine's own trials.
 
 use lent::{MOST_MOVES, NUMBERS};
 use second::BLANK;
@@ -139,8 +139,8 @@ fn refusal_1(engine: &dyn Engine) {
     assert_eq!(answer, Answer { number: 1, ..NOTHING }, "refused");
 }
 
-/// What a trial refuses is counted: pairs that are not lent, a variable that is not there, another number of blanks, a short
-/// table and a table that no call accepts.
+/// What a trial refuses is counted: pairs that are not lent, a variable that is not there, another number of blanks, a
+/// short table and a table that no call accepts.
 fn what_is_refused_is_counted(engine: &dyn Engine) {
     let model = built(engine, &model_a());
     let moves = [vec![(1, 28801), (0, 25201)], vec![(2, 500)], vec![], vec![(1, 28801)]];

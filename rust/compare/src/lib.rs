@@ -5,8 +5,9 @@
 //! element of every buffer, and the guards. [`run`] does so for as many random cases as it is told, from a seed, and
 //! [`shrink`] makes a case on which two engines differ smaller. [`sessions`] keeps and takes back over long sessions,
 //! [`reasons`] asks why values are blank, [`chains`] leads round closed chains, and [`salvages`] saves damaged files. [`versions`] reads and
-//! writes files of version 2, and moves files from one version to the other. [`figures`] has batches of moves in figures, [`boards`]
-//! departure boards, and [`parts`] the inputs of rows. [`tests_of!`] is everything that an engine must pass.
+//! writes files of version 2, and moves files from one version to the other. [`figures`] has batches of moves in
+//! figures, [`boards`] departure boards, and [`parts`] the inputs of rows. [`tests_of!`] is everything that an engine
+//! must pass.
 #![forbid(unsafe_code)]
 #![warn(missing_docs)]
 

@@ -30,9 +30,9 @@ pub fn random_calls(engine: &dyn Engine) {
 
 /// The tests of an engine: the runs that the specification names, why values are blank, closed chains, both sides of the edge of every
 /// refusal, files there and back, the deepest models on a small stack, random calls beside the second implementation, long sessions of keeps
-/// and takings back, the fuzz runs, files of both versions, damaged files that are saved, batches in figures, departure boards and the inputs of
-/// rows.
-/// The second expression is the engine whose calls have a stack of 2 MiB if their thread has.
+/// and takings back, the fuzz runs, files of both versions, damaged files that are saved, batches in figures, departure
+/// boards and the inputs of rows. The second expression is the engine whose calls have a stack of 2 MiB if their thread
+/// has.
 #[macro_export]
 macro_rules! tests_of {
     ($engine:expr, $on_a_small_stack:expr) => {

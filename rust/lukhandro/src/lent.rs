@@ -203,9 +203,9 @@ pub fn to_version_1(bytes: &[u8], file: &mut [u8]) -> MoveOutcome {
 }
 
 /// Tries every move of a batch on the same stored values by each of the three routes and keeps none: fills the first 22
-/// places of `by_number` with the moves accepted and those refused by each number, and gives the figures of the accepted
-/// ones. Refusal 1 for more than 1,000 moves, fewer numbers of pairs than moves, or fewer than 22 places; a move that is
-/// refused is only counted.
+/// places of `by_number` with the moves accepted and those refused by each number, and gives the figures of the
+/// accepted ones. Refusal 1 for more than 1,000 moves, fewer numbers of pairs than moves, or fewer than 22 places; a
+/// move that is refused is only counted.
 #[rustfmt::skip]
 pub fn figures(session: &Session, tables: Tables<'_>, bounds: Bounds<'_>, lent: Figures<'_>) -> FiguresOutcome {
     let Tables { n, m, e, kinds, makes, params, firsts, counts, vars, coefs } = tables;

@@ -26,14 +26,14 @@
 //!
 //! [`to_version_2`] and [`to_version_1`] make a model file of one version one of the other.
 //!
-//! [`Model::figures`] shows a batch of moves in figures before any is kept, and [`departures`] lists the departures of one
-//! trip's windows.
+//! [`Model::figures`] shows a batch of moves in figures before any is kept, and [`departures`] lists the departures of
+//! one trip's windows.
 //!
 //! [`lent`] has the same calls for callers who keep the buffers themselves.
 //!
-//! A thread that calls should have a stack of 2 MiB, as Rust's threads do. On the deepest model a batch in figures takes
-//! 1,120 KiB of it, a trial by route 2 or 3 1,104, a build 1,008, a keep, a taking back and a trial by route 1 976, a salvage
-//! 768 and a departure board 144, measured on an x86-64 machine; no other call takes more than 128.
+//! A thread that calls should have a stack of 2 MiB, as Rust's threads do. On the deepest model a batch in figures
+//! takes 1,120 KiB of it, a trial by route 2 or 3 1,104, a build 1,008, a keep, a taking back and a trial by route 1
+//! 976, a salvage 768 and a departure board 144, measured on an x86-64 machine; no other call takes more than 128.
 #![warn(missing_docs)]
 
 #[cfg(not(target_arch = "x86_64"))]

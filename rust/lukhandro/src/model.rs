@@ -323,8 +323,8 @@ impl Model {
         Ok(Trial { evaluations, results, values: &self.trial, flags: &self.flags, why })
     }
 
-    /// Tries up to 1,000 moves, each on the values that are stored now, and gives what they come to for one variable. None is
-    /// kept; a move that is refused is only counted, and the order of the moves changes nothing.
+    /// Tries up to 1,000 moves, each on the values that are stored now, and gives what they come to for one variable.
+    /// None is kept; a move that is refused is only counted, and the order of the moves changes nothing.
     ///
     /// ```
     /// use lukhandro::{Model, Row};

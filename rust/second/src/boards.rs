@@ -32,8 +32,8 @@ impl Window {
 /// Fills the front of a row with all departures of the windows in time order; gives how many there are.
 ///
 /// # Errors
-/// Refusal 1 for more than 64 windows or too few numbers, 2 for a blank or a headway of 0 or less, 3 for two windows that
-/// overlap, 4 for more than 2,000 departures, 5 for a row shorter than the list.
+/// Refusal 1 for more than 64 windows or too few numbers, 2 for a blank or a headway of 0 or less, 3 for two windows
+/// that overlap, 4 for more than 2,000 departures, 5 for a row shorter than the list.
 pub fn departures(windows: Windows<'_>, list: &mut [i32]) -> Result<usize, Refused> {
     let Windows { windows: count, starts, ends, headways } = windows;
     fits(&[count <= MOST_WINDOWS, [starts, ends, headways].iter().all(|row| row.len() >= count)])?;

@@ -12,6 +12,7 @@
 #define LOG LENT(log_sizes), LENT(log_vars), LENT(log_values)
 #define MOVE 1, LENT(move_vars), LENT(move_values)
 #define BATCH LENT(move_pairs), LENT(batch_vars), LENT(batch_values)
+#define WINDOWS LENT(window_starts), LENT(window_ends), LENT(headways)
 
 static uint16_t kinds[3] = {8, 9, 1}, makes[3] = {3, 4, 5}, firsts[3] = {0, 3, 6}, counts[3] = {3, 3, 1};
 static uint16_t vars[7] = {0, 1, 2, 0, 1, 2, 3}, numbers[6], order[3], reader_starts[7], reader_places[7];
@@ -52,9 +53,9 @@ static void print_moved(const char *call, lukhandro_move_outcome moved) {
 }
 
 static void print_figures(lukhandro_figures_outcome figures) {
-    printf("figures %u %u, %u blank, %d to %d, sum %lld, evaluations %u %u %u, by number", figures.number, figures.place,
-        figures.blank, figures.least, figures.greatest, (long long)figures.sum, figures.first, figures.second,
-        figures.third);
+    printf("figures %u %u, %u blank, %d to %d, sum %lld, ", figures.number, figures.place, figures.blank, figures.least,
+        figures.greatest, (long long)figures.sum);
+    printf("evaluations %u %u %u, by number", figures.first, figures.second, figures.third);
     for (int number = 0; number < 23; number++) printf(" %u", by_number[number]);
     printf("\n");
 }
@@ -154,10 +155,10 @@ int main(void) {
     print_figures(lukhandro_figures(&session, 6, 3, 7, TABLES, BOUNDS, INDEXED, 4, BATCH, 5, by_number, 21));
     print_figures(lukhandro_figures(&session, 6, 3, 7, TABLES, BOUNDS, INDEXED, 5, BATCH, 5, LENT(by_number)));
     print_figures(lukhandro_figures(&session, 6, 3, 7, TABLES, BOUNDS, INDEXED, 0, BATCH, 5, by_number, 22));
-    print_departures(lukhandro_departures(2, LENT(window_starts), LENT(window_ends), LENT(headways), departures, 8));
-    print_departures(lukhandro_departures(2, LENT(window_starts), LENT(window_ends), LENT(headways), LENT(departures)));
+    print_departures(lukhandro_departures(2, WINDOWS, departures, 8));
+    print_departures(lukhandro_departures(2, WINDOWS, LENT(departures)));
     window_ends[1]++;
-    print_departures(lukhandro_departures(2, LENT(window_starts), LENT(window_ends), LENT(headways), LENT(departures)));
+    print_departures(lukhandro_departures(2, WINDOWS, LENT(departures)));
     print_inputs(1);
     print_inputs(2);
     print_inputs(3);

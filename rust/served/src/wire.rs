@@ -8,8 +8,8 @@ const GAP: u8 = 0x5A;
 /// Every buffer of a block begins at a multiple of this, guards and all.
 const ALIGNED: usize = 8;
 
-/// The numbers of a request before its places and lengths, and all its bytes before its block: the numbers, and the place and
-/// length of the record and the 34 buffers.
+/// The numbers of a request before its places and lengths, and all its bytes before its block: the numbers, and the
+/// place and length of the record and the 34 buffers.
 const NUMBERS: usize = 11;
 const REQUEST: usize = 8 * (NUMBERS + 2 * 35);
 

@@ -5,7 +5,7 @@ use mathlib.Core.Path.{refl, ap}
 use lib.ListN.{length}
 use borrow.Author.Needs.{needs}
 use borrow.Author.Tests.{not-true, not-false}
-use Rattle.parts.specs.Given.{partOf}
+use Rattle.parts.specs.Given.{partNamed}
 use Rattle.parts.proofs.Asked.{row-there, asked}
 use Rattle.parts.proofs.part_of_row.Statement.{statement}
 use Rattle.parts.proofs.part_of_row.Tie as tie
@@ -13,7 +13,7 @@ use Rattle.parts.proofs.part_of_row.Tie as tie
 returns : tie.Need-returns
 returns c =
     let a = c .before .before .before .before .args in
-    ap partOf (asked (a .m) (a .e) (a .firsts .now) (a .counts .now) (a .vars .now) (a .row) _ _ refl refl false _ (not-true _ (c .if1 .taken)) refl)
+    ap partNamed (asked (a .m) (a .e) (a .firsts .now) (a .counts .now) (a .vars .now) (a .row) _ _ refl refl false _ (not-true _ (c .if1 .taken)) refl)
 
 there : (c : tie.Else1) → let a = c .before .before .before .before .args in (a .row < length (a .firsts .now)) × (a .row < length (a .counts .now))
 there c =
@@ -44,14 +44,14 @@ add-end c = search needs
 returns-2 : tie.Need-returns-2
 returns-2 c =
     let a = c .before .before .before .before .before .before .before .before .before .args in
-    ap partOf
+    ap partNamed
     (asked (a .m) (a .e) (a .firsts .now) (a .counts .now) (a .vars .now) (a .row) _ _ (c .before .before .before .wide .ensures .0) (c .before .wide2 .ensures .0)
     true false (not-false _ (c .before .before .before .before .before .if1 .left)) (not-true _ (c .if2 .taken)))
 
 returns-3 : tie.Need-returns-3
 returns-3 c =
     let a = c .before .before .before .before .before .before .before .before .before .args in
-    ap partOf
+    ap partNamed
     (asked (a .m) (a .e) (a .firsts .now) (a .counts .now) (a .vars .now) (a .row) _ _ (c .before .before .before .wide .ensures .0) (c .before .wide2 .ensures .0)
     true true (not-false _ (c .before .before .before .before .before .if1 .left)) (not-false _ (c .if2 .left)))
 
