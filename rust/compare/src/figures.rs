@@ -238,7 +238,7 @@ fn batches(engine: &dyn Engine, draw_model: impl Fn(&mut Random, usize) -> Case)
     }
     println!("{refused} refused, {by_number:?}, {blanks} with blanks, {values} with values");
     let never = [6, 9, 14, 15, 16, 18];
-    let often = |number: usize| if never.contains(&number) { by_number[number] == 0 } else { by_number[number] > 10 };
+    let often = |number: usize| if never.contains(&number) { by_number[number] == 0 } else { by_number[number] > 50 };
     assert!((0..NUMBERS).all(often), "every number of a trial by a route: {by_number:?}");
     assert!(refused > 100 && blanks > 100 && values > 1_000, "refused, blank and of value");
 }
@@ -275,7 +275,7 @@ fn draw(random: &mut Random, model: &Case) -> Case {
     let asked = if random.once_in(12) { random.below(65536) } else { random.below(built.n) };
     let mut case = batch(&built, &moves, asked as u16);
     case.by_number = Guarded::junk(random, NUMBERS);
-    match random.below(10) {
+    match random.below(14) {
         0 | 1 => {
             // what a trial is lent made wrong, the move apart
             let mut wrong = Case { call: Call::Trial, ..built };
@@ -286,6 +286,11 @@ fn draw(random: &mut Random, model: &Case) -> Case {
         2 => shorten(random, &mut case),
         3 => case.moves = random.pick(&[case.moves + 1, 1001, usize::MAX, case.moves.saturating_sub(1)]),
         4 => case.session.blanks = random.below(4) as u32,
+        5 => case.kinds.put(random.below(case.m), random.pick(&[0, 10, 65535])),
+        6 => {
+            let makes = case.makes.first().copied().unwrap_or(0);
+            case.makes.put(random.below(case.m), makes);
+        }
         _ => {}
     }
     if random.once_in(3) {
