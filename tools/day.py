@@ -53,10 +53,10 @@ def day():
     totals = [d.made('%s: departures of the day' % trip, LINEAR, [departures[i] for i in of[trip]]) for trip in TRIPS]
     ends = [d.made('%s: last departure of the day' % trip, MAX, [lasts[i] for i in of[trip]], time=True) for trip in TRIPS]
     d.made('first start of the day', MIN, [w[0] for w in windows], time=True)
-    need = d.made('crew need in minutes: 20 for a trip of STBA, 30 for one of CITY1 or CITY2', LINEAR, totals, MINUTES)
+    need = d.made('crew need in minutes: 20 a trip of STBA, else 30', LINEAR, totals, MINUTES)
     d.made('minutes that drivers are short of', OVER, [need, drivers])
-    d.made('clashes: lines whose last departure is at the same time as that of another line', SHARED, ends)
-    d.made('windows without a departure', COUNT, departures)
+    d.made('clashes: lines that depart last when another line does', SHARED, ends)
+    d.made('empty windows', COUNT, departures)
     d.made('departures of the line in view', ELEMENT, [view] + totals)
     return d
 

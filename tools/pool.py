@@ -1,4 +1,4 @@
-"""What the tools share that write the cases of a program: rows that stand in a pool, what is printed of a row, and the files that are written."""
+"""What the tools share that write vectors: rows that stand in a pool, what is shown of a row, and the files that are written."""
 import os
 import struct
 import sys
@@ -43,20 +43,34 @@ def row(name, xs):
     return '; ' + ' '.join([name] + [value(x) for x in xs])
 
 
-def written(program, parts, File, files, shown):
-    """Writes the files of cases, one for each part, the arguments that name them, and what must be printed; with --check it writes nothing, and fails
-    if what stands there is out of date. A part makes its cases in the last of `files`, and puts their lines into `shown`."""
-    tool = 'tools/' + program
+def written(name, parts, File, files, shown):
+    """Writes the vectors of a name: for each part a file of cases in rust/vectors/NAME/data, and the lines that must come out in rust/vectors/NAME/expected;
+    with --check it writes nothing, and fails if what stands there is out of date. A part makes its cases in the last of `files`, and puts their lines
+    into `shown`."""
+    tool, folder = 'tools/' + name, 'rust/vectors/' + name
     if sys.argv[1:] not in ([], ['--check']):
         sys.exit('usage: %s [--check]' % tool)
     want = {}
     for part in parts:
         files.append(File())
+        before = len(shown)
         part()
-        want['data/' + part.__name__] = files[-1].data()
-    want['args'] = ''.join(part.__name__ + '\n' for part in parts).encode()
-    want['stdout'] = ''.join(line + '\n' for line in shown).encode()
+        want['%s/data/%s' % (folder, part.__name__)] = files[-1].data()
+        want['%s/expected/%s' % (folder, part.__name__)] = ''.join(line + '\n' for line in shown[before:]).encode()
     check = '--check' in sys.argv
     root = os.path.dirname(os.path.dirname(os.path.abspath(__file__)))
-    good = kept(root, {'crates/%s/%s' % (program, path): data for path, data in want.items()}, check, tool)
+    good = kept(root, want, check, tool) & none_more(root, folder, want, check, tool)
     sys.exit(1 if check and not good else 0)
+
+
+def none_more(root, folder, want, check, tool):
+    """Removes the files of a folder that are not wanted; with check it removes none, and says which they are. True if there is none."""
+    have = [os.path.relpath(os.path.join(place, name), root) for place, _, names in os.walk(os.path.join(root, folder)) for name in names]
+    more = sorted(set(have) - set(want))
+    for path in more:
+        if check:
+            print('%s is one too many: run %s' % (path, tool))
+        else:
+            os.remove(os.path.join(root, path))
+            print('removed', path)
+    return not more

@@ -1,6 +1,6 @@
 #!/usr/bin/env python3
-"""test_replay: the recorded sessions of crates/replay, whose answers rust/second gave, answered by model.py. rust/compare/src/bin/record.rs says how they
-are laid out."""
+"""test_replay: the recorded sessions of rust/vectors/replay, whose answers rust/second gave, answered by model.py. rust/compare/src/vectors/replay.rs says
+how they are laid out."""
 import os
 import struct
 import sys
@@ -10,8 +10,8 @@ sys.dont_write_bytecode = True
 sys.path.insert(0, os.path.dirname(os.path.abspath(__file__)))
 from model import *
 
-REPLAY = os.path.join(os.path.dirname(os.path.dirname(os.path.abspath(__file__))), 'crates', 'replay')
-ROWS, ENTRIES = 16, 64  # the room that the program has
+REPLAY = os.path.join(os.path.dirname(os.path.dirname(os.path.abspath(__file__))), 'rust', 'vectors', 'replay')
+ROWS, ENTRIES = 16, 64  # the room that a session has
 WIDE, NARROW = {3, 10, 15, 16, 17}, {7}  # rows of signed fields of 32 bits and of 16
 
 
@@ -97,15 +97,14 @@ def replayed(data):
 
 class Replay(unittest.TestCase):
     def test_sessions(self):
-        with open(os.path.join(REPLAY, 'args')) as f:
-            names = f.read().split()
-        lines = []
+        names = sorted(os.listdir(os.path.join(REPLAY, 'data')))
+        self.assertTrue(names)
         for name in names:
             with open(os.path.join(REPLAY, 'data', name), 'rb') as f:
-                lines += replayed(f.read())
-        with open(os.path.join(REPLAY, 'stdout')) as f:
-            for i, (mine, recorded) in enumerate(zip(lines, f.read().splitlines(), strict=True)):
-                self.assertEqual(mine, recorded, 'line %d' % (i + 1))
+                lines = replayed(f.read())
+            with open(os.path.join(REPLAY, 'expected', name)) as f:
+                for i, (mine, recorded) in enumerate(zip(lines, f.read().splitlines(), strict=True)):
+                    self.assertEqual(mine, recorded, '%s, line %d' % (name, i + 1))
 
 
 if __name__ == '__main__':

@@ -22,7 +22,7 @@ use Rattle.paper.proofs.Buffers.{length-below}
 use Rattle.paper.proofs.Windows.{departures-is}
 use Rattle.times.specs.Windows.{Board, windowGood, start, end, headway, timesOf, timesBelow, list, numbersGood, fewEnough}
 use Rattle.times.proofs.Listing.{list-long}
-use Rattle.boards.specs.Counting.{counted}
+use Rattle.boards.specs.Counting.{countedOn}
 
 -- ── DEPARTURES of a good window ──
 none-blank : (a b c : Bool) → not a ≡ true → not b ≡ true → not c ≡ true → (a || (b || (c || false))) ≡ false
@@ -36,19 +36,19 @@ departs s e h g =
     ∙ departures-is s e h (f .1 .1 .1 .0)
 
 -- what is below 0 is blank, and counts as more than 2,000
-pub counted-blank : (count : ℕ) (d : ℤ) → ltZ d (pos 0) ≡ true → 2001 ≡ counted count d
+pub counted-blank : (count : ℕ) (d : ℤ) → ltZ d (pos 0) ≡ true → 2001 ≡ countedOn count d
 counted-blank count (pos k) e = absurd (not-suc-le-zero (ltb-true k 0 e))
 counted-blank count (negsuc k) e = refl
 
-pub counted-more : (count : ℕ) (d : ℤ) → ltZ d (pos 0) ≡ false → counted count d ≡ min (count + natAbs d) 2001
+pub counted-more : (count : ℕ) (d : ℤ) → ltZ d (pos 0) ≡ false → countedOn count d ≡ min (count + natAbs d) 2001
 counted-more count (pos k) e = refl
 counted-more count (negsuc k) e = absurd (true≢false e)
 
 -- one window's counted on
-counted-step : (count before k : ℕ) → count ≡ min before 2001 → counted count (fit (pos k)) ≡ min (before + k) 2001
+counted-step : (count before k : ℕ) → count ≡ min before 2001 → countedOn count (fit (pos k)) ≡ min (before + k) 2001
 counted-step count before k e = go (leb k 2147483647) refl
   where
-    go : (b : Bool) → leb k 2147483647 ≡ b → counted count (cond b (pos k) blank) ≡ min (before + k) 2001
+    go : (b : Bool) → leb k 2147483647 ≡ b → countedOn count (cond b (pos k) blank) ≡ min (before + k) 2001
     go true q = let same : min (count + k) 2001 ≡ min (before + k) 2001 = omega arith in same
     go false q = let l = leb-false k 2147483647 q in let same : 2001 ≡ min (before + k) 2001 = omega arith in same
 
@@ -60,9 +60,9 @@ module _ (b : Board) where
   below-long i = joined-grown (timesOf b) i ∙ ap (length (timesBelow b i) +_) (length-below (λ k. start b i +ℤ pos k *ℤ headway b i) (trips-of i))
 
   pub counted-on : (i count : ℕ) → numbersGood b i ≡ true → count ≡ min (length (timesBelow b i)) 2001
-      → counted count (strict 8 (pos 0) [] (start b i ∷ end b i ∷ headway b i ∷ [])) ≡ min (length (timesBelow b (i + 1))) 2001
+      → countedOn count (strict 8 (pos 0) [] (start b i ∷ end b i ∷ headway b i ∷ [])) ≡ min (length (timesBelow b (i + 1))) 2001
   counted-on i count g e =
-      ap (counted count) (departs (start b i) (end b i) (headway b i) g) ∙ counted-step count (length (timesBelow b i)) (trips-of i) e
+      ap (countedOn count) (departs (start b i) (end b i) (headway b i) g) ∙ counted-step count (length (timesBelow b i)) (trips-of i) e
       ∙ ap (λ k. min k 2001) (sym (below-long i)) ∙ ap (λ (j : ℕ). min (length (timesBelow b j)) 2001) (sym (add-one i))
 
   -- a window has no more than all of them

@@ -11,8 +11,8 @@ use borrow.Author.Tests.{leb-true}
 use Rattle.paper.specs.Checks.{Verdict, accepted, refused, check, require, leaves}
 use Rattle.paper.proofs.Lists.{each}
 use Rattle.paper.proofs.Verdicts.{check-rest, check-held, require-next, require-stops, require-rest, require-held}
-use Rattle.times.specs.Windows.{Board, list, windowsFit, numbersGood, apart, fewEnough, roomGiven, boardVerdict, Passed}
-use Rattle.boards.specs.Board.{answered, boardLeaves, board, left}
+use Rattle.times.specs.Windows.{Board, list, windowsFit, numbersGood, apart, fewEnough, roomGiven, boardVerdict, BoardPassed}
+use Rattle.boards.specs.Board.{listedBy, boardLeaves, board, leftByBoard}
 use Rattle.boards.specs.declared.Listed.{Listed}
 use Rattle.boards.specs.declared.Listed.the-variants.{Accepted, Refused}
 
@@ -49,7 +49,7 @@ module _ (b : Board) where
   past-1 = require-next 1 0 (windowsFit b) fromTwo
 
   -- accepted: all five are passed
-  pub passed : boardVerdict b ≡ accepted → Passed b
+  pub passed : boardVerdict b ≡ accepted → BoardPassed b
   unfolding boardVerdict
   passed e =
       let e₂ = require-rest 1 0 (windowsFit b) fromTwo e in
@@ -64,19 +64,19 @@ module _ (b : Board) where
       }
 
 -- ── an answer, and the verdict that it stands for ──
-pub accepted-is : (v : Verdict) (count k : ℕ) → answered v count ≡ Accepted k → v ≡ accepted
+pub accepted-is : (v : Verdict) (count k : ℕ) → listedBy v count ≡ Accepted k → v ≡ accepted
 accepted-is accepted count k e = refl
 accepted-is (refused a p) count k e = let z : _≡_ {A = ℕ} 0 1 = cc in absurd (lt-irrefl 1 (omega arith))
 
-pub refused-is : (v : Verdict) (count a p : ℕ) → answered v count ≡ Refused a p → v ≡ refused a p
+pub refused-is : (v : Verdict) (count a p : ℕ) → listedBy v count ≡ Refused a p → v ≡ refused a p
 refused-is accepted count a p e = let z : _≡_ {A = ℕ} 0 1 = cc in absurd (lt-irrefl 1 (omega arith))
 refused-is (refused b q) count a p e = let x : b ≡ a = cc in let y : q ≡ p = cc in rw (x, y)
 
 -- ── the answer, and what is left, by the verdict ──
-pub answers : (b : Board) (r : Listed) (v : Verdict) → boardVerdict b ≡ v → r ≡ answered v (length (list b)) → r ≡ answered (boardVerdict b) (length (list b))
-answers b r v e p = p ∙ ap (λ x. answered x (length (list b))) (sym e)
+pub answers : (b : Board) (r : Listed) (v : Verdict) → boardVerdict b ≡ v → r ≡ listedBy v (length (list b)) → r ≡ listedBy (boardVerdict b) (length (list b))
+answers b r v e p = p ∙ ap (λ x. listedBy x (length (list b))) (sym e)
 
-pub board-meets : (b : Board) (r : Listed) (row : List ℤ) (v : Verdict) → boardVerdict b ≡ v → r ≡ answered v (length (list b))
-    → row ≡ leaves v (list b ++ drop (length (list b)) (b .row)) (b .row) → left r row ≡ board b
+pub board-meets : (b : Board) (r : Listed) (row : List ℤ) (v : Verdict) → boardVerdict b ≡ v → r ≡ listedBy v (length (list b))
+    → row ≡ leaves v (list b ++ drop (length (list b)) (b .row)) (b .row) → leftByBoard r row ≡ board b
 unfolding board
-board-meets b r row v e p q = ap₂ left p q ∙ ap (boardLeaves b) (sym e)
+board-meets b r row v e p q = ap₂ leftByBoard p q ∙ ap (boardLeaves b) (sym e)

@@ -10,7 +10,7 @@ use borrow.Author.Tests.{leb-true}
 use Rattle.paper.specs.Lists.{between, firstFail}
 use Rattle.paper.specs.Checks.{Verdict, accepted, refused, check, require}
 use Rattle.times.specs.Windows.{Board, list, windowsFit, numbersGood, apart, fewEnough, roomGiven, boardVerdict}
-use Rattle.boards.specs.Board.{Left, boardLeaves, board}
+use Rattle.boards.specs.Board.{BoardLeft, boardLeaves, board}
 use Rattle.boards.specs.Outcome.{Outcome, refuses, accepts}
 use Rattle.boards.proofs.Judging.{passed}
 
@@ -51,6 +51,6 @@ module _ (b : Board) where
       })
 
   -- what a caller has, by the call's contract
-  pub outcome : (x : Left) → x ≡ board b → Outcome b x
+  pub outcome : (x : BoardLeft) → x ≡ board b → Outcome b x
   unfolding board
   outcome x e = rw e (by-verdict (boardVerdict b) refl)

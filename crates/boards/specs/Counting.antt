@@ -3,6 +3,6 @@ use Prim.Native.Nat.{ℕ, _+_, min}
 use lib.IntN.{ℤ, pos, negsuc}
 
 -- the count with one window's DEPARTURES, which is blank only for more than 2,147,483,647
-abbrev pub counted : ℕ → ℤ → ℕ
-counted count (pos more) = min (count + more) 2001
-counted count (negsuc z) = 2001
+abbrev pub countedOn : ℕ → ℤ → ℕ
+countedOn count (pos more) = min (count + more) 2001
+countedOn count (negsuc z) = 2001

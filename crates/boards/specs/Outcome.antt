@@ -4,25 +4,25 @@ use mathlib.Core.Bool.{true}
 use mathlib.Core.Path.{_≡_}
 use lib.ListN.{length, take, drop}
 use Rattle.paper.specs.Lists.{between}
-use Rattle.times.specs.Windows.{Board, list, Passed}
-use Rattle.boards.specs.Board.{Left, lengthOf}
+use Rattle.times.specs.Windows.{Board, list, BoardPassed}
+use Rattle.boards.specs.Board.{BoardLeft, lengthOf}
 use Rattle.boards.specs.declared.Listed.the-variants.{Accepted, Refused}
 
 -- refused with a number from 1 to 5: the length is 0, and the row is as it was
-pub record Refusal (b : Board) (x : Left) (number place : ℕ) : Type 0 where
+pub record Refusal (b : Board) (x : BoardLeft) (number place : ℕ) : Type 0 where
   pub answer : x .answer ≡ Refused number place
   pub own : between 1 number 5 ≡ true
   pub none : lengthOf (x .answer) ≡ 0
   pub row : x .row ≡ b .row
 
 -- accepted, all checks passed: the length is the list's, the list stands in the first places of the row, and the rest is as it was
-pub record Acceptance (b : Board) (x : Left) : Type 0 where
+pub record Acceptance (b : Board) (x : BoardLeft) : Type 0 where
   pub answer : x .answer ≡ Accepted (length (list b))
-  pub passed : Passed b
+  pub passed : BoardPassed b
   pub front : take (length (list b)) (x .row) ≡ list b
   pub rest : drop (length (list b)) (x .row) ≡ drop (length (list b)) (b .row)
   pub long : length (x .row) ≡ length (b .row)
 
-pub data Outcome (b : Board) (x : Left) : Type 0 where
+pub data Outcome (b : Board) (x : BoardLeft) : Type 0 where
   refuses : (number place : ℕ) → Refusal b x number place → Outcome b x
   accepts : Acceptance b x → Outcome b x

@@ -3,13 +3,13 @@ ghost use mathlib.Core.Path.{_≡_};
 ghost use lib.ListN.{length};
 ghost use Prim.Native.Nat.{_≤_};
 ghost use Rattle.times.specs.Windows.{lends, list, boardVerdict};
-ghost use Rattle.boards.specs.Board.{board, answered, left};
+ghost use Rattle.boards.specs.Board.{board, listedBy, leftByBoard};
 use crate::Listed;
 use crate::trips::count_departures;
-use lists::write_list;
-use overlaps::first_bad_number;
-use overlaps::first_overlapping;
-use overlaps::windows_fit;
+use times::lists::write_list;
+use times::overlaps::first_bad_number;
+use times::overlaps::first_overlapping;
+use times::overlaps::windows_fit;
 
 // The answer that refuses with a number and a place.
 fn refused(number: u32, place: usize) -> Listed
@@ -24,7 +24,7 @@ fn refused(number: u32, place: usize) -> Listed
 
 // Checks 1 to 5, each over all windows before the next.
 fn judge(windows: usize, starts: &[i32], ends: &[i32], headways: &[i32], row: &[i32]) -> Listed
-    ensures { λ r. ⌜ (let b = lends windows (now (starts .entry)) (now (ends .entry)) (now (headways .entry)) (now (row .entry)) in r ≡ answered (boardVerdict b) (length (list b))) ⌝ }
+    ensures { λ r. ⌜ (let b = lends windows (now (starts .entry)) (now (ends .entry)) (now (headways .entry)) (now (row .entry)) in r ≡ listedBy (boardVerdict b) (length (list b))) ⌝ }
 {
     if !windows_fit(windows, starts, ends, headways) {
         return refused(1, 0);
@@ -55,7 +55,7 @@ pub fn list_departures(
     headways: &[i32],
     row: &mut [i32],
 ) -> Listed
-    ensures { λ r. ⌜ left r (now (row .exit)) ≡ board (lends windows (now (starts .entry)) (now (ends .entry)) (now (headways .entry)) (now (row .entry))) ⌝ }
+    ensures { λ r. ⌜ leftByBoard r (now (row .exit)) ≡ board (lends windows (now (starts .entry)) (now (ends .entry)) (now (headways .entry)) (now (row .entry))) ⌝ }
 {
     let judged = judge(windows, starts, ends, headways, row);
     let Listed::Accepted { .. } = judged else {

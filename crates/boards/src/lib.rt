@@ -1,5 +1,4 @@
-// Departure boards: from the windows of one trip all its departures in time order. Stands on what the engine states, and below it
-// only on which number is blank.
+// Departure boards: from the windows of one trip all its departures in time order. How many a window has is what build leaves of a model of that window.
 mod boards;
 mod trips;
 

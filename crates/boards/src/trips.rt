@@ -5,10 +5,10 @@ ghost use Prim.Native.Nat.{_≤_, min};
 ghost use lib.IntN.{pos};
 ghost use lib.ListN.{length};
 ghost use Rattle.paper.specs.Formula.{strict};
-ghost use Rattle.times.specs.Windows.{lends, timesBelow, Numbered};
-ghost use Rattle.boards.specs.Counting.{counted};
-use blanks::BLANK;
-use building::build_new;
+ghost use Rattle.times.specs.Windows.{lends, timesBelow, NumbersGood};
+ghost use Rattle.boards.specs.Counting.{countedOn};
+use build::building::build_new;
+use formulas::blanks::BLANK;
 
 // DEPARTURES of a window, the one row of a model of it: variables 0 to 2 are its numbers, and row 0 makes variable 3. Build refuses a blank number and leaves the row as it
 // was: then there is no value.
@@ -45,7 +45,7 @@ fn departures_of(start: i32, end: i32, headway: i32) -> i32
 // The count with a window's departures, and 2,001 for any more than 2,000. DEPARTURES is blank only for more than that.
 fn counted_on(count: usize, departures: i32) -> usize
     requires { ⌜ count ≤ 2001 ⌝ }
-    ensures { λ r. ⌜ r ≡ counted count departures ⌝ }
+    ensures { λ r. ⌜ r ≡ countedOn count departures ⌝ }
 {
     if departures < 0 {
         return 2001;
@@ -65,7 +65,7 @@ pub(crate) fn count_departures(
     headways: &[i32],
 ) -> usize
     requires { ⌜ (windows ≤ length (now starts)) × (windows ≤ length (now ends)) × (windows ≤ length (now headways)) ⌝ }
-    requires { ⌜ Numbered (lends windows (now starts) (now ends) (now headways) []) ⌝ }
+    requires { ⌜ NumbersGood (lends windows (now starts) (now ends) (now headways) []) ⌝ }
     ensures { λ r. ⌜ r ≡ min (length (timesBelow (lends windows (now (starts .entry)) (now (ends .entry)) (now (headways .entry)) []) windows)) 2001 ⌝ }
 {
     let mut count = 0;

@@ -1,11 +1,7 @@
 -- What the walk of `lukhandro_figures` has beside `Answered`: the record behind a shared reference, and the call of `figures_numbers`. The names of the kit that it is written in are passed on.
 --     looks-record, shuts-record    the reference is looked into: [a share of the record's cell; what it owns; what shuts it; the reference]; and it is shut again
 --     owns-record        what a record owns, which is had for nothing
---     Put, to-put        the contract of `figures_numbers`, and what it is passed
---     sees-counted       what is known of the answer
---     gives-counted      what it asks for, from the answer
---     takes-outcome      it has returned: [the outcome]
---     put-known          its contract, over an environment where its name means it
+--     put-known          the contract of `figures_numbers`, over an environment where its name means it
 --     counted-typed, outcome-typed    a local may hold it
 -- The steps take `Given`. The rest assumes nothing.
 use Prim.Native.Nat.{ℕ}
@@ -13,14 +9,15 @@ use mathlib.Core.Path.{_≡_}
 use mathlib.Core.List.{List}
 use lib.Dec.{T}
 use mir.Val.{Val, WT, hasTy}
-use base.Fml.{Lft, Share, ftrue, fobor, fshr-bor}
+use base.Fml.{Lft, Share, fobor, fshr-bor}
 use prog.Model.{Model}
 use prog.Routine.{Env}
 use contract.Running.{GhostRules, Running}
-use types.Kit.{Item, Goal, Soaks, Seq, Step, step}
+use types.Kit.{Item, Goal, Soaks, Seq, Step}
+use denote.RattleType.{RattleType}
 use denote.Laws.{Is, shows}
 use denote.Memory.{cellAt, partAt}
-use denote.Steps.{looks, shuts, owned, peeks, heard, nothing}
+use denote.Steps.{looks, shuts, owned, peeks}
 use denote.Struct.Steps.{spelt}
 use denote.Struct.Laws as LL
 use denote.Enum.Laws as EL
@@ -34,12 +31,11 @@ use Rattle.capi.specs.declared.FiguresOutcome.{FiguresOutcome}
 use Rattle.capi.specs.Products.{figuresInNumbers}
 use Rattle.capi.proofs.FiguresOutcome as O
 use Rattle.capi.proofs.FiguresOutcome.Laws as O′
-use Rattle.capi.proofs.batch.figures_numbers as put
 use Rattle.capi.proofs.batch.figures_numbers.Symbol as put-def
 use Rattle.capi.proofs.batch.figures_numbers.Met as put-thm
-use Rattle.capi.proofs.Answered.{[], _∷_, URA, SProp, Memory, Routine, Heap, Atoms, Fun, Given, ‵, raw, _$_, _∵_, !, qed, move, drop, use2, join, fjoin, frame, done, owns, typesAt, tripleOf, Contract, Triple, tables, cited, Con, returned}
+use Rattle.capi.proofs.Answered.{Put, [], _∷_, URA, Heap, Atoms, Given, ‵, _$_, move, Triple, tables, cited}
 pub use base.Fml.{flft}
-pub use types.Kit.{_⊛_, split, fsplit, fsplit3}
+pub use types.Kit.{_⊛_, use1, split, fsplit, fsplit3}
 pub use types.Run.{look-raw, of-opd}
 pub use denote.Ref.{now}
 pub use Rattle.engine.proofs.Walking.{svals, record-typed}
@@ -61,34 +57,16 @@ module _ {M : Type 1} {𝓤 : URA M} {H : Heap 𝓤} {A : Atoms 𝓤} {K : Type 
   pub owns-record : K → (h : Session) → Is S.the-row h (svals h) → Step K W (‵ (S.the-row .own h (svals h)) ∷ Γ) G Γ G
   owns-record t h is = owned t S.the-row (Is S.the-row) (LL.makes S.the-type S′.the-plain 𝓤 H A) h (svals h) is
 
-module _ {M : Type 1} (𝓤 : URA M) (H : Heap 𝓤) (A : Atoms 𝓤) (memory : Memory → SProp 𝓤) (run : Routine → Fun 𝓤) where
-  abbrev pub Put : Contract 𝓤
-  Put = Con 𝓤 H A put.ended (put.clauses 𝓤 H A memory run)
+-- `figures_numbers` is a function of one parameter
+abbrev pub counted-row : RattleType
+counted-row = R.the-row
 
-  -- the answer r, which the machine has as v
-  module _ (r : Counted) (v : Val) where
-    abbrev pub to-put : Put .Ghost
-    to-put = ((tt, tt, tt, (r, tt), (v ∷ [], tt)), tt)
-
-    module _ {K : Type 0} {W : Given 𝓤 H A} {Γ : List (Item 𝓤)} {G : Goal 𝓤 H} where
-      pub sees-counted : K → (Is R.the-row r (v ∷ []) → Seq K W (‵ (R.the-row .own r (v ∷ [])) ∷ Γ) G) → Seq K W (‵ (R.the-row .own r (v ∷ [])) ∷ Γ) G
-      sees-counted t k = peeks t R.the-row (Is R.the-row) (shows 𝓤 H A R.the-row) r (v ∷ []) k
-
-      pub gives-counted : K → Step K W (raw (Put .pre to-put) ∷ Γ) G (‵ (R.the-row .own r (v ∷ [])) ∷ Γ) G
-      gives-counted t = step (λ z.
-          nothing t $ move t (1 ∷ 0 ∷ []) $ fjoin t $ nothing t $
-          use2 W (raw (Put .pre to-put)) (qed W (‵ ftrue ∷ ‵ (owns (typesAt (put.signature .params) tt) (r, tt) (v ∷ [], tt)) ∷ []) ∵ join ! $ frame ! $ done !) $ z)
-
-      pub takes-outcome : K → Soaks G → (u : Val)
-          → ((out : FiguresOutcome) → out ≡ figuresInNumbers r → Is O.the-row out (u ∷ []) → Seq K W (‵ (O.the-row .own out (u ∷ [])) ∷ Γ) G)
-          → Seq K W (raw (Put .post to-put u) ∷ Γ) G
-      takes-outcome t z u k =
-          returned 𝓤 H A put.ended (put.clauses 𝓤 H A memory run) to-put u t z (λ out ws. drop t $ heard t (out ≡ figuresInNumbers r) (λ e. drop t $
-          peeks t O.the-row (Is O.the-row) (shows 𝓤 H A O.the-row) out (u ∷ []) (λ is. k out e is)))
+abbrev pub figures-row : RattleType
+figures-row = O.the-row
 
 pub put-known : {M : Type 1} (𝓤 : URA M) (H : Heap 𝓤) (𝓜 : Model 𝓤 H) (𝓖 : GhostRules 𝓤 H) (𝓡 : Running 𝓤 H 𝓜) (γ : Env) → γ #capi·figures-numbers ≡ put-def.routine
-    → Triple 𝓤 (tables 𝓤 H 𝓜 𝓡 γ .C #capi·figures-numbers) (Put 𝓤 H (𝓖 .A) (𝓜 .mem) (𝓡 .run))
-put-known 𝓤 H 𝓜 𝓖 𝓡 γ means = cited 𝓤 H (tripleOf 𝓤 H (𝓖 .A) put.signature (put.spec 𝓤 H (𝓖 .A) (𝓜 .mem) (𝓡 .run))) 𝓜 𝓡 γ #capi·figures-numbers put-def.routine means (put-thm.met 𝓤 H 𝓜 𝓖 𝓡)
+    → Triple 𝓤 (tables 𝓤 H 𝓜 𝓡 γ .C #capi·figures-numbers) (Put counted-row figures-row figuresInNumbers 𝓤 H (𝓖 .A))
+put-known 𝓤 H 𝓜 𝓖 𝓡 γ means = cited 𝓤 H (Put counted-row figures-row figuresInNumbers 𝓤 H (𝓖 .A)) 𝓜 𝓡 γ #capi·figures-numbers put-def.routine means (put-thm.met 𝓤 H 𝓜 𝓖 𝓡)
 
 module _ {M : Type 1} {𝓤 : URA M} {H : Heap 𝓤} {A : Atoms 𝓤} (W : Given 𝓤 H A) where
   pub counted-typed : (r : Counted) (v : Val) → Is R.the-row r (v ∷ []) → T (hasTy R′.mir v) × WT v

@@ -3,9 +3,9 @@ use Prim.Native.Nat.{ℕ}
 use mathlib.Core.List.{List}
 use mathlib.Core.Path.{_≡_, refl, ap, _∙_}
 use Rattle.paper.specs.Checks.{Verdict}
-use Rattle.conversions.specs.Answers.{hasConverted}
-use Rattle.conversions.specs.declared.Converted.{Converted}
-use Rattle.conversions.specs.declared.Converted.the-variants.{Accepted, Refused}
+use Rattle.files.specs.MoveAnswers.{hasConverted}
+use Rattle.files.specs.declared.conversions.Converted.{Converted}
+use Rattle.files.specs.declared.conversions.Converted.the-variants.{Accepted, Refused}
 use Rattle.capi.specs.declared.MoveOutcome.{MoveOutcome}
 use Rattle.capi.specs.Versions.{moveInNumbers, movedOut}
 

@@ -6,11 +6,11 @@ use native.Mathlib.Omega.{arith}
 use lib.IntN.{ℤ}
 use Rattle.paper.specs.Tables.{Tables, lent}
 use Rattle.paper.specs.Checks.{Verdict, accepted, leaves}
-use Rattle.paper.specs.File.{Version, version1, version2, Contents, plain, nIn, mIn, eIn, countedAs, laidAs, readVerdictAs, readAs, read, readBounded}
+use Rattle.paper.specs.File.{Version, version1, version2, Contents, unboundedContents, nIn, mIn, eIn, countedAs, laidAs, readVerdictAs, readAs, read, readBounded}
 use Rattle.paper.proofs.Reading.{headed, read-headed}
 use Rattle.files.specs.Answers.{hasRead, hasReadBounded}
-use Rattle.headers.specs.declared.Reading.{Reading}
-use Rattle.headers.specs.declared.Reading.the-variants.{Accepted, Refused}
+use Rattle.files.specs.declared.headers.Reading.{Reading}
+use Rattle.files.specs.declared.headers.Reading.the-variants.{Accepted, Refused}
 use Rattle.capi.specs.declared.ReadOutcome.{ReadOutcome}
 use Rattle.capi.specs.Outcomes.{readInNumbers, Small, leftByRead, readOut}
 use Rattle.capi.specs.Versions.{leftByReadBounded, readBoundedOut}
@@ -57,6 +57,6 @@ module _ (kinds makes : List ℕ) (params : List ℤ) (firsts counts vars : List
 
   pub small-read : (told : Reading) (bytes : List ℕ) (t : Tables) (before : List ℤ) → hasRead told rows starts ≡ read bytes t before → Small told
   small-read (Accepted n m e) bytes t before eq =
-      small-counts version1 bytes (plain t before) (sym (ap (λ (z : Verdict × (Tables × List ℤ)). z .0) eq))
+      small-counts version1 bytes (unboundedContents t before) (sym (ap (λ (z : Verdict × (Tables × List ℤ)). z .0) eq))
       (ap (λ (z : Verdict × (Tables × List ℤ)). z .1 .0 .n) eq) (ap (λ (z : Verdict × (Tables × List ℤ)). z .1 .0 .m) eq) (ap (λ (z : Verdict × (Tables × List ℤ)). z .1 .0 .e) eq)
   small-read (Refused number place) bytes t before eq = small-none number place

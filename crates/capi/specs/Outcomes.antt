@@ -7,37 +7,37 @@ use Rattle.paper.specs.Checks.{Verdict}
 use Rattle.paper.specs.Log.{Log, logIn}
 use Rattle.paper.specs.Calls.{Session, answered, BuildLeft, TrialLeft, KeepLeft}
 use Rattle.paper.specs.File.{counted}
-use Rattle.headers.specs.declared.Reading.{Reading}
-use Rattle.headers.specs.declared.Reading.the-variants as reading
+use Rattle.files.specs.declared.headers.Reading.{Reading}
+use Rattle.files.specs.declared.headers.Reading.the-variants as reading
 use Rattle.salvage.specs.Salvage as salvage
 use Rattle.salvage.specs.declared.Salvaged.{Salvaged}
 use Rattle.salvage.specs.declared.Salvaged.the-variants as salvaged
 use Rattle.records.specs.Left.{recordIn}
 use Rattle.paper.specs.Reasoned.{Reasoned}
 use Rattle.records.specs.declared.Session as code-session
-use Rattle.answers.specs.declared.Outcome.{Outcome}
-use Rattle.answers.specs.Outcomes.{inNumbers}
+use Rattle.records.specs.declared.answers.Outcome.{Outcome}
+use Rattle.records.specs.Outcomes.{inNumbers}
 use Rattle.capi.specs.declared.ReadOutcome.{ReadOutcome}
 use Rattle.capi.specs.declared.SalvageOutcome.{SalvageOutcome}
 
 -- ── what the caller has, and what the paper's call leaves: the answer in numbers, then the record and the rows, that of reasons last ──
 -- build
-abbrev pub leftByBuild : Outcome → code-session.Session → List ℕ → List ℕ → List ℤ → List ℕ → List ℕ → List ℕ → List ℕ → Outcome × (Session × List ℕ × List ℕ × List ℤ × Index × List ℕ × List ℕ)
-leftByBuild r session numbers order stored readerStarts readerPlaces logSizes reasons = (r, (recordIn session, numbers, order, stored, indexIn readerStarts readerPlaces, logSizes, reasons))
+abbrev pub hadByBuild : Outcome → code-session.Session → List ℕ → List ℕ → List ℤ → List ℕ → List ℕ → List ℕ → List ℕ → Outcome × (Session × List ℕ × List ℕ × List ℤ × Index × List ℕ × List ℕ)
+hadByBuild r session numbers order stored readerStarts readerPlaces logSizes reasons = (r, (recordIn session, numbers, order, stored, indexIn readerStarts readerPlaces, logSizes, reasons))
 
 abbrev pub builtOut : Reasoned BuildLeft → Outcome × (Session × List ℕ × List ℕ × List ℤ × Index × List ℕ × List ℕ)
 builtOut x = let left = x .left in (inNumbers (left .answer), (left .session, left .numbers, left .order, left .stored, left .index, left .logSizes, x .reasons))
 
 -- trial
-abbrev pub leftByTrial : Outcome → code-session.Session → List ℤ → List ℤ → List ℕ → List ℕ → Outcome × (Session × List ℤ × List ℤ × List ℕ × List ℕ)
-leftByTrial r session results trial flags why = (r, (recordIn session, results, trial, flags, why))
+abbrev pub hadByTrial : Outcome → code-session.Session → List ℤ → List ℤ → List ℕ → List ℕ → Outcome × (Session × List ℤ × List ℤ × List ℕ × List ℕ)
+hadByTrial r session results trial flags why = (r, (recordIn session, results, trial, flags, why))
 
 abbrev pub triedOut : Reasoned TrialLeft → Outcome × (Session × List ℤ × List ℤ × List ℕ × List ℕ)
 triedOut x = let left = x .left in (inNumbers (left .answer), (left .session, left .results, left .trial, left .flags, x .reasons))
 
 -- keep and taking back
-abbrev pub leftByKeep : Outcome → code-session.Session → List ℤ → List ℕ → List ℕ → List ℕ → List ℤ → List ℕ → Outcome × (Session × List ℤ × List ℕ × Log × List ℕ)
-leftByKeep r session stored flags logSizes logVars logValues reasons = (r, (recordIn session, stored, flags, logIn logSizes logVars logValues, reasons))
+abbrev pub hadByKeep : Outcome → code-session.Session → List ℤ → List ℕ → List ℕ → List ℕ → List ℤ → List ℕ → Outcome × (Session × List ℤ × List ℕ × Log × List ℕ)
+hadByKeep r session stored flags logSizes logVars logValues reasons = (r, (recordIn session, stored, flags, logIn logSizes logVars logValues, reasons))
 
 abbrev pub keptOut : Reasoned KeepLeft → Outcome × (Session × List ℤ × List ℕ × Log × List ℕ)
 keptOut x = let left = x .left in (inNumbers (left .answer), (left .session, left .stored, left .flags, left .log, x .reasons))
@@ -63,7 +63,7 @@ abbrev pub salvageInNumbers : Salvaged → SalvageOutcome
 salvageInNumbers (salvaged.Accepted length rows values) = record { number = 0; place = 0; length = length; rows = rows; values = values }
 salvageInNumbers (salvaged.Refused number place) = record { number = number; place = place; length = 0; rows = 0; values = 0 }
 
-abbrev pub salvagedOut : salvage.Left → SalvageOutcome × (List ℕ × List ℕ)
+abbrev pub salvagedOut : salvage.SalvageLeft → SalvageOutcome × (List ℕ × List ℕ)
 salvagedOut left = (salvageInNumbers (left .answer), (left .file, left .list))
 
 -- the counts of an answer fit 32 bits

@@ -44,5 +44,5 @@ abbrev pub listInNumbers : Listed → ListOutcome
 listInNumbers (listed.Accepted length) = record { number = 0; place = 0; length = length }
 listInNumbers (listed.Refused number place) = record { number = number; place = place; length = 0 }
 
-abbrev pub listedOut : board.Left → ListOutcome × List ℤ
+abbrev pub listedOut : board.BoardLeft → ListOutcome × List ℤ
 listedOut left = (listInNumbers (left .answer), left .row)

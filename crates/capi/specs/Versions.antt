@@ -4,12 +4,12 @@ use mathlib.Core.List.{List}
 use Rattle.paper.specs.Checks.{Verdict}
 use Rattle.paper.specs.Calls.{numberOf, placeOf, answered}
 use Rattle.paper.specs.File.{Contents, countedAs}
-use Rattle.conversions.specs.declared.Converted.{Converted}
-use Rattle.conversions.specs.declared.Converted.the-variants as converted
-use Rattle.answers.specs.declared.Outcome.{Outcome}
+use Rattle.files.specs.declared.conversions.Converted.{Converted}
+use Rattle.files.specs.declared.conversions.Converted.the-variants as converted
+use Rattle.records.specs.declared.answers.Outcome.{Outcome}
 use Rattle.capi.specs.declared.ReadOutcome.{ReadOutcome}
 use Rattle.capi.specs.declared.MoveOutcome.{MoveOutcome}
-use Rattle.answers.specs.Outcomes.{inNumbers}
+use Rattle.records.specs.Outcomes.{inNumbers}
 
 -- reading with bounds: the answer by its verdict, and the rows under the counts read
 abbrev pub leftByReadBounded : ReadOutcome → Contents → Outcome × Contents

@@ -1,13 +1,13 @@
 // A batch of moves in figures across the C boundary.
 ghost use mathlib.Core.Path.{_≡_};
-ghost use Rattle.fits.specs.Lent.{toModel};
+ghost use Rattle.verdicts.specs.Lent.{toModel};
 ghost use Rattle.records.specs.Left.{recordIn};
 ghost use Rattle.figures.specs.Figures.{batchOf, figures as counted};
 ghost use Rattle.capi.specs.Products.{figuresInNumbers, figuresOut};
 use crate::FiguresOutcome;
-use blanks::BLANK;
 use figures::Counted;
 use figures::figures;
+use formulas::blanks::BLANK;
 use records::Session;
 
 // What `figures` answers, as nine numbers.

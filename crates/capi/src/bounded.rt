@@ -7,9 +7,9 @@ ghost use Rattle.capi.specs.Versions.{leftByReadBounded, readBoundedOut}
 use crate::ReadOutcome;
 use crate::file::read_numbers;
 use crate::file::written_numbers;
-use answers::Outcome;
 use files::read_bounded;
 use files::write_bounded;
+use records::answers::Outcome;
 
 // `files::write_bounded` for C.
 #[no_mangle]

@@ -1,12 +1,12 @@
 // Build across the C boundary.
 ghost use mathlib.Core.Path.{_≡_};
-ghost use Rattle.fits.specs.Lent.{toBuild};
+ghost use Rattle.verdicts.specs.Lent.{toBuild};
 ghost use Rattle.records.specs.Left.{recordIn};
 ghost use Rattle.paper.specs.Reasoned.{buildReasoned};
-ghost use Rattle.capi.specs.Outcomes.{leftByBuild, builtOut};
-use answers::Outcome;
-use answers::in_numbers;
+ghost use Rattle.capi.specs.Outcomes.{hadByBuild, builtOut};
 use records::Session;
+use records::answers::Outcome;
+use records::answers::in_numbers;
 
 // `engine::build` for C. The reason of every variable is given.
 #[no_mangle]
@@ -33,7 +33,7 @@ pub extern "C" fn lukhandro_build(
     reasons: &mut [u8],
     log_sizes: &mut [u16],
 ) -> Outcome
-    ensures { λ r. ⌜ leftByBuild r (now (session .exit)) (now (numbers .exit)) (now (order .exit)) (now (stored .exit)) (now («reader_starts» .exit)) (now («reader_places» .exit)) (now («log_sizes» .exit)) (now (reasons .exit)) ≡ builtOut (buildReasoned (toBuild (recordIn (now (session .entry))) n m e (now (kinds .entry)) (now (makes .entry)) (now (params .entry)) (now (firsts .entry)) (now (counts .entry)) (now (vars .entry)) (now (coefs .entry)) (now (lows .entry)) (now (highs .entry)) (now (starts .entry)) (now (numbers .entry)) (now (order .entry)) (now (stored .entry)) (now («reader_starts» .entry)) (now («reader_places» .entry)) (now («log_sizes» .entry))) (now (reasons .entry))) ⌝ }
+    ensures { λ r. ⌜ hadByBuild r (now (session .exit)) (now (numbers .exit)) (now (order .exit)) (now (stored .exit)) (now («reader_starts» .exit)) (now («reader_places» .exit)) (now («log_sizes» .exit)) (now (reasons .exit)) ≡ builtOut (buildReasoned (toBuild (recordIn (now (session .entry))) n m e (now (kinds .entry)) (now (makes .entry)) (now (params .entry)) (now (firsts .entry)) (now (counts .entry)) (now (vars .entry)) (now (coefs .entry)) (now (lows .entry)) (now (highs .entry)) (now (starts .entry)) (now (numbers .entry)) (now (order .entry)) (now (stored .entry)) (now («reader_starts» .entry)) (now («reader_places» .entry)) (now («log_sizes» .entry))) (now (reasons .entry))) ⌝ }
 {
     let answer = engine::build(
         session,

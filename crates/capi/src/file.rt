@@ -3,15 +3,15 @@ ghost use mathlib.Core.Path.{_≡_};
 ghost use Rattle.paper.specs.Tables.{lent};
 ghost use Rattle.paper.specs.File as File;
 ghost use Rattle.files.specs.Answers.{verdict};
-ghost use Rattle.answers.specs.Outcomes.{inNumbers};
+ghost use Rattle.records.specs.Outcomes.{inNumbers};
 ghost use Rattle.capi.specs.Outcomes.{readInNumbers, Small, leftByRead, writtenOut, readOut};
 ghost use Rattle.paper.specs.Calls.{answered};
 use crate::ReadOutcome;
-use answers::Outcome;
 use files::Written;
+use files::headers::Reading;
 use files::read;
 use files::write;
-use headers::Reading;
+use records::answers::Outcome;
 
 // What `write` and `write_bounded` answer, as three numbers.
 pub(crate) fn written_numbers(told: Written) -> Outcome

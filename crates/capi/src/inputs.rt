@@ -1,11 +1,11 @@
 // The inputs of a row across the C boundary.
 ghost use mathlib.Core.Path.{_≡_};
 ghost use Rattle.paper.specs.Tables.{partAsked};
-ghost use Rattle.parts.specs.Given.{partNamed};
-use parts::Part;
-use parts::part_of_row;
+ghost use Rattle.tables.specs.Given.{partNamed};
+use tables::parts::Part;
+use tables::parts::part_of_row;
 
-// `parts::inputs_of_row` for C: where the part starts among the lent entries, and how many it has. C can take no slice back.
+// `tables::parts::inputs_of_row` for C: where the part starts among the lent entries, and how many it has. C can take no slice back.
 #[no_mangle]
 pub extern "C" fn lukhandro_inputs_of_row(
     m: usize,

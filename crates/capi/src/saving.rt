@@ -1,6 +1,6 @@
 // Salvage of a damaged file across the C boundary.
 ghost use mathlib.Core.Path.{_≡_};
-ghost use Rattle.salvage.specs.Salvage.{lends};
+ghost use Rattle.salvage.specs.Salvage.{lendsToSalvage};
 ghost use Rattle.salvage.specs.Salvage as Salvage;
 ghost use Rattle.capi.specs.Outcomes.{salvageInNumbers, salvagedOut};
 use crate::SalvageOutcome;
@@ -40,7 +40,7 @@ pub extern "C" fn lukhandro_salvage(
     file: &mut [u8],
     list: &mut [u16],
 ) -> SalvageOutcome
-    ensures { λ r. ⌜ (r, (now (file .exit), now (list .exit))) ≡ salvagedOut (Salvage.salvage (lends (now (bytes .entry)) (now (file .entry)) (now (list .entry)))) ⌝ }
+    ensures { λ r. ⌜ (r, (now (file .exit), now (list .exit))) ≡ salvagedOut (Salvage.salvage (lendsToSalvage (now (bytes .entry)) (now (file .entry)) (now (list .entry)))) ⌝ }
 {
     let told = salvage(bytes, file, list);
     salvaged_numbers(told)

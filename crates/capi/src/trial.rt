@@ -1,12 +1,12 @@
 // Trial across the C boundary.
 ghost use mathlib.Core.Path.{_≡_};
-ghost use Rattle.fits.specs.Lent.{toModel, toTry};
+ghost use Rattle.verdicts.specs.Lent.{toModel, toTry};
 ghost use Rattle.records.specs.Left.{recordIn};
 ghost use Rattle.paper.specs.Reasoned.{trialReasoned};
-ghost use Rattle.capi.specs.Outcomes.{leftByTrial, triedOut};
-use answers::Outcome;
-use answers::in_numbers;
+ghost use Rattle.capi.specs.Outcomes.{hadByTrial, triedOut};
 use records::Session;
+use records::answers::Outcome;
+use records::answers::in_numbers;
 
 // `engine::trial` for C. The reason of every variable asked is given.
 #[no_mangle]
@@ -41,7 +41,7 @@ pub extern "C" fn lukhandro_trial(
     flags: &mut [u8],
     why: &mut [u8],
 ) -> Outcome
-    ensures { λ r. ⌜ leftByTrial r (now (session .exit)) (now (results .exit)) (now (trial .exit)) (now (flags .exit)) (now (why .exit)) ≡ triedOut (trialReasoned (recordIn (now (session .entry))) (toModel n m e (now (kinds .entry)) (now (makes .entry)) (now (params .entry)) (now (firsts .entry)) (now (counts .entry)) (now (vars .entry)) (now (coefs .entry)) (now (lows .entry)) (now (highs .entry)) (now (numbers .entry)) (now (order .entry)) (now (stored .entry)) (now («reader_starts» .entry)) (now («reader_places» .entry))) (now (reasons .entry)) (toTry pairs (now («move_vars» .entry)) (now («move_values» .entry)) asked (now («asked_vars» .entry)) route (now (results .entry)) (now (trial .entry)) (now (flags .entry))) (now (why .entry))) ⌝ }
+    ensures { λ r. ⌜ hadByTrial r (now (session .exit)) (now (results .exit)) (now (trial .exit)) (now (flags .exit)) (now (why .exit)) ≡ triedOut (trialReasoned (recordIn (now (session .entry))) (toModel n m e (now (kinds .entry)) (now (makes .entry)) (now (params .entry)) (now (firsts .entry)) (now (counts .entry)) (now (vars .entry)) (now (coefs .entry)) (now (lows .entry)) (now (highs .entry)) (now (numbers .entry)) (now (order .entry)) (now (stored .entry)) (now («reader_starts» .entry)) (now («reader_places» .entry))) (now (reasons .entry)) (toTry pairs (now («move_vars» .entry)) (now («move_values» .entry)) asked (now («asked_vars» .entry)) route (now (results .entry)) (now (trial .entry)) (now (flags .entry))) (now (why .entry))) ⌝ }
 {
     let answer = engine::trial(
         session,

@@ -3,9 +3,9 @@ ghost use mathlib.Core.Path.{_≡_};
 ghost use Rattle.paper.specs.File as File;
 ghost use Rattle.capi.specs.Versions.{moveInNumbers, movedOut};
 use crate::MoveOutcome;
-use conversions::Converted;
-use conversions::to_version_1;
-use conversions::to_version_2;
+use files::conversions::Converted;
+use files::conversions::to_version_1;
+use files::conversions::to_version_2;
 
 // What a move answers, as three numbers.
 fn move_numbers(told: Converted) -> MoveOutcome
@@ -25,7 +25,7 @@ fn move_numbers(told: Converted) -> MoveOutcome
     }
 }
 
-// `conversions::to_version_2` for C.
+// `files::conversions::to_version_2` for C.
 #[no_mangle]
 pub extern "C" fn lukhandro_to_version_2(bytes: &[u8], file: &mut [u8]) -> MoveOutcome
     ensures { λ r. ⌜ (r, now (file .exit)) ≡ movedOut (File.toVersion2 (now (bytes .entry)) (now (file .entry))) ⌝ }
@@ -34,7 +34,7 @@ pub extern "C" fn lukhandro_to_version_2(bytes: &[u8], file: &mut [u8]) -> MoveO
     move_numbers(told)
 }
 
-// `conversions::to_version_1` for C.
+// `files::conversions::to_version_1` for C.
 #[no_mangle]
 pub extern "C" fn lukhandro_to_version_1(bytes: &[u8], file: &mut [u8]) -> MoveOutcome
     ensures { λ r. ⌜ (r, now (file .exit)) ≡ movedOut (File.toVersion1 (now (bytes .entry)) (now (file .entry))) ⌝ }

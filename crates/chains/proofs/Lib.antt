@@ -1,1 +1,13 @@
-pub mod Chains
+pub mod Kinded
+pub mod Linked
+pub mod Seeking
+pub mod Barring
+pub mod Candidates
+pub mod Closing
+pub mod Elements
+pub mod Ordered
+pub mod Rounds
+pub mod Index
+pub mod Permitted
+pub mod Compared
+pub mod Opens

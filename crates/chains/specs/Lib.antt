@@ -1,1 +1,3 @@
-pub mod Chains
+pub mod Links
+pub mod Back
+pub mod Level

@@ -26,10 +26,10 @@ use Rattle.tables.specs.Makers.{Makers}
 use Rattle.order.specs.Numbering.{Clean}
 use Rattle.routes.specs.Rows.{valuesOf}
 use Rattle.choices.specs.Choices.{Followed}
-use Rattle.visits.specs.Visiting.{stands, Visited}
+use Rattle.choices.specs.Visiting.{valueStands, Visited}
 use Rattle.choices.specs.Swept.{Swept}
 use Rattle.choices.proofs.Whole.{makers, whole, makers-long, made-is, form-is, asks-is}
-use Rattle.visits.proofs.Visits.{held-on}
+use Rattle.choices.proofs.Visited.{held-on}
 
 -- ── the loop over all variables ──
 module _ (N : Net) (L : Lawful N) (n : ℕ) where
@@ -104,11 +104,11 @@ module _ (t : Tables) (sound : Sound t) (by : List ℕ) (k : Makers t by) (befor
   closed : (u i : ℕ) → Stands u → List·Memᴰ i (asksOf t u f) → Stands i
   closed u i h m = S .right .asked u h i (subst (List·Memᴰ i) (sym (asks-is t sound by k f u)) m)
 
-  ends : (u : ℕ) → Stands u → able (λ w. asksOf t w f) (size (stands states) (t .n)) u ≡ true
-  ends u h = ap (λ (dep : ℕ → List ℕ). able dep (size (stands states) (t .n)) u) (sym (fun-ext (asks-is t sound by k f))) ∙ S .right .ends u h
+  ends : (u : ℕ) → Stands u → able (λ w. asksOf t w f) (size (valueStands states) (t .n)) u ≡ true
+  ends u h = ap (λ (dep : ℕ → List ℕ). able dep (size (valueStands states) (t .n)) u) (sym (fun-ext (asks-is t sound by k f))) ∙ S .right .ends u h
 
   stands-is : (u : ℕ) → Stands u → (determined t s u ≡ true) × (worth t s u ≡ f u)
-  stands-is u h = followed t s f Stands meets closed (size (stands states) (t .n)) u (size-le (stands states) (t .n)) h (ends u h)
+  stands-is u h = followed t s f Stands meets closed (size (valueStands states) (t .n)) u (size-le (valueStands states) (t .n)) h (ends u h)
 
   -- a variable that is determined does not wait, since none that it needs does
   not-waiting : (u : ℕ) → determined t s u ≡ true → nat states u ≡ 1 → ⊥

@@ -22,8 +22,8 @@ use Rattle.routes.specs.Work.{workNet}
 use Rattle.routes.proofs.Walks.{row-fits}
 use Rattle.routes.proofs.Asks as Asks
 use Rattle.routes.proofs.Planned.{rowsOf}
-use Rattle.visits.specs.Visiting.{Laid}
-use Rattle.visits.proofs.Chained.{asks-bare}
+use Rattle.choices.specs.Visiting.{PartsLent}
+use Rattle.choices.proofs.Chained.{asks-bare}
 
 module _ (t : Tables) (s : Sound t) (by : List ℕ) (k : Makers t by) where
   -- the makers of the variables, and the model
@@ -90,7 +90,7 @@ module _ (t : Tables) (s : Sound t) (by : List ℕ) (k : Makers t by) where
       go true q h = let l = made-row t s v q in omega arith
       go false q h = absurd (omega arith)
 
-  pub laid : Laid (rowsOf t) makers
+  pub laid : PartsLent (rowsOf t) makers
   laid = record {
     few = let z = sized-facts t (s .sized) .n-most in let l = makers-long in omega arith;
     fits = λ v r e values h. row-fits t s r (found v r e) values (let l = makers-long in omega arith);

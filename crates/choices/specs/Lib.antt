@@ -1,2 +1,5 @@
+pub mod Visiting
 pub mod Choices
 pub mod Swept
+pub mod Renewed
+pub mod Workable

@@ -9,12 +9,12 @@ use lib.ListN.{length}
 use Rattle.paper.specs.Lists.{nat}
 use Rattle.paper.specs.Net.{Net}
 use Rattle.routes.specs.Rows.{valuesOf}
-use Rattle.visits.specs.Visiting.{Right, Held}
+use Rattle.choices.specs.Visiting.{ValuesRight, Held}
 
 module _ (N : Net) (n : ℕ) where
   -- the variables below v have been visited; `start` are the values from which the walk set out
   pub record Swept (v : ℕ) (start values : List ℤ) (states : List ℕ) : Type 0 where
-    pub right : Right N n values states
+    pub right : ValuesRight N n values states
     pub begun : (u : ℕ) → u < v → 0 < nat states u
     pub still : (u : ℕ) → (valuesOf values u ≡ valuesOf start u) ⊎ ((nat states u ≡ 2) × (N .made u ≡ true))
     pub long : length values ≡ length start

@@ -73,9 +73,9 @@ gives-some (places number bound good ∷ rest) k p e (here f) z = let low = ltb-
 gives-some (whole number place good ∷ rest) k p e (here f) z = let low = ltb-true 0 number (and-left (ltb 0 number) _ e) in let h = f .0 in omega arith
 gives-some (line ∷ rest) k p e (later q s) z = gives-some rest k p (and-right (ltb 0 (lineNumber line)) _ e) s z
 
-pub exactly : (table : List Line) (v : Verdict) (count : ℕ) → numbersSome table ≡ true → v ≡ judged table → Exactly table (answered v count)
+pub exactly : (table : List Line) (v : Verdict) (count : ℕ) → numbersSome table ≡ true → v ≡ judged table → Exactly table count (answered v count)
 exactly table v count some e = record {
-  accepted-if = λ s. (count, ap (λ u. answered u count) (is accepted s));
+  accepted-if = λ s. ap (λ u. answered u count) (is accepted s);
   accepted-only = λ z. only v says z;
   refused-if = λ k p s. ap (λ u. answered u count) (is (refused k p) s);
   refused-only = λ wrong. given v says wrong;
@@ -98,13 +98,13 @@ exactly table v count some e = record {
 -- ── a call: by its verdict, what it leaves where it refuses, and its contract ──
 pub works : {Left : Type 0} (table : List Line) (answer : Left → Answer) (asWas : Left → Left) (x y : Left) (v : Verdict) (count : ℕ)
     → numbersSome table ≡ true → v ≡ judged table → answer x ≡ answered v count → ((numberOf (answer x) ≡ 0 → ⊥) → x ≡ asWas x) → y ≡ x
-    → Works table answer asWas y
+    → Works table count answer asWas y
 works table answer asWas x y v count some e a same stated =
-    subst⁻¹ (Works table answer asWas) stated (record { exactly = subst⁻¹ (Exactly table) a (exactly table v count some e); unchanged = same })
+    subst⁻¹ (Works table count answer asWas) stated (record { exactly = subst⁻¹ (Exactly table count) a (exactly table v count some e); unchanged = same })
 
 -- of a call that the paper judges
 pub call-works : {Left : Type 0} {answer : Left → Answer} {left : Verdict → Left} {asWas : Answer → Left} {ok : ℕ → Bool} {v : Verdict} {x : Left} (table : List Line) (y : Left) (count : ℕ)
     → outcomes.Judged answer left asWas ok v x → numbersSome table ≡ true → v ≡ judged table → answer (left v) ≡ answered v count → y ≡ x
-    → Works table answer (λ z. asWas (answer z)) y
+    → Works table count answer (λ z. asWas (answer z)) y
 call-works {answer = answer} {asWas = asWas} {v = v} {x = x} table y count judged some e a stated =
     works table answer (λ z. asWas (answer z)) x y v count some e (ap answer (judged .is v refl) ∙ a) (judged .as-was) stated

@@ -1,9 +1,14 @@
 pub mod Judged
 pub mod Versions
 pub mod One
+pub mod Sentences
+pub mod Undetermined
 pub mod Two
 pub mod Three
 pub mod Logs
 pub mod Planners
+pub mod Taking
 pub mod Reasons
+pub mod OneOutcome
+pub mod Buffers
 pub mod NotAllowed

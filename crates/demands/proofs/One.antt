@@ -17,8 +17,8 @@ use Rattle.records.specs.Left.{answerIn}
 use Rattle.files.specs.Answers.{verdict, hasRead}
 use Rattle.files.specs.declared.Written.{Written}
 use Rattle.files.specs.declared.Written.the-variants as written
-use Rattle.headers.specs.declared.Reading.{Reading}
-use Rattle.headers.specs.declared.Reading.the-variants as reading
+use Rattle.files.specs.declared.headers.Reading.{Reading}
+use Rattle.files.specs.declared.headers.Reading.the-variants as reading
 use Rattle.demands.specs.Stated.{BuildOutcome, leftBuilt, TrialOutcome, leftTried, KeepOutcome, leftKept, TakeOutcome, leftTaken, WriteOutcome, leftWritten, ReadOutcome, leftRead}
 use Rattle.demands.specs.Refusals.{buildTable, trialTable, keepTable, takeTable, writeTable, headerLines, roomLines, readTable}
 use Rattle.demands.specs.Demands.{BuildWorks, TrialWorks, KeepWorks, TakeWorks, WriteWorks, ReadWorks, Demand1}
@@ -102,7 +102,7 @@ answer-is : (r : code-answer.Answer) → answerBy (answerIn r) ≡ r
 answer-is (code.Accepted evaluations) = refl
 answer-is (code.Refused number place) = refl
 
-one-answer : {r r′ : code-answer.Answer} → answerIn r ≡ answerIn r′ → r ≡ r′
+pub one-answer : {r r′ : code-answer.Answer} → answerIn r ≡ answerIn r′ → r ≡ r′
 one-answer {r} {r′} e = sym (answer-is r) ∙ ap answerBy e ∙ answer-is r′
 
 rows-are : (r : Reading) (t : Tables) (starts : List ℤ) → let x = hasRead r t starts in (counted 0 0 0 (x .1 .0) ≡ counted 0 0 0 t) × (x .1 .1 ≡ starts)

@@ -7,11 +7,12 @@ use mathlib.Core.Path.{_≡_, refl, ap, sym, _∙_, subst, subst⁻¹}
 use lib.Dec.{leb}
 use lib.IntN.{ℤ}
 use lib.ListN.{length}
+use borrow.Author.Tests.{leb-true}
 use Rattle.paper.specs.Checks.{Verdict, accepted}
 use Rattle.paper.specs.Log.{Log, logIn}
 use Rattle.paper.specs.Calls.{Session, Answer, Refused, numberOf, BuildLent, BuildLeft, Model, Tried, TrialLeft, Kept, KeepLeft}
 use Rattle.paper.specs.Reasoned.{Reasoned, withReasons, reasonsFit, buildReasoned}
-use Rattle.paper.specs.Demands.{Lent, own, Lends, Call, tries, keeps, takes, State, lentOf, ownAfter, modelOf, verdictOf, passedOn, ownModel}
+use Rattle.paper.specs.Demands.{Lent, own, Lends, Call, tries, keeps, takes, State, lentOf, modelOf, verdictOf, passedOn, ownModel}
 use Rattle.paper.specs.ReasonRuns.{Reasoning, ReasonState, hasRoom, triedNow, keptNow, takenNow, handedOn, stepBy, stands, roomy, OwnReasons, ReasonsRight}
 use Rattle.paper.proofs.Outcomes.{build-judged, trial-judged, keep-judged, take-judged}
 use Rattle.paper.proofs.Reasoned.{Roomy, build-roomy, trial-roomy, keep-roomy, take-roomy}
@@ -22,7 +23,9 @@ use Rattle.demands.specs.Runs as plainly
 use Rattle.demands.specs.Runs.{afterTrial, Run}
 use Rattle.demands.specs.Demands.{RunRight}
 use Rattle.demands.specs.Reasons.{BuildTold, builtTold, TrialTold, triedTold, KeepTold, keptTold, TakeTold, takenTold, RoomFirst, ownTold, RunTold, built, then-trial, then-keep, then-take, ToldRight, ReasonDemand}
+use Rattle.paper.proofs.Buffers.{over-length}
 use Rattle.demands.proofs.Three.{demand3}
+use Rattle.demands.proofs.Taking.{taking-accepted}
 
 -- ── with room and without ──
 module _ {Left : Type 0} {answer : Left → Answer} {fits : Bool} {v : Verdict} {plain asWas : Left} {given row : List ℕ} {x : Reasoned Left} (by : Roomy answer fits v plain asWas given row x)
@@ -32,6 +35,10 @@ module _ {Left : Type 0} {answer : Left → Answer} {fits : Bool} {v : Verdict} 
 
   as-was : fits ≡ false → (left ≡ asWas) × (after ≡ row)
   as-was none = let q = e ∙ by .no-room none in (ap (λ (y : Reasoned Left). y .left) q, ap (λ (y : Reasoned Left). y .reasons) q)
+
+  -- an accepted one had room
+  had-room : numberOf (answer left) ≡ 0 → fits ≡ true
+  had-room z = by .good (ap (λ (y : Reasoned Left). numberOf (answer (y .left))) (sym e) ∙ z) .0
 
   -- a refused one leaves the row, with room and without
   row-stays : (v ≡ accepted → numberOf (answer plain) ≡ 0) → (numberOf (answer left) ≡ 0 → ⊥) → after ≡ row
@@ -181,8 +188,7 @@ module _ {b : BuildLent} {first : List ℕ} (start : BuildTold b first) (room : 
           let q = o .stated ∙ ap (λ (s : ReasonState). triedNow s (record { call = tries mine c; reasons = own; why = why }) mine c) e
           ∙ ap (λ l. triedNow at (record { call = tries l c; reasons = own; why = why }) l c) own-is in
           let s = now .state in
-          let fit = trial-roomy (s .session) (modelOf s mine) (now .reasons) c why .good (ap (λ (x : Reasoned TrialLeft). numberOf (x .left .answer)) (sym (o .stated)) ∙ z) .0 in
-          let fresh = demanded .trial-accepted c (plain-trial o fit) z in
+          let fresh = demanded .trial-accepted c (plain-trial o (had-room (trial-roomy (s .session) (modelOf s mine) (now .reasons) c why) (o .stated) z)) z in
           record {
             results = fresh .results;
             told = fresh .told;
@@ -191,35 +197,25 @@ module _ {b : BuildLent} {first : List ℕ} (start : BuildTold b first) (room : 
             right = fresh .right;
           };
       keep-accepted = λ c o z.
-          let q = o .stated ∙ ap (λ (s : ReasonState). keptNow s (record { call = keeps mine own c; reasons = own; why = [] }) mine own c) e
-          ∙ ap (λ l. keptNow at (record { call = keeps l own c; reasons = own; why = [] }) l own c) own-is in
-          let s = now .state in
-          let fit = keep-roomy (s .session) (s .log) (modelOf s mine) (now .reasons) c .good (ap (λ (x : Reasoned KeepLeft). numberOf (x .left .answer)) (sym (o .stated)) ∙ z) .0 in
-          let fresh = demanded .keep-accepted c (plain-keep o fit) z in
-          record {
-            stored = fresh .stored;
-            told = fresh .told;
-            reasons = ap (λ (x : Reasoned KeepLeft). x .reasons) q ∙ d .keep-accepted c (ap (λ (x : Reasoned KeepLeft). numberOf (x .left .answer)) (sym q) ∙ z);
-            is = fresh .is;
-            right = fresh .right;
-          };
+          let s = now .state in let fresh = demanded .keep-accepted c (plain-keep o (had-room (keep-roomy (s .session) (s .log) (modelOf s mine) (now .reasons) c) (o .stated) z)) z in
+          let q = o .stated ∙ ap (λ (s : ReasonState). keptNow s (next (keeps mine own c)) mine own c) e ∙ ap (λ l. keptNow at (next (keeps l own c)) l own c) own-is in
+          record { stored = fresh .stored; told = fresh .told; reasons = told-reasons q z (d .keep-accepted c); is = fresh .is; right = fresh .right };
       take-accepted = λ flags o z.
-          let q = o .stated ∙ ap (λ (s : ReasonState). takenNow s (record { call = takes mine own flags; reasons = own; why = [] }) mine own flags) e
-          ∙ ap (λ l. takenNow at (record { call = takes l own flags; reasons = own; why = [] }) l own flags) own-is in
-          let s = now .state in
-          let fit = take-roomy (s .session) (s .log) (modelOf s mine) (now .reasons) flags .good (ap (λ (x : Reasoned KeepLeft). numberOf (x .left .answer)) (sym (o .stated)) ∙ z) .0 in
-          let fresh = demanded .take-accepted flags (plain-take o fit) z in
-          record {
-            stored = fresh .stored;
-            told = fresh .told;
-            reasons = ap (λ (x : Reasoned KeepLeft). x .reasons) q ∙ d .take-accepted flags (ap (λ (x : Reasoned KeepLeft). numberOf (x .left .answer)) (sym q) ∙ z);
-            is = fresh .is;
-            right = fresh .right;
-          };
+          let s = now .state in let fresh = demanded .take-accepted flags (plain-take o (had-room (take-roomy (s .session) (s .log) (modelOf s mine) (now .reasons) flags) (o .stated) z)) z in
+          let q = o .stated ∙ ap (λ (s : ReasonState). takenNow s (next (takes mine own flags)) mine own flags) e ∙ ap (λ l. takenNow at (next (takes l own flags)) l own flags) own-is in
+          record { stored = fresh .stored; told = fresh .told; reasons = told-reasons q z (d .take-accepted flags); is = fresh .is; right = fresh .right };
+      take-works = λ some flags long o. taking-accepted b begun room ok (roomy b first room rs) (now .state) (run-plain run) some flags long (plain-take o own-room);
     }
       where
         mine : Lends
         mine = ownTold start room
+
+        next : Call → Reasoning
+        next call = record { call = call; reasons = own; why = [] }
+
+        -- the reasons of a keep or a taking back, by what the paper's leaves
+        told-reasons : {x y : Reasoned KeepLeft} {row : List ℕ} → x ≡ y → numberOf (x .left .answer) ≡ 0 → (numberOf (y .left .answer) ≡ 0 → y .reasons ≡ row) → x .reasons ≡ row
+        told-reasons q z right = ap (λ (x : Reasoned KeepLeft). x .reasons) q ∙ right (ap (λ (x : Reasoned KeepLeft). numberOf (x .left .answer)) (sym q) ∙ z)
 
         at : ReasonState
         at = stands b first room rs
@@ -229,6 +225,13 @@ module _ {b : BuildLent} {first : List ℕ} (start : BuildTold b first) (room : 
 
         d : ReasonsRight b first room rs
         d = reasons-right b first room paper-ok rs (run-owns run)
+
+        -- the session's own row has the room that build was lent
+        own-room : reasonsFit (b .tables) (now .reasons) ≡ true
+        own-room =
+            let fit = build-roomy b first .good paper-ok .0 in
+            ap (λ (s : ReasonState). leb (b .tables .n) (length (s .reasons))) e ∙ ap (λ row. leb (b .tables .n) (length row)) (d .stored)
+            ∙ ap (leb (b .tables .n)) (over-length _ (b .tables .n) first (leb-true (b .tables .n) (length first) fit)) ∙ fit
 
         demanded : RunRight begun room (roomy b first room rs) (now .state)
         demanded = demand3 b begun room ok (roomy b first room rs) (now .state) (run-plain run)

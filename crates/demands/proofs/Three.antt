@@ -10,7 +10,7 @@ use Rattle.integers.proofs.Order.{eqZ-self}
 use Rattle.paper.specs.Net.{Values, input-to-output}
 use Rattle.paper.specs.Tables.{Tables, net, valuesIn}
 use Rattle.paper.specs.Chains.{worth, determined, closes, storedFresh}
-use Rattle.paper.specs.Log.{Log, logIn, logGood}
+use Rattle.paper.specs.Log.{Log, logIn, logged, logGood}
 use Rattle.paper.specs.Calls.{numberOf, evaluationsOf, BuildLent, BuildLeft, startValues, build, Tried, TrialLeft, trial, Kept, KeepLeft, keep, latest, takeBack}
 use Rattle.paper.specs.Demands.{Lent, own, Lends, Call, tries, keeps, takes, State, lentOf, modelOf, passedOn, step, applied, ownModel, after, history, Proper, triedSet, evaluatedBy, Told, tried, kept, taken, Demand3 as PaperDemand3}
 use Rattle.paper.proofs.Lists.{or-right}
@@ -96,6 +96,7 @@ module _ {b : BuildLent} (start : BuildOutcome b) (room : List ℕ × List ℤ) 
     moves = λ few. ap (λ (s : State). s .session .kept) e ∙ d .counted few;
     blanks = ap (λ (s : State). s .session .blanks) e ∙ d .blanks;
     log-good = ap (λ (s : State). logGood (s .log) (b .tables) (b .bounds) (s .session .kept)) e ∙ d .log-good;
+    log-low = rw (ap (λ (s : State). logged (s .log)) e) (d .log-low);
     trial-accepted = λ c o z.
         let q = trial-is cs now e mine c o ∙ ap (λ l. tried b room cs l c) own-is in
         let right = d .trial-accepted c (sym (ap triedNumber q) ∙ z) in

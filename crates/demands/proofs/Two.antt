@@ -32,6 +32,8 @@ use Rattle.paper.proofs.Outcomes.{build-judged}
 use Rattle.paper.proofs.Demands as paper
 use Rattle.demands.specs.Stated.{BuildOutcome, leftBuilt}
 use Rattle.demands.proofs.Versions.{moved-front}
+use Rattle.demands.proofs.Sentences.{sentences-right}
+use Rattle.demands.proofs.Undetermined.{choices-exactly}
 use Rattle.demands.specs.Demands.{BuiltRight, CircularExactly, Demand2}
 
 -- ── build ──
@@ -58,9 +60,9 @@ module _ {l : BuildLent} (o : BuildOutcome l) where
         value-at v low ∙ right .stored-meet v
         ∙ ap (λ x. cond (isMade t v) x (startValues l v))
         (lawful t .looks v values (valuesIn t (o .stored)) (λ i m. sym (value-at i (inputs-below t sound v i (lawful t .asks-in v values i m)))));
-    blanks =
-        ap (λ (x : BuildLeft). x .session .blanks) (o .stated) ∙ ap (λ (s : Session). s .blanks) (right .session)
-        ∙ size-same _ _ (t .n) (λ v low. ap (λ z. eqZ z blank) (sym (value-at v low)));
+    session =
+        ap (λ (x : BuildLeft). x .session) (o .stated) ∙ right .session
+        ∙ ap (λ k. record { kept = 0; evaluations = t .m; blanks = k }) (size-same _ _ (t .n) (λ v low. ap (λ z. eqZ z blank) (sym (value-at v low))));
   }
     where
       zero-is : numberOf (build l .answer) ≡ 0
@@ -104,8 +106,10 @@ model-moved bytes lent ok c room was =
 -- ── the demand ──
 pub demand2 : Demand2
 demand2 = record {
+  sentences = sentences-right;
   build-accepted = λ l o. built-right o;
   build-circular = λ l o. circular-exactly o;
+  choices = choices-exactly;
   read-back = λ t starts lent w fit ok t₀ starts₀ room r.
       subst⁻¹ (λ x. (x .0 ≡ accepted) × (cut (x .1) ≡ cut (t, starts)))
       (r .stated ∙ ap (λ x. read (take (endsAt (t .n) (t .m) (t .e)) (x .1)) (counted 0 0 0 t₀) starts₀) (w .stated))

@@ -14,13 +14,13 @@ use Rattle.paper.specs.File.{Version, version1, version2, endsAs, Contents, cou
 use Rattle.paper.specs.Demands.{cutAs}
 use Rattle.paper.proofs.Demands as paper
 use Rattle.files.specs.Answers.{verdict, hasRead, hasReadBounded}
-use Rattle.conversions.specs.Answers.{hasConverted}
+use Rattle.files.specs.MoveAnswers.{hasConverted}
 use Rattle.files.specs.declared.Written.{Written}
 use Rattle.files.specs.declared.Written.the-variants as written
-use Rattle.headers.specs.declared.Reading.{Reading}
-use Rattle.headers.specs.declared.Reading.the-variants as reading
-use Rattle.conversions.specs.declared.Converted.{Converted}
-use Rattle.conversions.specs.declared.Converted.the-variants as converted
+use Rattle.files.specs.declared.headers.Reading.{Reading}
+use Rattle.files.specs.declared.headers.Reading.the-variants as reading
+use Rattle.files.specs.declared.conversions.Converted.{Converted}
+use Rattle.files.specs.declared.conversions.Converted.the-variants as converted
 use Rattle.demands.specs.Refusals.{headerLines}
 use Rattle.demands.specs.Versions.{WriteBoundedOutcome, leftWrittenBounded, ReadBoundedOutcome, leftReadBounded, MoveOutcome, leftMoved, writeBoundedTable, header2Lines, room2Lines, readBoundedTable, upRoom, upTable, backRoom, backTable}
 use Rattle.demands.specs.Demands.{WriteBoundedWorks, ReadBoundedWorks, MoveWorks}

@@ -6,59 +6,64 @@ use mathlib.Core.List.{List, [], _∷_, _++_}
 use mathlib.Core.Path.{_≡_}
 use lib.IntN.{ℤ}
 use lib.ListN.{length, set, take, drop}
-use Rattle.paper.specs.Lists.{nat, over}
+use Rattle.paper.specs.Lists.{nat, size, over}
 use Rattle.paper.specs.Net.{valuation, input-to-output, Depends}
 use Rattle.paper.specs.Tables.{Tables, net, inputsOf, valuesIn, index}
 use Rattle.paper.specs.Chains.{groupNumbering, groupOrder, determined, storedFresh}
-use Rattle.paper.specs.Checks.{Verdict, accepted, lowest, highest}
-use Rattle.paper.specs.Log.{Log, logGood}
-use Rattle.paper.specs.Calls.{Session, blanksAmong, Answer, Accepted, Refused, numberOf, placeOf, evaluationsOf, answered, BuildLent, BuildLeft, startValues, Model, Tried, TrialLeft, Kept, KeepLeft, latest}
-use Rattle.paper.specs.File.{Version, version1, version2, bounded, endsAs, endsAt, Contents, contents, held, heldAs, counted, countedAs, nIn, mIn, eIn}
+use Rattle.paper.specs.Checks.{Verdict, accepted, lowest, highest, movePairs}
+use Rattle.paper.specs.Log.{Log, logged, logGood}
+use Rattle.paper.specs.Calls.{Session, blanksAmong, Answer, Accepted, Refused, numberOf, placeOf, evaluationsOf, answered, evaluates, BuildLent, BuildLeft, startValues, Model, storedValues, Tried, TrialLeft, askedList, routeOf, Kept, KeepLeft, keptCount, latest}
+use Rattle.paper.specs.File.{Version, version1, version2, endsAs, endsAt, Contents, contents, held, heldAs, counted, countedAs, nIn, mIn, eIn}
 use Rattle.paper.specs.Demands.{buildAsWas, trialAsWas, keepAsWas, Circular, FivePassed, LeastBarred, Fitting, FittingAs, cut, cutAs, Lent, own, Lends, Call, keeps, takes, State, lentOf, modelOf, passedOn, ownModel, after, history, old, renewed, restored, evaluatedBy, Told, tried, triedSet, TrialRight, kept, KeepRight, taken, TakeRight}
 use Rattle.demands.specs.Stated.{BuildOutcome, leftBuilt, TrialOutcome, leftTried, KeepOutcome, leftKept, TakeOutcome, leftTaken, WriteOutcome, leftWritten, ReadOutcome, leftRead}
 use Rattle.demands.specs.Refusals.{Line, Passes, Gives, buildTable, trialTable, keepTable, takeTable, writeTable, readTable}
 use Rattle.demands.specs.Versions.{WriteBoundedOutcome, leftWrittenBounded, ReadBoundedOutcome, leftReadBounded, MoveOutcome, leftMoved, writeBoundedTable, readBoundedTable, upTable, backTable}
+use Rattle.demands.specs.Sentences.{SentencesRight}
+use Rattle.demands.specs.Undetermined.{ChoicesExactly}
 use Rattle.demands.specs.Runs.{ownOf, afterTrial, Run}
 
 -- ── demand 1: a call works, or refuses with the paper's number and place exactly where the table gives them, and then changes nothing ──
-pub record Exactly (table : List Line) (a : Answer) : Type 0 where
-  pub accepted-if : Passes table → (count : ℕ) × (a ≡ Accepted count)
+-- an accepted answer has that count of evaluations
+pub record Exactly (table : List Line) (count : ℕ) (a : Answer) : Type 0 where
+  pub accepted-if : Passes table → a ≡ Accepted count
   pub accepted-only : numberOf a ≡ 0 → Passes table
   pub refused-if : (k p : ℕ) → Gives k p table → a ≡ Refused k p
   pub refused-only : (numberOf a ≡ 0 → ⊥) → Gives (numberOf a) (placeOf a) table
 
 -- x is what a call leaves; `asWas` puts all but the answer as it was lent
-pub record Works {Left : Type 0} (table : List Line) (answer : Left → Answer) (asWas : Left → Left) (x : Left) : Type 0 where
-  pub exactly : Exactly table (answer x)
+pub record Works {Left : Type 0} (table : List Line) (count : ℕ) (answer : Left → Answer) (asWas : Left → Left) (x : Left) : Type 0 where
+  pub exactly : Exactly table count (answer x)
   pub unchanged : (numberOf (answer x) ≡ 0 → ⊥) → x ≡ asWas x
 
 abbrev pub BuildWorks : (l : BuildLent) → BuildLeft → Type 0
-BuildWorks l = Works (buildTable l) (λ x. x .answer) (λ x. buildAsWas l (x .answer))
+BuildWorks l = Works (buildTable l) (l .tables .m) (λ x. x .answer) (λ x. buildAsWas l (x .answer))
 
 abbrev pub TrialWorks : Session → (w : Model) (c : Tried) → TrialLeft → Type 0
-TrialWorks s w c = Works (trialTable s w c) (λ x. x .answer) (λ x. trialAsWas s c (x .answer))
+TrialWorks s w c =
+    let t = w .tables in
+    Works (trialTable s w c) (size (evaluates t (storedValues w) (routeOf (c .route)) (movePairs (c .move)) (askedList c)) (t .n)) (λ x. x .answer) (λ x. trialAsWas s c (x .answer))
 
 abbrev pub KeepWorks : (s : Session) (g : Log) (w : Model) (c : Kept) → KeepLeft → Type 0
-KeepWorks s g w c = Works (keepTable s g w c) (λ x. x .answer) (λ x. keepAsWas s g w (c .flags) (x .answer))
+KeepWorks s g w c = Works (keepTable s g w c) (keptCount (w .tables) (w .stored) c) (λ x. x .answer) (λ x. keepAsWas s g w (c .flags) (x .answer))
 
 abbrev pub TakeWorks : (s : Session) (g : Log) (w : Model) (flags : List ℕ) → KeepLeft → Type 0
-TakeWorks s g w flags = Works (takeTable s g w flags) (λ x. x .answer) (λ x. keepAsWas s g w flags (x .answer))
+TakeWorks s g w flags = Works (takeTable s g w flags) (keptCount (w .tables) (w .stored) (latest g flags)) (λ x. x .answer) (λ x. keepAsWas s g w flags (x .answer))
 
 abbrev pub WriteWorks : (t : Tables) (starts : List ℤ) (lent : List ℕ) → Verdict × List ℕ → Type 0
-WriteWorks t starts lent = Works (writeTable t starts lent) (λ x. answered (x .0) 0) (λ x. (x .0, lent))
+WriteWorks t starts lent = Works (writeTable t starts lent) 0 (λ x. answered (x .0) 0) (λ x. (x .0, lent))
 
 abbrev pub ReadWorks : (bytes : List ℕ) (lent : Tables) (lentStarts : List ℤ) → Verdict × (Tables × List ℤ) → Type 0
-ReadWorks bytes lent lentStarts = Works (readTable bytes lent lentStarts) (λ x. answered (x .0) 0) (λ x. (x .0, (counted 0 0 0 lent, lentStarts)))
+ReadWorks bytes lent lentStarts = Works (readTable bytes lent lentStarts) 0 (λ x. answered (x .0) 0) (λ x. (x .0, (counted 0 0 0 lent, lentStarts)))
 
 -- of version 2, and of the moves between the versions
 abbrev pub WriteBoundedWorks : (c : Contents) (lent : List ℕ) → Verdict × List ℕ → Type 0
-WriteBoundedWorks c lent = Works (writeBoundedTable c lent) (λ x. answered (x .0) 0) (λ x. (x .0, lent))
+WriteBoundedWorks c lent = Works (writeBoundedTable c lent) 0 (λ x. answered (x .0) 0) (λ x. (x .0, lent))
 
 abbrev pub ReadBoundedWorks : (bytes : List ℕ) (lent : Contents) → Verdict × Contents → Type 0
-ReadBoundedWorks bytes lent = Works (readBoundedTable bytes lent) (λ x. answered (x .0) 0) (λ x. (x .0, countedAs 0 0 0 lent))
+ReadBoundedWorks bytes lent = Works (readBoundedTable bytes lent) 0 (λ x. answered (x .0) 0) (λ x. (x .0, countedAs 0 0 0 lent))
 
 abbrev pub MoveWorks : List Line → List ℕ → Verdict × (ℕ × List ℕ) → Type 0
-MoveWorks table lent = Works table (λ x. answered (x .0) 0) (λ x. (x .0, (0, lent)))
+MoveWorks table lent = Works table 0 (λ x. answered (x .0) 0) (λ x. (x .0, (0, lent)))
 
 pub record Demand1 : Type 0 where
   pub build : (l : BuildLent) (o : BuildOutcome l) → BuildWorks l (leftBuilt o)
@@ -102,8 +107,8 @@ pub record BuiltRight {l : BuildLent} (o : BuildOutcome l) : Type 0 where
   pub empty : o .logSizes ≡ set (l .logSizes) 0 0
   -- each value is the start value at a search variable, and what the formula gives of the inputs' values at a made one
   pub stored : (v : ℕ) → v < l .tables .n → valuesIn (l .tables) (o .stored) v ≡ valuation (net (l .tables)) (startValues l) (valuesIn (l .tables) (o .stored)) v
-  -- and the record has the number of the blank ones
-  pub blanks : leftBuilt o .session .blanks ≡ blanksAmong (l .tables .n) (valuesIn (l .tables) (o .stored))
+  -- and the record says that no move is kept, that all m rows were evaluated, and how many values are blank
+  pub session : leftBuilt o .session ≡ record { kept = 0; evaluations = l .tables .m; blanks = blanksAmong (l .tables .n) (valuesIn (l .tables) (o .stored)) }
 
 -- circular exactly if some closed chain is not permitted: it passes through no candidate of an ELEMENT, or through the index of one; at the least
 -- variable on such a chain
@@ -113,8 +118,12 @@ pub record CircularExactly (l : BuildLent) (a : Answer) : Type 0 where
   pub place : numberOf a ≡ 6 → LeastBarred (l .tables) (placeOf a)
 
 pub record Demand2 : Type 0 where
+  -- each formula, each reason and what is determined, in the paper's sentences
+  pub sentences : SentencesRight
   pub build-accepted : (l : BuildLent) (o : BuildOutcome l) → numberOf (leftBuilt o .answer) ≡ 0 → BuiltRight o
   pub build-circular : (l : BuildLent) (o : BuildOutcome l) → CircularExactly l (leftBuilt o .answer)
+  -- 20 and 21 exactly where the choices lead round a chain, or a stored value is stale, at the least such variable
+  pub choices : ChoicesExactly
   -- what was written is read back to the same tables, by lent rows that hold them
   pub read-back : (t : Tables) (starts : List ℤ) (lent : List ℕ) (w : WriteOutcome t starts lent) → Fitting t starts → leftWritten w .0 ≡ accepted
       → (t₀ : Tables) (starts₀ : List ℤ) → held (counted (t .n) (t .m) (t .e) t₀) starts₀ ≡ true
@@ -181,6 +190,8 @@ module _ {b : BuildLent} (start : BuildOutcome b) (room : List ℕ × List ℤ) 
     -- the record has the number of the blank values among them
     pub blanks : now .session .blanks ≡ blanksAmong (b .tables .n) (old b room cs)
     pub log-good : logGood (now .log) (b .tables) (b .bounds) (now .session .kept) ≡ true
+    -- it has no more moves than these
+    pub log-low : logged (now .log) ≤ length (history b room cs)
     -- the next call, if it is accepted and was lent the model's own
     pub trial-accepted : (c : Tried) (o : TrialOutcome (now .session) (modelOf now (ownOf start room)) c) → numberOf (leftTried o .answer) ≡ 0 → TrialFresh c o
     pub keep-accepted : (c : Kept) (o : KeepOutcome (now .session) (now .log) (modelOf now (ownOf start room)) c) → numberOf (leftKept o .answer) ≡ 0 → KeepFresh c o

@@ -13,7 +13,7 @@ use lib.IntN.{ℤ}
 use Rattle.paper.specs.Log.{Log}
 use Rattle.paper.specs.Calls.{Session, numberOf, BuildLent, Model, Kept}
 use Rattle.paper.specs.Demands.{own, Call, State, modelOf, passedOn}
-use Rattle.paper.specs.Moves.{Apart, AllPairs, joined}
+use Rattle.paper.specs.Moves.{Apart, AllPairs, bothMoves}
 use Rattle.demands.specs.Stated.{BuildOutcome, leftBuilt, KeepOutcome, leftKept}
 use Rattle.demands.specs.Runs.{ownOf, Run}
 
@@ -42,7 +42,7 @@ module _ {b : BuildLent} (start : BuildOutcome b) (room : List ℕ × List ℤ) 
     pub as-one : (one : Move) → AllPairs first second one
         → (flags flags′ : List ℕ) (q : Keeping (handsOn now o) second flags) (j : Keeping now one flags′) → Accepts q → Accepts j → j .stored ≡ q .stored
     -- there is such a move if the pairs are at most 64
-    pub all-pairs : first .pairs + second .pairs ≤ 64 → AllPairs first second (joined first second)
+    pub all-pairs : first .pairs + second .pairs ≤ 64 → AllPairs first second (bothMoves first second)
     -- it is enough that one of the three is accepted: so are the others then, with rows of flags that are long enough
     pub first-too : (flags flags′ : List ℕ) → Room flags′ → (q : Keeping (handsOn now o) second flags) (r : Keeping (handsOn now p) first flags′) → Accepts q → Accepts r
     pub second-too : (flags flags′ : List ℕ) → Room flags → (q : Keeping (handsOn now o) second flags) (r : Keeping (handsOn now p) first flags′) → Accepts r → Accepts q

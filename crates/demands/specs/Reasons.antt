@@ -1,7 +1,7 @@
 -- What a caller has at exit of each public call, the row of reasons among it, runs of these outcomes after a build's, and what is demanded of them. A
 -- record below is one outcome that the call's contract allows: its field `stated` is the contract's equation, and nothing else is known of the code.
 -- Assumes nothing.
-use Prim.Native.Nat.{ℕ}
+use Prim.Native.Nat.{ℕ, _≤_, _<_}
 use mathlib.Core.Bool.{true, false, _&&_}
 use mathlib.Core.List.{List, [], _∷_}
 use mathlib.Core.Path.{_≡_}
@@ -10,7 +10,7 @@ use lib.Dec.{leb}
 use lib.ListN.{length}
 use Rattle.paper.specs.Lists.{nat, over}
 use Rattle.paper.specs.Tables.{Index}
-use Rattle.paper.specs.Log.{Log, logIn}
+use Rattle.paper.specs.Log.{Log, logIn, logged}
 use Rattle.paper.specs.Reason.{reasonOf}
 use Rattle.paper.specs.Net.{input-to-output}
 use Rattle.paper.specs.Calls.{Session, Refused, numberOf, evaluationsOf, BuildLent, BuildLeft, Model, Tried, TrialLeft, Kept, KeepLeft, latest}
@@ -177,6 +177,9 @@ module _ {b : BuildLent} {first : List ℕ} (start : BuildTold b first) (room : 
     pub trial-accepted : (c : Tried) (why : List ℕ) (o : TrialTold (now .state .session) (modelOf (now .state) (ownTold start room)) (now .reasons) c why) → numberOf (triedTold o .answer) ≡ 0 → TrialToldFresh c why o
     pub keep-accepted : (c : Kept) (o : KeepTold (now .state .session) (now .state .log) (modelOf (now .state) (ownTold start room)) (now .reasons) c) → numberOf (keptTold o .answer) ≡ 0 → KeepToldFresh c o
     pub take-accepted : (flags : List ℕ) (o : TakeTold (now .state .session) (now .state .log) (modelOf (now .state) (ownTold start room)) (now .reasons) flags) → numberOf (takenTold o .answer) ≡ 0 → TakeToldFresh flags o
+    -- and a taking back is, where the log is not empty and the row of flags long enough
+    pub take-works : 0 < logged (now .state .log) → (flags : List ℕ) → b .tables .n ≤ length flags
+        → (o : TakeTold (now .state .session) (now .state .log) (modelOf (now .state) (ownTold start room)) (now .reasons) flags) → numberOf (takenTold o .answer) ≡ 0
 
 abbrev pub ReasonDemand : Type 0
 ReasonDemand =

@@ -15,7 +15,7 @@ use Rattle.records.specs.Left.{leftByBuild, leftByTrial, leftByKeep}
 use Rattle.records.specs.declared.Done.{Done}
 use Rattle.files.specs.Answers.{verdict, hasRead}
 use Rattle.files.specs.declared.Written.{Written}
-use Rattle.headers.specs.declared.Reading.{Reading}
+use Rattle.files.specs.declared.headers.Reading.{Reading}
 
 -- ── build ──
 pub record BuildOutcome (l : BuildLent) : Type 0 where

@@ -11,10 +11,10 @@ use Rattle.paper.specs.Checks.{Verdict}
 use Rattle.paper.specs.File as file
 use Rattle.paper.specs.File.{field, Version, version1, version2, Contents, countedAs, heldAs, endsAs, nIn, mIn, eIn, fullIn}
 use Rattle.files.specs.Answers.{verdict, hasReadBounded}
-use Rattle.conversions.specs.Answers.{hasConverted}
+use Rattle.files.specs.MoveAnswers.{hasConverted}
 use Rattle.files.specs.declared.Written.{Written}
-use Rattle.headers.specs.declared.Reading.{Reading}
-use Rattle.conversions.specs.declared.Converted.{Converted}
+use Rattle.files.specs.declared.headers.Reading.{Reading}
+use Rattle.files.specs.declared.conversions.Converted.{Converted}
 use Rattle.demands.specs.Refusals.{Line, places, whole, headerLines}
 
 -- ── what a caller has at exit; `stated` is the contract's equation, and nothing else is known of the code ──

@@ -8,10 +8,10 @@ use denote.Ref.{ptr-vals, mut-tells}
 use denote.Slice.{slice-vals, mut-slice-tells, shr-slice-tells}
 use denote.Signature.{typesAt}
 use Rattle.records.proofs.Session as S
-use Rattle.engine.proofs.calls.build as build
-use Rattle.engine.proofs.calls.trial as trial
-use Rattle.engine.proofs.calls.keep as keep
-use Rattle.engine.proofs.calls.take_back as take
+use Rattle.engine.proofs.lent.build as build
+use Rattle.engine.proofs.lent.trial as trial
+use Rattle.engine.proofs.lent.keep as keep
+use Rattle.engine.proofs.lent.take_back as take
 
 abbrev pub build-spells : (κs : Lfts (build.signature .lifetimes)) → Spells (typesAt (build.signature .params) κs)
 build-spells κs = (ptr-vals, (uint-vals w64, (uint-vals w64, (uint-vals w64, (slice-vals, (slice-vals, (slice-vals, (slice-vals, (slice-vals, (slice-vals, (slice-vals, (slice-vals, (slice-vals, (slice-vals, (slice-vals, (slice-vals, (slice-vals, (slice-vals, (slice-vals, (slice-vals, (slice-vals, tt)))))))))))))))))))))

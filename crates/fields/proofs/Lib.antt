@@ -1,2 +1,4 @@
 pub mod Widths
 pub mod Runs
+pub mod Signed
+pub mod Heads

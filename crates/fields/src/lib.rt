@@ -1,4 +1,10 @@
-// Numbers in a file: two or four bytes, the least first.
+// Numbers in a model file, and what it is made of: fields, columns, lines, bounds and the header, and where each part begins.
+pub mod columns;
+pub mod laid;
+pub mod limits;
+pub mod lines;
+pub mod places;
+
 ghost use mathlib.Core.Path.{_≡_};
 ghost use Prim.Native.Nat.{_+_, _^_, _≤_, _<_};
 ghost use lib.ListN.{length};

@@ -13,11 +13,11 @@ use Rattle.integers.proofs.Parts.{sum-away}
 use Rattle.paper.specs.Lists.{tally}
 use Rattle.paper.specs.Formula.{blank, lesser, greater}
 use Rattle.paper.proofs.Lists.{clash}
-use Rattle.sums.proofs.Sums.{level, zero-sum, sum-comm, sum-assoc}
-use Rattle.outcomes.specs.Outcomes.{Small}
-use Rattle.outcomes.specs.declared.Outcome.{Outcome}
-use Rattle.figures.specs.Figures.{results, oneOf, sum, totals}
-use Rattle.figures.specs.Adding.{single, plus, Room}
+use Rattle.figures.proofs.Summed.{level, zero-sum, sum-comm, sum-assoc}
+use Rattle.figures.specs.Outcomes.{SmallOutcome}
+use Rattle.figures.specs.declared.outcomes.Outcome.{Outcome}
+use Rattle.figures.specs.Figures.{results, oneOf, valuesSum, totals}
+use Rattle.figures.specs.Adding.{single, plus, RoomForOne}
 use Rattle.figures.specs.declared.Totals.{Totals}
 
 zero-add : (x : ℕ) → 0 + x ≡ x
@@ -153,7 +153,7 @@ totals-next o os = go (eqb (o .number) 0) refl
   where
     go : (b : Bool) → eqb (o .number) 0 ≡ b → totals (o ∷ os) ≡ plus (single o) (totals os)
     go true e = simp e
-    go false e = simp (e, zero-sum (sum (results os)), zero-add (tally (λ x. eqZ x blank) (results os)))
+    go false e = simp (e, zero-sum (valuesSum (results os)), zero-add (tally (λ x. eqZ x blank) (results os)))
 
 -- ── how large they grow ──
 pub bit-low : (x : Bool) (r : ℕ) → r ≡ cond x 1 0 → r ≤ 1
@@ -171,7 +171,7 @@ pub record Bounded (i : ℕ) (t : Totals) : Type 0 where
 pub bounded-none : Bounded 0 (totals [])
 bounded-none = record { blank = omega arith; sum = omega arith; first = omega arith; second = omega arith; third = omega arith }
 
-pub bounded-room : (i : ℕ) (t : Totals) → Bounded i t → i < 1000 → Room t
+pub bounded-room : (i : ℕ) (t : Totals) → Bounded i t → i < 1000 → RoomForOne t
 bounded-room i t b l = record {
   blank = omega (arith, b .blank);
   sum = omega (arith, b .sum);
@@ -180,7 +180,7 @@ bounded-room i t b l = record {
   third = omega (arith, b .third);
 }
 
-pub bounded-next : (i : ℕ) (t : Totals) (o : Outcome) → Bounded i t → Small o → Bounded (i + 1) (plus t (single o))
+pub bounded-next : (i : ℕ) (t : Totals) (o : Outcome) → Bounded i t → SmallOutcome o → Bounded (i + 1) (plus t (single o))
 bounded-next i t o b s = record {
   blank = go (eqb (o .number) 0 && eqZ (o .result) blank) (b .blank);
   sum = let h = b .sum in let k = sum-away (t .sum) (single o .sum) in let l = value (eqb (o .number) 0) in omega arith;

@@ -13,10 +13,10 @@ use Rattle.paper.specs.Lists.{nat, over}
 use Rattle.paper.specs.Checks.{Move}
 use Rattle.paper.specs.Calls.{Session, Model}
 use Rattle.paper.proofs.Buffers.{over-length, over-at, over-over, over-of}
-use Rattle.outcomes.specs.Outcomes.{outcome, Small}
-use Rattle.outcomes.specs.declared.Outcome.{Outcome}
+use Rattle.figures.specs.Outcomes.{outcome, SmallOutcome}
+use Rattle.figures.specs.declared.outcomes.Outcome.{Outcome}
 use Rattle.figures.specs.Figures.{Batch, unpacked, outcomes, having, totals, tallies}
-use Rattle.figures.specs.Adding.{single, plus, Room}
+use Rattle.figures.specs.Adding.{single, plus, RoomForOne}
 use Rattle.figures.specs.declared.Totals.{Totals}
 use Rattle.figures.proofs.Adding.{plus-assoc, none-plus, plus-none, totals-next, Bounded, bounded-none, bounded-room, bounded-next}
 
@@ -97,7 +97,7 @@ module _ (s : Session) (w : Model) (asked : ℕ) (b : Batch) where
       (drop-drop k at (b .vars)) (drop-drop k at (b .values))
 
   module _ (before row : List ℕ) (t : Totals) (at i k : ℕ) (g : Going before row t at i) (l : i < b .moves) (h : b .moves ≤ length (b .pairs)) (room : 22 ≤ length before)
-      (e : k ≡ nat (b .pairs) i) (o : Outcome) (is : o ≡ outcome s w asked (moveAt at k)) (small : Small o) where
+      (e : k ≡ nat (b .pairs) i) (o : Outcome) (is : o ≡ outcome s w asked (moveAt at k)) (small : SmallOutcome o) where
     rest-is : rest i at ≡ o ∷ rest (i + 1) (at + k)
     rest-is = rest-next at i k l h e ∙ ap (λ (x : Outcome). x ∷ rest (i + 1) (at + k)) (sym is)
 
@@ -120,7 +120,7 @@ module _ (s : Session) (w : Model) (asked : ℕ) (b : Batch) where
     pub going-few : (k : ℕ) → k < 22 → nat row k ≤ i
     going-few = g .counting .few
 
-    pub going-room : i < 1000 → Room t
+    pub going-room : i < 1000 → RoomForOne t
     going-room = bounded-room i t (g .bounded)
 
     -- none is left

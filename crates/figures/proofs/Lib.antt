@@ -1,3 +1,5 @@
+pub mod Summed
+pub mod Trying
 pub mod Adding
 pub mod Going
 pub mod Called

@@ -11,11 +11,11 @@ use lib.Seq.{take-at, drop-at, take-all}
 use Rattle.paper.specs.Checks.{Move}
 use Rattle.paper.specs.Calls.{Session, Model}
 use Rattle.paper.proofs.Buffers.{over-same}
-use Rattle.outcomes.specs.Outcomes.{outcome}
-use Rattle.outcomes.specs.declared.Outcome.{Outcome}
+use Rattle.figures.specs.Outcomes.{outcome}
+use Rattle.figures.specs.declared.outcomes.Outcome.{Outcome}
 use Rattle.figures.specs.Figures.{unpacked, movesOf, outcomes, having, totals, tallies}
 use Rattle.figures.specs.Adding.{single, plus}
-use Rattle.figures.specs.Laws.{Rearranged, same, behind, swapped, next, joined, packed, OrderChangesNothing}
+use Rattle.figures.specs.Laws.{Rearranged, same, behind, swapped, next, laidBehind, asBatch, OrderChangesNothing}
 use Rattle.figures.specs.declared.Totals.{Totals}
 use Rattle.figures.specs.declared.Counted.{Counted}
 use Rattle.figures.specs.declared.Counted.the-variants.{Accepted, Refused}
@@ -54,33 +54,33 @@ totals-kept (next r s) = totals-kept r ∙ totals-kept s
 abbrev moveIn : List (ℕ × ℤ) → Move
 moveIn mv = record { pairs = length mv; vars = map (λ (p : ℕ × ℤ). p .0) mv; values = map (λ (p : ℕ × ℤ). p .1) mv }
 
-unpacked-again : (moves : List (List (ℕ × ℤ))) → unpacked (map length moves) (joined (λ p. p .0) moves) (joined (λ p. p .1) moves) ≡ map moveIn moves
+unpacked-again : (moves : List (List (ℕ × ℤ))) → unpacked (map length moves) (laidBehind (λ p. p .0) moves) (laidBehind (λ p. p .1) moves) ≡ map moveIn moves
 unpacked-again [] = refl
 unpacked-again (mv ∷ moves) =
     let v = map (λ (p : ℕ × ℤ). p .0) mv in let x = map (λ (p : ℕ × ℤ). p .1) mv in
-    let vs = joined (λ p. p .0) moves in let xs = joined (λ p. p .1) moves in
+    let vs = laidBehind (λ p. p .0) moves in let xs = laidBehind (λ p. p .1) moves in
     let lv : length v ≡ length mv = length-map mv (λ (p : ℕ × ℤ). p .0) in let lx : length x ≡ length mv = length-map mv (λ (p : ℕ × ℤ). p .1) in
     ap₂ (λ a b. record { pairs = length mv; vars = a; values = b } ∷ unpacked (map length moves) (drop (length mv) (v ++ vs)) (drop (length mv) (x ++ xs)))
     (take-at v vs (length mv) lv) (take-at x xs (length mv) lx)
     ∙ ap₂ (λ a b. moveIn mv ∷ unpacked (map length moves) a b) (drop-at v vs (length mv) lv) (drop-at x xs (length mv) lx)
     ∙ ap (moveIn mv ∷_) (unpacked-again moves)
 
-moves-again : (moves : List (List (ℕ × ℤ))) → movesOf (packed moves) ≡ map moveIn moves
+moves-again : (moves : List (List (ℕ × ℤ))) → movesOf (asBatch moves) ≡ map moveIn moves
 moves-again moves =
-    ap (λ ks. unpacked ks (joined (λ p. p .0) moves) (joined (λ p. p .1) moves)) (take-all (length moves) (map length moves) (let h = length-map moves length in omega arith))
+    ap (λ ks. unpacked ks (laidBehind (λ p. p .0) moves) (laidBehind (λ p. p .1) moves)) (take-all (length moves) (map length moves) (let h = length-map moves length in omega arith))
     ∙ unpacked-again moves
 
-outcomes-kept : (s : Session) (w : Model) (asked : ℕ) (moves moves′ : List (List (ℕ × ℤ))) → Rearranged moves moves′ → Rearranged (outcomes s w asked (packed moves)) (outcomes s w asked (packed moves′))
+outcomes-kept : (s : Session) (w : Model) (asked : ℕ) (moves moves′ : List (List (ℕ × ℤ))) → Rearranged moves moves′ → Rearranged (outcomes s w asked (asBatch moves)) (outcomes s w asked (asBatch moves′))
 outcomes-kept s w asked moves moves′ r = rw (moves-again moves, moves-again moves′) (map-kept (outcome s w asked) (map-kept moveIn r))
 
 -- ── the call ──
 pub order-changes-nothing : OrderChangesNothing
 order-changes-nothing s w asked moves moves′ r row =
     let os = outcomes-kept s w asked moves moves′ r in
-    ap₂ (λ k l. answer ((leb k 1000 && leb k l) && leb 22 (length row)) (totals (outcomes s w asked (packed moves))) (tallies (outcomes s w asked (packed moves)) row))
+    ap₂ (λ k l. answer ((leb k 1000 && leb k l) && leb 22 (length row)) (totals (outcomes s w asked (asBatch moves))) (tallies (outcomes s w asked (asBatch moves)) row))
     (length-kept r) (length-kept (map-kept length r))
     ∙ ap₂ (answer ((leb (length moves′) 1000 && leb (length moves′) (length (map length moves′))) && leb 22 (length row))) (totals-kept os)
-    (over-same (λ k. having k (outcomes s w asked (packed moves))) 22 row (λ k. having k (outcomes s w asked (packed moves′))) (λ k l. having-kept k os))
+    (over-same (λ k. having k (outcomes s w asked (asBatch moves))) 22 row (λ k. having k (outcomes s w asked (asBatch moves′))) (λ k l. having-kept k os))
   where
     answer : Bool → Totals → List ℕ → Counted × List ℕ
     answer b t left = cond b (Accepted t, left) (Refused 1 0, row)

@@ -12,7 +12,7 @@ use Rattle.paper.specs.Calls.{Session, numberOf, answered, Model, storedValues,
 use Rattle.paper.specs.Demands.{modelOf, ownModel, after}
 use Rattle.paper.proofs.Outcomes.{trial-judged}
 use Rattle.paper.proofs.Demands.{demand3}
-use Rattle.outcomes.specs.Outcomes.{tried, asking}
+use Rattle.figures.specs.Outcomes.{triedOnce, asOneTrial}
 use Rattle.figures.specs.Laws.{SameNumber, SameResult}
 
 -- ── any trial ──
@@ -28,19 +28,19 @@ number-is s w c = go (trialVerdict s w c) refl
     go (refused number place) e = ap (λ (x : TrialLeft). numberOf (x .answer)) (trial-judged s w c .is (refused number place) e) ∙ ap verdictNumber (sym e)
 
 -- ── of one move ──
-verdict-alike : (s : Session) (w : Model) (asked : ℕ) (mv : Move) (r : ℕ) → between 1 r 3 ≡ true → trialVerdict s w (asking s w asked r mv) ≡ trialVerdict s w (asking s w asked 1 mv)
+verdict-alike : (s : Session) (w : Model) (asked : ℕ) (mv : Move) (r : ℕ) → between 1 r 3 ≡ true → trialVerdict s w (asOneTrial s w asked r mv) ≡ trialVerdict s w (asOneTrial s w asked 1 mv)
 unfolding trialVerdict
 verdict-alike s w asked mv r e =
-    ap (λ b. require 1 0 (trialFits w (asking s w asked 1 mv)) (modelChecks w (s .blanks) (require 9 0 b
+    ap (λ b. require 1 0 (trialFits w (asOneTrial s w asked 1 mv)) (modelChecks w (s .blanks) (require 9 0 b
     (changeChecks w mv (check 13 1 (λ i. ltb (nat (asked ∷ []) i) (w .tables .n)) (freshChecks (w .tables) (storedValues w) mv)))))) e
 
 pub same-number : SameNumber
-unfolding tried
+unfolding triedOnce
 same-number s w asked mv r e =
-    number-is s w (asking s w asked r mv) ∙ ap verdictNumber (verdict-alike s w asked mv r e) ∙ sym (number-is s w (asking s w asked 1 mv))
+    number-is s w (asOneTrial s w asked r mv) ∙ ap verdictNumber (verdict-alike s w asked mv r e) ∙ sym (number-is s w (asOneTrial s w asked 1 mv))
 
 pub same-result : SameResult
-unfolding tried
+unfolding triedOnce
 same-result b ok room cs proper asked mv r z =
     let now = after b room cs in let w = modelOf now (ownModel b room) in
-    ap (λ (l : List ℤ). getD l 0 (pos 0)) (demand3 b ok room cs proper .trial-accepted (asking (now .session) w asked r mv) z .results)
+    ap (λ (l : List ℤ). getD l 0 (pos 0)) (demand3 b ok room cs proper .trial-accepted (asOneTrial (now .session) w asked r mv) z .results)

@@ -5,17 +5,17 @@ use lib.IntN.{ℤ, pos, _+ℤ_}
 use lib.Dec.{eqb}
 use Rattle.integers.specs.Integers.{eqZ, away}
 use Rattle.paper.specs.Formula.{blank, lesser, greater}
-use Rattle.outcomes.specs.declared.Outcome.{Outcome}
+use Rattle.figures.specs.declared.outcomes.Outcome.{Outcome}
 use Rattle.figures.specs.Figures.{oneOf}
 use Rattle.figures.specs.declared.Totals.{Totals}
 
 -- the result of an accepted move, blank for a refused one
-abbrev pub given : ℕ → ℤ → ℤ
-given number result = cond (eqb number 0) result blank
+abbrev pub resultGiven : ℕ → ℤ → ℤ
+resultGiven number result = cond (eqb number 0) result blank
 
 -- the figures of one move
 abbrev pub single : Outcome → Totals
-single o = let x = given (o .number) (o .result) in record {
+single o = let x = resultGiven (o .number) (o .result) in record {
   blank = cond (eqb (o .number) 0 && eqZ (o .result) blank) 1 0;
   least = x;
   greatest = x;
@@ -38,7 +38,7 @@ plus a b = record {
 }
 
 -- there is room for the figures of one more move
-pub record Room (t : Totals) : Type 0 where
+pub record RoomForOne (t : Totals) : Type 0 where
   pub blank : t .blank < 1000
   pub sum : away (t .sum) < 2147483648000
   pub first : t .first < 4096000

@@ -1,5 +1,5 @@
 -- A batch of candidate moves in figures, as one function from what the call is lent to what it leaves, over the
--- outcome of each move (`outcomes/specs/Outcomes`). Assumes nothing.
+-- outcome of each move (`Outcomes`). Assumes nothing.
 use Prim.Native.Nat.{ℕ}
 use mathlib.Core.Bool.{Bool, cond, _&&_}
 use mathlib.Core.List.{List, [], _∷_, map}
@@ -11,8 +11,8 @@ use Rattle.paper.specs.Lists.{total, tally, over}
 use Rattle.paper.specs.Formula.{blank, lesser, greater}
 use Rattle.paper.specs.Checks.{Move}
 use Rattle.paper.specs.Calls.{Session, Model}
-use Rattle.outcomes.specs.Outcomes.{outcome}
-use Rattle.outcomes.specs.declared.Outcome.{Outcome}
+use Rattle.figures.specs.Outcomes.{outcome}
+use Rattle.figures.specs.declared.outcomes.Outcome.{Outcome}
 use Rattle.figures.specs.declared.Totals.{Totals}
 use Rattle.figures.specs.declared.Counted.{Counted}
 use Rattle.figures.specs.declared.Counted.the-variants.{Accepted, Refused}
@@ -53,21 +53,21 @@ abbrev pub oneOf : (ℤ → ℤ → ℤ) → ℤ → ℤ → ℤ
 oneOf f a b = cond (eqZ a blank) b (cond (eqZ b blank) a (f a b))
 
 -- the least of those that have a value, with `lesser`, or the greatest, with `greater`; blank if none has
-abbrev pub extreme : (ℤ → ℤ → ℤ) → List ℤ → ℤ
-extreme f [] = blank
-extreme f (x ∷ xs) = oneOf f x (extreme f xs)
+abbrev pub extremeValue : (ℤ → ℤ → ℤ) → List ℤ → ℤ
+extremeValue f [] = blank
+extremeValue f (x ∷ xs) = oneOf f x (extremeValue f xs)
 
 -- the sum of those that have a value
-abbrev pub sum : List ℤ → ℤ
-sum [] = pos 0
-sum (x ∷ xs) = cond (eqZ x blank) (pos 0) x +ℤ sum xs
+abbrev pub valuesSum : List ℤ → ℤ
+valuesSum [] = pos 0
+valuesSum (x ∷ xs) = cond (eqZ x blank) (pos 0) x +ℤ valuesSum xs
 
 abbrev pub totals : List Outcome → Totals
 totals os = record {
   blank = tally (λ x. eqZ x blank) (results os);
-  least = extreme lesser (results os);
-  greatest = extreme greater (results os);
-  sum = sum (results os);
+  least = extremeValue lesser (results os);
+  greatest = extremeValue greater (results os);
+  sum = valuesSum (results os);
   first = total (map (λ (o : Outcome). o .first) os);
   second = total (map (λ (o : Outcome). o .second) os);
   third = total (map (λ (o : Outcome). o .third) os);

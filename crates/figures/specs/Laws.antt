@@ -10,7 +10,7 @@ use Rattle.paper.specs.Lists.{between}
 use Rattle.paper.specs.Checks.{Move}
 use Rattle.paper.specs.Calls.{Session, numberOf, BuildLent, build, Model}
 use Rattle.paper.specs.Demands.{Call, modelOf, ownModel, after, Proper, renewed}
-use Rattle.outcomes.specs.Outcomes.{tried}
+use Rattle.figures.specs.Outcomes.{triedOnce}
 use Rattle.figures.specs.Figures.{Batch, figures}
 
 -- ── the order of the moves ──
@@ -22,26 +22,26 @@ pub data Rearranged {A : Type 0} : List A → List A → Type 0 where
   next : {xs ys zs : List A} → Rearranged xs ys → Rearranged ys zs → Rearranged xs zs
 
 -- moves, each a list of pairs of a variable and its new value, as they are lent: one behind the other
-abbrev pub joined : {A : Type 0} → ((ℕ × ℤ) → A) → List (List (ℕ × ℤ)) → List A
-joined f [] = []
-joined f (mv ∷ moves) = map f mv ++ joined f moves
+abbrev pub laidBehind : {A : Type 0} → ((ℕ × ℤ) → A) → List (List (ℕ × ℤ)) → List A
+laidBehind f [] = []
+laidBehind f (mv ∷ moves) = map f mv ++ laidBehind f moves
 
-abbrev pub packed : List (List (ℕ × ℤ)) → Batch
-packed moves = record { moves = length moves; pairs = map length moves; vars = joined (λ p. p .0) moves; values = joined (λ p. p .1) moves }
+abbrev pub asBatch : List (List (ℕ × ℤ)) → Batch
+asBatch moves = record { moves = length moves; pairs = map length moves; vars = laidBehind (λ p. p .0) moves; values = laidBehind (λ p. p .1) moves }
 
 abbrev pub OrderChangesNothing : Type 0
 OrderChangesNothing =
     (s : Session) (w : Model) (asked : ℕ) (moves moves′ : List (List (ℕ × ℤ))) → Rearranged moves moves′
-    → (byNumber : List ℕ) → figures s w asked (packed moves) byNumber ≡ figures s w asked (packed moves′) byNumber
+    → (byNumber : List ℕ) → figures s w asked (asBatch moves) byNumber ≡ figures s w asked (asBatch moves′) byNumber
 
 -- ── the routes ──
 -- each route gives a move the same number, whatever is lent
 abbrev pub SameNumber : Type 0
-SameNumber = (s : Session) (w : Model) (asked : ℕ) (mv : Move) (r : ℕ) → between 1 r 3 ≡ true → tried s w asked r mv .number ≡ tried s w asked 1 mv .number
+SameNumber = (s : Session) (w : Model) (asked : ℕ) (mv : Move) (r : ℕ) → between 1 r 3 ≡ true → triedOnce s w asked r mv .number ≡ triedOnce s w asked 1 mv .number
 
 -- and over stored values that the calls left the same result: the fresh value of the asked variable. `room` are the rows for the pairs of the log
 abbrev pub SameResult : Type 0
 SameResult =
     (b : BuildLent) → numberOf (build b .answer) ≡ 0 → (room : List ℕ × List ℤ) (cs : List Call) → Proper b room cs
-    → (asked : ℕ) (mv : Move) (r : ℕ) → let now = after b room cs in tried (now .session) (modelOf now (ownModel b room)) asked r mv .number ≡ 0
-    → tried (now .session) (modelOf now (ownModel b room)) asked r mv .result ≡ renewed b room cs mv asked
+    → (asked : ℕ) (mv : Move) (r : ℕ) → let now = after b room cs in triedOnce (now .session) (modelOf now (ownModel b room)) asked r mv .number ≡ 0
+    → triedOnce (now .session) (modelOf now (ownModel b room)) asked r mv .result ≡ renewed b room cs mv asked

@@ -1,3 +1,4 @@
+pub mod Outcomes
 pub mod Figures
 pub mod Adding
 pub mod Laws

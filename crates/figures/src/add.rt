@@ -3,13 +3,13 @@ ghost use mathlib.Core.Bool.{cond};
 ghost use mathlib.Core.Path.{_≡_};
 ghost use Rattle.paper.specs.Formula.{lesser, greater};
 ghost use Rattle.figures.specs.Figures.{oneOf};
-ghost use Rattle.outcomes.specs.Outcomes.{Small};
-ghost use Rattle.figures.specs.Adding.{Room, given, plus, single};
+ghost use Rattle.figures.specs.Outcomes.{SmallOutcome};
+ghost use Rattle.figures.specs.Adding.{RoomForOne, resultGiven, plus, single};
 use crate::Totals;
-use blanks::BLANK;
-use blanks::is_blank;
-use outcomes::Outcome;
-use sums::add_value;
+use crate::outcomes::Outcome;
+use crate::sums::add_value;
+use formulas::blanks::BLANK;
+use formulas::blanks::is_blank;
 
 // The greater of two results if max, else the lesser; a blank one is left out.
 fn one_of(max: bool, a: i32, b: i32) -> i32
@@ -30,7 +30,7 @@ fn one_of(max: bool, a: i32, b: i32) -> i32
 
 // The result of an accepted move, blank for a refused one.
 fn given_by(number: u32, result: i32) -> i32
-    ensures { λ r. ⌜ r ≡ given number result ⌝ }
+    ensures { λ r. ⌜ r ≡ resultGiven number result ⌝ }
 {
     if number == 0 {
         return result;
@@ -50,7 +50,7 @@ fn one_if(test: bool) -> u32
 
 // The figures with one more move.
 pub(crate) fn add(totals: Totals, outcome: Outcome) -> Totals
-    requires { ⌜ Room totals × Small outcome ⌝ }
+    requires { ⌜ RoomForOne totals × SmallOutcome outcome ⌝ }
     ensures { λ r. ⌜ r ≡ plus totals (single outcome) ⌝ }
 {
     let value = given_by(outcome.number, outcome.result);

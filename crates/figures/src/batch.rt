@@ -1,18 +1,19 @@
 // A batch: its moves one after another.
-ghost use mathlib.Core.List.{[]};
+ghost use mathlib.Core.List.{List, []};
 ghost use mathlib.Core.Path.{_≡_};
 ghost use Prim.Native.Nat.{suc, _+_, min, _≤_, _<_};
 ghost use lib.ListN.{length, take, drop, set};
 ghost use Rattle.paper.specs.Lists.{nat, over};
-ghost use Rattle.fits.specs.Lent.{toModel};
+ghost use Rattle.verdicts.specs.Lent.{toModel};
 ghost use Rattle.records.specs.Left.{recordIn};
+ghost use Rattle.figures.specs.declared.outcomes.Outcome.{Outcome};
 ghost use Rattle.figures.specs.Figures.{outcomes, totals, tallies, batchOf, figures as counted};
 use crate::Counted;
 use crate::Totals;
 use crate::add::add;
-use blanks::BLANK;
+use crate::outcomes::try_move;
+use formulas::blanks::BLANK;
 use integers::wide;
-use outcomes::try_move;
 use records::Session;
 
 // The figures of no move.
@@ -107,8 +108,10 @@ fn try_all(
     asked: u16,
     by_number: &mut [u32],
 ) -> Totals
-    requires { ⌜ (moves ≤ 1000) × (moves ≤ length (now «move_pairs»)) × (22 ≤ length (now «by_number»)) ⌝ }
-    ensures { λ r. ⌜ (r ≡ totals (outcomes (recordIn session) (toModel n m e (now (kinds .entry)) (now (makes .entry)) (now (params .entry)) (now (firsts .entry)) (now (counts .entry)) (now (vars .entry)) (now (coefs .entry)) (now (lows .entry)) (now (highs .entry)) (now (numbers .entry)) (now (order .entry)) (now (stored .entry)) (now («reader_starts» .entry)) (now («reader_places» .entry))) asked (batchOf moves (now («move_pairs» .entry)) (now («move_vars» .entry)) (now («move_values» .entry))))) × (now («by_number» .exit) ≡ tallies (outcomes (recordIn session) (toModel n m e (now (kinds .entry)) (now (makes .entry)) (now (params .entry)) (now (firsts .entry)) (now (counts .entry)) (now (vars .entry)) (now (coefs .entry)) (now (lows .entry)) (now (highs .entry)) (now (numbers .entry)) (now (order .entry)) (now (stored .entry)) (now («reader_starts» .entry)) (now («reader_places» .entry))) asked (batchOf moves (now («move_pairs» .entry)) (now («move_vars» .entry)) (now («move_values» .entry)))) (now («by_number» .entry))) ⌝ }
+    ghost { List Outcome }
+    requires fits { λ os. ⌜ (moves ≤ 1000) × (moves ≤ length (now «move_pairs»)) × (22 ≤ length (now «by_number»)) ⌝ }
+    requires tried { λ os. ⌜ outcomes (recordIn session) (toModel n m e (now kinds) (now makes) (now params) (now firsts) (now counts) (now vars) (now coefs) (now lows) (now highs) (now numbers) (now order) (now stored) (now «reader_starts») (now «reader_places»)) asked (batchOf moves (now «move_pairs») (now «move_vars») (now «move_values»)) ≡ os ⌝ }
+    ensures { λ os r. ⌜ (r ≡ totals os) × (now («by_number» .exit) ≡ tallies os (now («by_number» .entry))) ⌝ }
 {
     let mut totals = none();
     let mut at: usize = 0;

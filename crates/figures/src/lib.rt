@@ -1,7 +1,8 @@
-// A batch of candidate moves in figures: each move is tried on the same stored values by each of the three routes, and none is kept. Uses what the engine
-// states, and of `blanks` only which number is blank.
+// A batch of candidate moves in figures: each move is tried on the same stored values by each of the three routes, and none is kept.
 mod add;
 mod batch;
+mod outcomes;
+mod sums;
 
 pub use batch::figures;
 

@@ -13,10 +13,10 @@ use Rattle.paper.specs.Checks.{Verdict, accepted, leaves}
 use Rattle.paper.specs.File.{Version, Contents, contents, headOf, bounded, boundsFrom, endsAs, heldAs, nIn, mIn, eIn, headerAs, column, startsFrom, tablesFrom, countedAs, laidAs, readVerdictAs, readAs}
 use Rattle.paper.proofs.Verdicts.{require-held, then-second}
 use Rattle.paper.proofs.Reading.{headed, read-refused, read-short, read-done, read-headed, same-rows, same-contents}
-use Rattle.headers.specs.Answers.{answer, Stated}
-use Rattle.headers.specs.declared.Reading.{Reading}
-use Rattle.headers.specs.declared.Reading.the-variants.{Accepted, Refused}
-use Rattle.headers.proofs.Answered.{stated, turned, told}
+use Rattle.files.specs.HeaderAnswers.{answer, Stated}
+use Rattle.files.specs.declared.headers.Reading.{Reading}
+use Rattle.files.specs.declared.headers.Reading.the-variants.{Accepted, Refused}
+use Rattle.files.proofs.HeaderAnswered.{stated, turned, told}
 use Rattle.files.specs.Answers.{hasRead, hasReadBounded}
 
 module _ (v : Version) (bytes : List ℕ) (c : Contents) where

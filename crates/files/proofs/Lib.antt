@@ -1,1 +1,4 @@
+pub mod Counted
+pub mod HeaderAnswered
+pub mod Moving
 pub mod Answered

@@ -4,8 +4,8 @@ use lib.IntN.{ℤ}
 use Rattle.paper.specs.Tables.{Tables}
 use Rattle.paper.specs.Checks.{Verdict, accepted, refused}
 use Rattle.paper.specs.File.{Contents, counted, countedAs}
-use Rattle.headers.specs.declared.Reading.{Reading}
-use Rattle.headers.specs.declared.Reading.the-variants as reading
+use Rattle.files.specs.declared.headers.Reading.{Reading}
+use Rattle.files.specs.declared.headers.Reading.the-variants as reading
 use Rattle.files.specs.declared.Written.{Written}
 use Rattle.files.specs.declared.Written.the-variants as written
 

@@ -1,18 +1,18 @@
 // Reading, whatever the version.
 ghost use mathlib.Core.Path.{_≡_};
 ghost use Rattle.paper.specs.Tables.{lent};
-ghost use Rattle.headers.specs.Answers.{answer};
+ghost use Rattle.files.specs.HeaderAnswers.{answer};
 ghost use Rattle.files.specs.Answers.{hasReadBounded};
 ghost use Rattle.paper.specs.File as File;
-use columns::lay_starts;
-use headers::Reading;
-use headers::header_as;
-use laid::lay_entries;
-use laid::lay_rows;
-use limits::lay_bounds;
-use places::bounded_count;
-use places::bounds_at;
-use places::head_length;
+use crate::headers::Reading;
+use crate::headers::header_as;
+use fields::columns::lay_starts;
+use fields::laid::lay_entries;
+use fields::laid::lay_rows;
+use fields::limits::lay_bounds;
+use fields::places::bounded_count;
+use fields::places::bounds_at;
+use fields::places::head_length;
 use tables::sizes;
 
 // The counts are within their bounds, and no row is shorter than they ask, those of the bounds among them where there are any.
@@ -120,13 +120,18 @@ pub fn read_as(
     lows: &mut [i32],
     highs: &mut [i32],
 ) -> Reading
-    ensures { λ r. ⌜
+    ghost { File.Contents }
+    requires lent { λ w. ⌜
+        File.contents
+        (lent 0 0 0 (now kinds) (now makes) (now params) (now firsts) (now counts) (now vars) (now coefs))
+        (now starts) (now lows) (now highs)
+        ≡ w
+        ⌝ }
+    ensures { λ w r. ⌜
         hasReadBounded r (File.contents
         (lent 0 0 0 (now (kinds .exit)) (now (makes .exit)) (now (params .exit)) (now (firsts .exit)) (now (counts .exit)) (now (vars .exit)) (now (coefs .exit)))
         (now (starts .exit)) (now (lows .exit)) (now (highs .exit)))
-        ≡ File.readAs bounds (now (bytes .entry)) (File.contents
-        (lent 0 0 0 (now (kinds .entry)) (now (makes .entry)) (now (params .entry)) (now (firsts .entry)) (now (counts .entry)) (now (vars .entry)) (now (coefs .entry)))
-        (now (starts .entry)) (now (lows .entry)) (now (highs .entry)))
+        ≡ File.readAs bounds (now (bytes .entry)) w
         ⌝ }
 {
     let told = judge_reading(

@@ -1,18 +1,20 @@
 // The model file in its two versions: `write` stores a model as bytes and `read` lays the model that bytes hold over lent rows, both of version 1;
 // `write_bounded` and `read_bounded` do so with bounds, in version 2. Whatever a call is lent, it answers and leaves what the paper says; a refused call changes nothing.
+pub mod conversions;
+pub mod headers;
 mod lay;
 mod store;
 
 ghost use mathlib.Core.Path.{_≡_};
 ghost use Rattle.paper.specs.Tables.{lent};
 ghost use Rattle.paper.specs.Checks.{accepted};
-ghost use Rattle.headers.specs.Answers.{answer};
+ghost use Rattle.files.specs.HeaderAnswers.{answer};
 ghost use Rattle.files.specs.Answers.{verdict, hasRead, hasReadBounded};
 ghost use Rattle.paper.specs.File as File;
+use crate::headers::Reading;
+use crate::headers::counts_as;
 use crate::lay::read_as;
 use crate::store::write_as;
-use headers::Reading;
-use headers::counts_as;
 
 // What a call that writes answers: the file stands in front of the bytes, or why not.
 pub enum Written {

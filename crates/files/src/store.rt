@@ -6,15 +6,15 @@ ghost use Rattle.files.specs.Answers.{verdict};
 ghost use Rattle.paper.specs.File as File;
 use crate::Written;
 use crate::lay::rows_held;
-use limits::put_bounds;
-use lines::put_entries;
-use lines::put_header;
-use lines::put_rows;
-use lines::put_starts;
-use places::bounded_count;
-use places::bounds_at;
-use places::ends_at;
-use places::head_length;
+use fields::limits::put_bounds;
+use fields::lines::put_entries;
+use fields::lines::put_header;
+use fields::lines::put_rows;
+use fields::lines::put_starts;
+use fields::places::bounded_count;
+use fields::places::bounds_at;
+use fields::places::ends_at;
+use fields::places::head_length;
 
 // Stores the file of a model in front of the lent bytes.
 pub fn write_as(

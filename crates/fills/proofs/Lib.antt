@@ -1,3 +1,6 @@
+pub mod Runs
 pub mod Settled
 pub mod Ran
-pub mod Writes
+pub mod Written
+pub mod Accepted
+pub mod Given

@@ -30,13 +30,13 @@ use Rattle.paper.proofs.Needs.{Ruled, route-meets}
 use Rattle.paper.proofs.Closes.{opened, closed}
 use Rattle.paper.proofs.Fresh.{unnamed}
 use Rattle.tables.proofs.Shapes.{all-first}
-use Rattle.copies.proofs.Put.{not-named, low-named, moved-at}
+use Rattle.rows.proofs.Put.{not-named, low-named, moved-at}
 use Rattle.routes.specs.Routed.{Begun, Named, Routed}
-use Rattle.running.specs.Running.{Running}
-use Rattle.fills.specs.Accepted.{Keeping}
+use Rattle.fills.specs.Running.{Running}
+use Rattle.fills.specs.Accepted.{KeepAccepted}
 use Rattle.fills.proofs.Settled.{idle-new, all-new}
 
-module _ (t : Tables) (nums ord : List ℕ) (x : Index) (stored : List ℤ) (c : Kept) (k : Keeping t nums ord x stored c) where
+module _ (t : Tables) (nums ord : List ℕ) (x : Index) (stored : List ℤ) (c : Kept) (k : KeepAccepted t nums ord x stored c) where
   -- the pairs, the stored values, and these with the pairs put in
   abbrev mv : List (ℕ × ℤ)
   mv = movePairs (c .move)

@@ -12,13 +12,13 @@ use Rattle.paper.specs.Tables.{Tables, Index, indexIn, isMade, valuesIn}
 use Rattle.paper.specs.Checks.{accepted, boundsIn, movePairs, Sound}
 use Rattle.paper.specs.Chains.{groupOrder, determined, storedFresh}
 use Rattle.paper.specs.Calls.{evaluationsOf, BuildLent, startValues, Tried, TrialLeft, askedList, trialLeaves, Kept, keptCount, keptStored, keptFlags}
-use Rattle.copies.specs.Put.{PairsFit}
-use Rattle.links.specs.Links.{Grouped}
-use Rattle.readers.specs.Index.{Indexed}
+use Rattle.rows.specs.Put.{PairsFit}
+use Rattle.chains.specs.Links.{Grouped}
+use Rattle.index.specs.Index.{Indexed}
 
 module _ (t : Tables) (nums ord : List ℕ) (x : Index) (stored : List ℤ) where
   -- the same over the stored values with a move of search variables put in, with the model's index and the flags lent
-  pub record Keeping (c : Kept) : Type 0 where
+  pub record KeepAccepted (c : Kept) : Type 0 where
     pub sound : Sound t
     pub grouped : Grouped t nums
     pub in-order : t .m ≤ length ord
@@ -33,7 +33,7 @@ module _ (t : Tables) (nums ord : List ℕ) (x : Index) (stored : List ℤ) wher
 
   -- the same of a trial, with its two rows and what it asks lent, and variables of the model asked
   pub record Trying (c : Tried) : Type 0 where
-    pub keeping : Keeping (record { move = c .move; flags = c .flags })
+    pub keeping : KeepAccepted (record { move = c .move; flags = c .flags })
     pub in-trial : t .n ≤ length (c .trial)
     pub in-asked : c .asked ≤ length (c .askedVars)
     pub in-results : c .asked ≤ length (c .results)

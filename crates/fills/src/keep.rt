@@ -1,11 +1,11 @@
 // What an accepted keep writes.
 ghost use Rattle.paper.specs.Tables.{lent, indexIn};
-ghost use Rattle.fits.specs.Lent.{toKeep};
-ghost use Rattle.fills.specs.Accepted.{Keeping, KeepFilled};
-use copies::begin_route;
-use copies::copy_values;
-use running::run_route;
-use steps::evaluations;
+ghost use Rattle.verdicts.specs.Lent.{toKeep};
+ghost use Rattle.fills.specs.Accepted.{KeepAccepted, KeepFilled};
+use crate::running::run_route;
+use rows::copies::begin_route;
+use rows::copies::copy_values;
+use rows::steps::evaluations;
 
 // Works the move out by route 1 in a row of its own, stores the new values, and answers with the number of evaluations.
 pub fn fill_keep(
@@ -29,7 +29,7 @@ pub fn fill_keep(
     move_values: &[i32],
     flags: &mut [u8],
 ) -> u32
-    requires { ⌜ Keeping (lent n m e (now kinds) (now makes) (now params) (now firsts) (now counts) (now vars) (now coefs)) (now numbers) (now order) (indexIn (now «reader_starts») (now «reader_places»)) (now stored) (toKeep pairs (now «move_vars») (now «move_values») (now flags)) ⌝ }
+    requires { ⌜ KeepAccepted (lent n m e (now kinds) (now makes) (now params) (now firsts) (now counts) (now vars) (now coefs)) (now numbers) (now order) (indexIn (now «reader_starts») (now «reader_places»)) (now stored) (toKeep pairs (now «move_vars») (now «move_values») (now flags)) ⌝ }
     ensures { λ r. ⌜ KeepFilled (lent n m e (now (kinds .entry)) (now (makes .entry)) (now (params .entry)) (now (firsts .entry)) (now (counts .entry)) (now (vars .entry)) (now (coefs .entry))) (now (stored .entry)) (toKeep pairs (now («move_vars» .entry)) (now («move_values» .entry)) (now (flags .entry))) r (now (stored .exit)) (now (flags .exit)) ⌝ }
 {
     let mut row = [0i32; 4096];

@@ -1,11 +1,13 @@
 // What an accepted trial writes.
-ghost use Rattle.paper.specs.Tables.{lent, indexIn};
-ghost use Rattle.fits.specs.Lent.{toTry};
+ghost use mathlib.Core.Path.{_≡_};
+ghost use Rattle.paper.specs.Tables.{Tables, lent, indexIn};
+ghost use Rattle.paper.specs.Calls.{Tried};
+ghost use Rattle.verdicts.specs.Lent.{toTry};
 ghost use Rattle.fills.specs.Accepted.{Trying, TrialFilled};
-use copies::begin_route;
-use copies::copy_asked;
-use running::run_route;
-use steps::evaluations;
+use crate::running::run_route;
+use rows::copies::begin_route;
+use rows::copies::copy_asked;
+use rows::steps::evaluations;
 
 // Works the move out in the trial row, and answers with the number of evaluations.
 pub fn fill_trial(
@@ -34,8 +36,10 @@ pub fn fill_trial(
     trial: &mut [i32],
     flags: &mut [u8],
 ) -> u32
-    requires { ⌜ Trying (lent n m e (now kinds) (now makes) (now params) (now firsts) (now counts) (now vars) (now coefs)) (now numbers) (now order) (indexIn (now «reader_starts») (now «reader_places»)) (now stored) (toTry pairs (now «move_vars») (now «move_values») asked (now «asked_vars») route (now results) (now trial) (now flags)) ⌝ }
-    ensures { λ r. ⌜ TrialFilled (lent n m e (now (kinds .entry)) (now (makes .entry)) (now (params .entry)) (now (firsts .entry)) (now (counts .entry)) (now (vars .entry)) (now (coefs .entry))) (now (stored .entry)) (toTry pairs (now («move_vars» .entry)) (now («move_values» .entry)) asked (now («asked_vars» .entry)) route (now (results .entry)) (now (trial .entry)) (now (flags .entry))) r (now (results .exit)) (now (trial .exit)) (now (flags .exit)) ⌝ }
+    ghost { Tables × Tried }
+    requires lent { λ w. ⌜ (lent n m e (now kinds) (now makes) (now params) (now firsts) (now counts) (now vars) (now coefs), toTry pairs (now «move_vars») (now «move_values») asked (now «asked_vars») route (now results) (now trial) (now flags)) ≡ w ⌝ }
+    requires trying { λ (t, tried). ⌜ Trying t (now numbers) (now order) (indexIn (now «reader_starts») (now «reader_places»)) (now stored) tried ⌝ }
+    ensures { λ (t, tried) r. ⌜ TrialFilled t (now (stored .entry)) tried r (now (results .exit)) (now (trial .exit)) (now (flags .exit)) ⌝ }
 {
     begin_route(n, stored, pairs, move_vars, move_values, trial, flags);
     let wanted = &asked_vars[..asked];

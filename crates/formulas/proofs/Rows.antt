@@ -12,7 +12,7 @@ use Rattle.paper.specs.Lists.{between}
 use Rattle.paper.specs.Checks.{arity}
 use Rattle.paper.proofs.Lists.{and-left, and-right, all-at}
 use Rattle.paper.proofs.Scan.{part-length}
-use Rattle.inputs.specs.Inputs.{partOf}
+use Rattle.formulas.specs.Inputs.{partOf}
 use Rattle.formulas.specs.Row.{Row, PartFits}
 
 -- ── how many inputs ──

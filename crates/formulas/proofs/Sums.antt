@@ -13,8 +13,8 @@ use Rattle.integers.proofs.Parts.{sum-away, mul-bound}
 use Rattle.integers.proofs.Ranges.{fits-away}
 use Rattle.paper.specs.Formula.{blank, someBlank, sum, inputAt}
 use Rattle.paper.proofs.Scan.{next}
-use Rattle.inputs.specs.Inputs.{inputs}
-use Rattle.inputs.proofs.Reading.{next-input, no-input}
+use Rattle.formulas.specs.Inputs.{inputs}
+use Rattle.formulas.proofs.Reading.{next-input, no-input}
 
 -- z is the parameter and the terms before i, none of whose inputs is blank; each term takes 47 bits
 pub record Summed (param : ℤ) (coefs : List ℤ) (vars : List ℕ) (values : List ℤ) (i : ℕ) (z : ℤ) : Type 0 where

@@ -9,7 +9,7 @@ use lib.ListN.{length}
 use Rattle.paper.specs.Lists.{all, between}
 use Rattle.paper.specs.Formula.{inputAt, formula}
 use Rattle.paper.specs.Checks.{arity}
-use Rattle.inputs.specs.Inputs.{partOf, Within}
+use Rattle.formulas.specs.Inputs.{partOf, Within}
 use Rattle.formulas.specs.declared.Worked.{Worked}
 use Rattle.formulas.specs.declared.Worked.the-variants.{Value, NoFormula}
 

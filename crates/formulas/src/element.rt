@@ -3,9 +3,9 @@ ghost use Prim.Native.Nat.{_<_};
 ghost use mathlib.Core.Path.{_≡_};
 ghost use lib.ListN.{length};
 ghost use Rattle.paper.specs.Formula as Formula;
-ghost use Rattle.inputs.specs.Inputs.{inputs, Within};
-use blanks::BLANK;
-use inputs::input;
+ghost use Rattle.formulas.specs.Inputs.{inputs, Within};
+use crate::blanks::BLANK;
+use crate::inputs::input;
 
 // ELEMENT: the value of the chosen candidate, blank where the index chooses none.
 pub fn element(vars: &[u16], values: &[i32]) -> i32

@@ -1,24 +1,29 @@
 // The nine formulas over a part of the lent entries and the lent row of values.
+pub mod blanks;
 mod element;
+pub mod extremes;
+pub mod inputs;
 mod linear;
 mod over;
 mod places;
+pub mod shares;
 mod window;
+pub mod windows;
 
 ghost use mathlib.Core.Path.{_≡_};
 ghost use Rattle.paper.specs.Formula as Formula;
-ghost use Rattle.inputs.specs.Inputs.{partOf, inputs};
+ghost use Rattle.formulas.specs.Inputs.{partOf, inputs};
 ghost use Rattle.formulas.specs.Row.{Row, PartFits, worked};
+use crate::blanks::BLANK;
 use crate::element::element;
+use crate::extremes::greatest;
+use crate::extremes::least;
 use crate::linear::linear;
 use crate::over::over;
 use crate::places::count;
 use crate::places::shared;
 use crate::window::departures;
 use crate::window::last;
-use blanks::BLANK;
-use extremes::greatest;
-use extremes::least;
 
 // What a kind code gives: a value, blank among them, or nothing, since no formula has that code.
 pub enum Worked {

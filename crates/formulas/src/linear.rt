@@ -5,12 +5,12 @@ ghost use lib.IntN.{_+ℤ_};
 ghost use lib.ListN.{length};
 ghost use Rattle.paper.specs.Formula.{fit};
 ghost use Rattle.paper.specs.Formula as Formula;
-ghost use Rattle.inputs.specs.Inputs.{inputs, unlessBlank, Within};
-use blanks::BLANK;
-use blanks::fitted;
-use blanks::is_blank;
-use blanks::plus_product;
-use inputs::input;
+ghost use Rattle.formulas.specs.Inputs.{inputs, unlessBlank, Within};
+use crate::blanks::BLANK;
+use crate::blanks::fitted;
+use crate::blanks::is_blank;
+use crate::blanks::plus_product;
+use crate::inputs::input;
 
 // LINEAR: the exact sum if it lies in the range and no input is blank, else blank.
 pub fn linear(param: i32, coefs: &[i16], vars: &[u16], values: &[i32]) -> i32

@@ -4,11 +4,11 @@ ghost use mathlib.Core.Path.{_≡_};
 ghost use lib.ListN.{length};
 ghost use Rattle.paper.specs.Formula.{inputAt};
 ghost use Rattle.paper.specs.Formula as Formula;
-ghost use Rattle.inputs.specs.Inputs.{inputs, unlessBlank, Within};
-use blanks::difference;
-use blanks::fitted;
-use inputs::input;
-use inputs::unless_blank;
+ghost use Rattle.formulas.specs.Inputs.{inputs, unlessBlank, Within};
+use crate::blanks::difference;
+use crate::blanks::fitted;
+use crate::inputs::input;
+use crate::inputs::unless_blank;
 
 // a - b if positive, else 0.
 fn excess(a: i32, b: i32) -> i32

@@ -4,11 +4,11 @@ ghost use mathlib.Core.Path.{_≡_};
 ghost use lib.IntN.{pos};
 ghost use lib.ListN.{length};
 ghost use Rattle.paper.specs.Formula as Formula;
-ghost use Rattle.inputs.specs.Inputs.{inputs, unlessBlank, Within};
-use inputs::copy_inputs;
-use inputs::places;
-use inputs::unless_blank;
-use shares::sharing_places;
+ghost use Rattle.formulas.specs.Inputs.{inputs, unlessBlank, Within};
+use crate::inputs::copy_inputs;
+use crate::inputs::places;
+use crate::inputs::unless_blank;
+use crate::shares::sharing_places;
 
 // How many places hold a value that another place also holds.
 fn sharing(vars: &[u16], values: &[i32]) -> usize

@@ -4,11 +4,11 @@ ghost use mathlib.Core.Path.{_≡_};
 ghost use mathlib.Core.Bool.{cond};
 ghost use lib.ListN.{length};
 ghost use Rattle.paper.specs.Formula as Formula;
-ghost use Rattle.inputs.specs.Inputs.{inputs, unlessBlank, Within};
+ghost use Rattle.formulas.specs.Inputs.{inputs, unlessBlank, Within};
 ghost use Rattle.formulas.specs.Row.{ofThree};
-use inputs::input;
-use inputs::unless_blank;
-use windows::window_value;
+use crate::inputs::input;
+use crate::inputs::unless_blank;
+use crate::windows::window_value;
 
 // LAST of the inputs start, end and headway if last, else DEPARTURES of them.
 fn window(last: bool, vars: &[u16], values: &[i32]) -> i32

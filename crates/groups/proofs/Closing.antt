@@ -15,13 +15,13 @@ use Rattle.paper.specs.Lists.{nat, size}
 use Rattle.paper.proofs.Count.{size-le, size-mono, size-more}
 use Rattle.order.specs.Numbering.{partAt}
 use Rattle.order.proofs.Visits.{left-none}
-use Rattle.asks.specs.Asked.{asked, askedBy}
-use Rattle.stacks.specs.Stack.{entered, Waits, Stacked, askedAt, firstNumber, Best, Marked}
-use Rattle.groups.specs.Walk.{closed, Reaches, here, on, Settled, Visited}
+use Rattle.groups.specs.Asked.{asked, askedBy}
+use Rattle.groups.specs.Stack.{entered, Waits, Stacked, askedAt, firstNumber, Best, Marked}
+use Rattle.groups.specs.Walk.{closed, Reaches, here, on, Settled, GroupVisit}
 use Rattle.paper.proofs.Lists.{same-or}
-use Rattle.asks.proofs.Asking.{low-or, greatest-in, greatest-hit}
+use Rattle.groups.proofs.Asking.{low-or, greatest-in, greatest-hit}
 use Rattle.groups.proofs.Reach.{joins, carries, alone}
-use Rattle.stacks.proofs.Marking.{stacked-few, stacked-is}
+use Rattle.groups.proofs.Marking.{stacked-few, stacked-is}
 use Rattle.groups.proofs.Entering.{Begun}
 use Rattle.groups.proofs.Going.{Going, going-at, going-old, going-kept, going-new, going-leads}
 
@@ -267,7 +267,7 @@ module _ (n : ℕ) (dep : ℕ → List ℕ) (v p : ℕ) (before mid tops : List 
           entered-still u l (inr q) = let e = still u q in omega arith
 
       -- v's visit ends with its group
-      pub closes : Visited n dep v before marks′ stack′ numbers′ mark
+      pub closes : GroupVisit n dep v before marks′ stack′ numbers′ mark
       closes = record {
         state = record { stacked = closes-stacked; settled = closes-settled };
         kept = λ u l. kept u l (low-or 4096 (nat before u));

@@ -11,8 +11,8 @@ use lib.Seq.{getD-set-same, getD-set-other}
 use borrow.Author.Tests.{ltb-true, lt-ltb, le-ltb}
 use Rattle.paper.specs.Lists.{nat}
 use Rattle.paper.proofs.Count.{size-le, size-add, size-mono, size-more}
-use Rattle.groups.specs.Walk.{closed, Reaches, here, Settled, State, Leading}
-use Rattle.stacks.specs.Stack.{entered, Waits, Stacked}
+use Rattle.groups.specs.Walk.{closed, Reaches, here, Settled, WalkState, Leading}
+use Rattle.groups.specs.Stack.{entered, Waits, Stacked}
 use Rattle.paper.proofs.Lists.{same-or}
 
 -- the closed groups are as they were
@@ -55,7 +55,7 @@ pub record Begun (n : ℕ) (dep : ℕ → List ℕ) (v p : ℕ) (before mid stac
   pub older : (u : ℕ) → Waits before u → nat before u < p
   pub leads : (u : ℕ) → Waits mid u → Reaches dep u v
 
-module _ (n : ℕ) (dep : ℕ → List ℕ) (v : ℕ) (marks stack numbers : List ℕ) (S : State n dep marks stack numbers) (few : n ≤ 4096) (l : v < n) (unseen : nat marks v ≡ 0) where
+module _ (n : ℕ) (dep : ℕ → List ℕ) (v : ℕ) (marks stack numbers : List ℕ) (S : WalkState n dep marks stack numbers) (few : n ≤ 4096) (l : v < n) (unseen : nat marks v ≡ 0) where
   -- not all have been entered
   pub enter-room : nat stack 0 < n
   enter-room =
@@ -125,7 +125,7 @@ module _ (n : ℕ) (dep : ℕ → List ℕ) (v : ℕ) (marks stack numbers : Lis
       leads = λ u W. ⊎-elim (λ s. subst (λ z. Reaches dep z v) (sym s) here) (λ ne. L .each u (waited u ne W)) (same-or u v);
     }
 
-    pub enter-state : State n dep mid tops numbers
+    pub enter-state : WalkState n dep mid tops numbers
     enter-state = record {
       stacked = stacked;
       settled = settled-kept n dep marks mid numbers (S .settled)

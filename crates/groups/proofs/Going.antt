@@ -8,19 +8,19 @@ use mathlib.Core.Logic.{_⊎_, inl, inr, ⊎-elim, _≢_}
 use mathlib.Core.Path.{_≡_, refl, ap, sym, _∙_, subst}
 use borrow.Author.Tests.{eqb-true, eq-eqb, ne-eqb}
 use Rattle.paper.specs.Lists.{nat, size}
-use Rattle.groups.specs.Walk.{fresh, Reaches, here, on, State, Leading, Visited}
+use Rattle.groups.specs.Walk.{unentered, Reaches, here, on, WalkState, Leading, GroupVisit}
 use Rattle.paper.proofs.Lists.{same-or}
 use Rattle.paper.proofs.Count.{size-more}
-use Rattle.asks.proofs.Asking.{low-or}
-use Rattle.stacks.specs.Stack.{Waits}
+use Rattle.groups.proofs.Asking.{low-or}
+use Rattle.groups.specs.Stack.{Waits}
 use Rattle.groups.proofs.Reach.{one-link, joins}
-use Rattle.stacks.proofs.Marking.{stacked-is}
+use Rattle.groups.proofs.Marking.{stacked-is}
 use Rattle.groups.proofs.Entering.{Begun}
 
 module _ (n : ℕ) (dep : ℕ → List ℕ) where
   -- the links in `rest` are still to be visited, mid are the marks where the loop began, and low is the least place met
   pub record Going (v p : ℕ) (rest : List ℕ) (low : ℕ) (mid marks stack numbers : List ℕ) : Type 0 where
-    pub state : State n dep marks stack numbers
+    pub state : WalkState n dep marks stack numbers
     pub kept : (u : ℕ) → 0 < nat mid u → nat marks u ≡ nat mid u
     pub new : (u : ℕ) → nat mid u ≡ 0 → 0 < nat marks u → Reaches dep v u
     pub left : (u : ℕ) → nat mid u ≡ 0 → Waits marks u → Reaches dep u v × ((i : ℕ) → List·Memᴰ i (dep u) → low ≤ nat marks i)
@@ -31,7 +31,7 @@ module _ (n : ℕ) (dep : ℕ → List ℕ) where
     pub hit : (w : ℕ) × (nat mid w ≡ low) × Reaches dep v w
 
   -- v was entered before: nothing changes
-  pub visited-known : (v r : ℕ) (marks stack numbers : List ℕ) → State n dep marks stack numbers → r ≡ nat marks v → 0 < r → Visited n dep v marks marks stack numbers r
+  pub visited-known : (v r : ℕ) (marks stack numbers : List ℕ) → WalkState n dep marks stack numbers → r ≡ nat marks v → 0 < r → GroupVisit n dep v marks marks stack numbers r
   visited-known v r marks stack numbers S e h = record {
     state = S;
     kept = λ u q. refl;
@@ -43,7 +43,7 @@ module _ (n : ℕ) (dep : ℕ → List ℕ) where
   }
 
   module _ (v p : ℕ) (before mid tops : List ℕ) (B : Begun n dep v p before mid tops) where
-    pub going-start : (rest numbers : List ℕ) (low : ℕ) → State n dep mid tops numbers → rest ≡ dep v → low ≡ p → Going v p rest low mid mid tops numbers
+    pub going-start : (rest numbers : List ℕ) (low : ℕ) → WalkState n dep mid tops numbers → rest ≡ dep v → low ≡ p → Going v p rest low mid mid tops numbers
     going-start rest numbers low S e q = record {
       state = S;
       kept = λ u h. refl;
@@ -77,10 +77,10 @@ module _ (n : ℕ) (dep : ℕ → List ℕ) where
       going-at = let a = B .at in let s = B .some in G .kept v (omega arith) ∙ a
 
       -- fewer are fresh
-      pub going-less : size (fresh marks) n < size (fresh before) n
+      pub going-less : size (unentered marks) n < size (unentered before) n
       going-less =
           let a = going-at in let s = B .some in
-          size-more (fresh marks) (fresh before) v n (B .below) (ne-eqb (nat marks v) 0 (λ z. lt-irrefl 0 (omega arith))) (eq-eqb (nat before v) 0 (B .unseen))
+          size-more (unentered marks) (unentered before) v n (B .below) (ne-eqb (nat marks v) 0 (λ z. lt-irrefl 0 (omega arith))) (eq-eqb (nat before v) 0 (B .unseen))
           (λ u e. eq-eqb (nat before u) 0 (go u (eqb-true (nat marks u) 0 e) (same-or u v) (same-or (nat before u) 0)))
         where
           go : (u : ℕ) → nat marks u ≡ 0 → (u ≡ v) ⊎ (u ≢ v) → (nat before u ≡ 0) ⊎ (nat before u ≢ 0) → nat before u ≡ 0
@@ -106,7 +106,7 @@ module _ (n : ℕ) (dep : ℕ → List ℕ) where
         pub going-next : Leading dep w marks
         going-next = record { each = λ u W. joins (going-leads u W) (one-link going-link) }
 
-        pub going-step : (r low′ : ℕ) (marks′ stack′ numbers′ : List ℕ) → Visited n dep w marks marks′ stack′ numbers′ r → low′ ≡ min low r → Going v p more low′ mid marks′ stack′ numbers′
+        pub going-step : (r low′ : ℕ) (marks′ stack′ numbers′ : List ℕ) → GroupVisit n dep w marks marks′ stack′ numbers′ r → low′ ≡ min low r → Going v p more low′ mid marks′ stack′ numbers′
         going-step r low′ marks′ stack′ numbers′ W q = record {
           state = W .state;
           kept = λ u h. let a = G .kept u h in W .kept u (omega arith) ∙ a;
@@ -148,7 +148,7 @@ module _ (n : ℕ) (dep : ℕ → List ℕ) where
             go (inr h) = let (x, at, down) = G .hit in (x, omega arith, down)
 
       -- all links have been visited, and one leads below v: v waits
-      pub going-back : rest ≡ [] → low < p → Visited n dep v before marks stack numbers low
+      pub going-back : rest ≡ [] → low < p → GroupVisit n dep v before marks stack numbers low
       going-back e h = record {
         state = G .state;
         kept = going-kept;

@@ -1,3 +1,6 @@
+pub mod Asking
+pub mod Best
+pub mod Marking
 pub mod Reach
 pub mod Entering
 pub mod Going

@@ -18,13 +18,13 @@ use Rattle.paper.proofs.Depends.{SameGroup, grouped-exactly}
 use Rattle.paper.proofs.Outside.{outside-in, outside-has}
 use Rattle.order.specs.Numbering.{Clean}
 use Rattle.groups.specs.Groups.{numberOver, Found}
-use Rattle.groups.specs.Walk.{closed, Reaches, Settled, Leading, Visited, Swept}
+use Rattle.groups.specs.Walk.{closed, Reaches, Settled, Leading, GroupVisit, EnteredBelow}
 use Rattle.groups.proofs.Reach.{depends-or, here-or, reaches}
-use Rattle.asks.proofs.Asking.{low-or, greatest-in, greatest-le}
-use Rattle.stacks.specs.Stack.{Waits}
+use Rattle.groups.proofs.Asking.{low-or, greatest-in, greatest-le}
+use Rattle.groups.specs.Stack.{Waits}
 
 module _ (n : ℕ) (dep : ℕ → List ℕ) where
-  pub swept-start : (marks stack numbers : List ℕ) → Clean n marks → Clean (n + 1) stack → Clean n numbers → Swept n dep 0 marks stack numbers
+  pub swept-start : (marks stack numbers : List ℕ) → Clean n marks → Clean (n + 1) stack → Clean n numbers → EnteredBelow n dep 0 marks stack numbers
   swept-start marks stack numbers M S N = record {
     state = record {
       stacked = record {
@@ -59,11 +59,11 @@ module _ (n : ℕ) (dep : ℕ → List ℕ) where
       unclosed : (u : ℕ) → 4096 < nat marks u → ⊥
       unclosed u h = let z = M .at u in lt-irrefl 0 (omega arith)
 
-  pub swept-leading : (v : ℕ) (marks stack numbers : List ℕ) → Swept n dep v marks stack numbers → Leading dep v marks
+  pub swept-leading : (v : ℕ) (marks stack numbers : List ℕ) → EnteredBelow n dep v marks stack numbers → Leading dep v marks
   swept-leading v marks stack numbers S = record { each = λ u W. absurd (S .none u W) }
 
-  pub swept-step : (v r : ℕ) (marks stack numbers marks′ stack′ numbers′ : List ℕ) → Swept n dep v marks stack numbers → Visited n dep v marks marks′ stack′ numbers′ r
-      → Swept n dep (v + 1) marks′ stack′ numbers′
+  pub swept-step : (v r : ℕ) (marks stack numbers marks′ stack′ numbers′ : List ℕ) → EnteredBelow n dep v marks stack numbers → GroupVisit n dep v marks marks′ stack′ numbers′ r
+      → EnteredBelow n dep (v + 1) marks′ stack′ numbers′
   swept-step v r marks stack numbers marks′ stack′ numbers′ S W = record {
     state = W .state;
     passed = λ u l. ⊎-elim (λ s. let a = W .least in let b = W .some in subst (λ z. 0 < nat marks′ z) (sym s) (omega arith))
@@ -81,7 +81,7 @@ filled : (xs : List ℕ) → length xs ≢ 0 → (i : ℕ) × List·Memᴰ i xs
 filled [] ne = absurd (ne refl)
 filled (x ∷ xs) ne = (x, List·Memᴰ·head refl)
 
-module _ (n : ℕ) (dep : ℕ → List ℕ) (below : (v i : ℕ) → List·Memᴰ i (dep v) → i < n) (marks stack numbers : List ℕ) (S : Swept n dep n marks stack numbers) where
+module _ (n : ℕ) (dep : ℕ → List ℕ) (below : (v i : ℕ) → List·Memᴰ i (dep v) → i < n) (marks stack numbers : List ℕ) (S : EnteredBelow n dep n marks stack numbers) where
   abbrev D : Settled n dep marks numbers
   D = S .state .settled
 

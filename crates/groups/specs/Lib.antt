@@ -1,2 +1,4 @@
+pub mod Asked
+pub mod Stack
 pub mod Groups
 pub mod Walk

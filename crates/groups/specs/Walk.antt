@@ -8,11 +8,11 @@ use mathlib.Core.Path.{_≡_}
 use lib.Dec.{eqb, ltb}
 use lib.ListN.{length}
 use Rattle.paper.specs.Lists.{nat, size}
-use Rattle.stacks.specs.Stack.{Waits, Stacked}
+use Rattle.groups.specs.Stack.{Waits, Stacked}
 
 -- ── marks: of a variable that is not entered, and of one whose group is closed ──
-abbrev pub fresh : List ℕ → ℕ → Bool
-fresh marks v = eqb (nat marks v) 0
+abbrev pub unentered : List ℕ → ℕ → Bool
+unentered marks v = eqb (nat marks v) 0
 
 abbrev pub closed : List ℕ → ℕ → Bool
 closed marks v = ltb 4096 (nat marks v)
@@ -38,7 +38,7 @@ pub record Settled (n : ℕ) (dep : ℕ → List ℕ) (marks numbers : List ℕ)
       → (w i : ℕ) × (nat marks w ≡ nat marks v) × List·Memᴰ i (dep w) × (nat marks i ≢ nat marks v) × (nat numbers v ≡ suc (nat numbers i))
   pub small : (v : ℕ) → 4096 < nat marks v → nat numbers v ≤ size (closed marks) n
 
-pub record State (n : ℕ) (dep : ℕ → List ℕ) (marks stack numbers : List ℕ) : Type 0 where
+pub record WalkState (n : ℕ) (dep : ℕ → List ℕ) (marks stack numbers : List ℕ) : Type 0 where
   pub stacked : Stacked n marks stack
   pub settled : Settled n dep marks numbers
 
@@ -48,8 +48,8 @@ pub record Leading (dep : ℕ → List ℕ) (v : ℕ) (marks : List ℕ) : Type 
 
 -- a visit of v, which found r: what had been entered is as it was; v leads to what it entered; and what it entered and left waiting leads to v, has no link to a
 -- place below r, and v leads to the one at that place, which waited before
-pub record Visited (n : ℕ) (dep : ℕ → List ℕ) (v : ℕ) (marks marks′ stack′ numbers′ : List ℕ) (r : ℕ) : Type 0 where
-  pub state : State n dep marks′ stack′ numbers′
+pub record GroupVisit (n : ℕ) (dep : ℕ → List ℕ) (v : ℕ) (marks marks′ stack′ numbers′ : List ℕ) (r : ℕ) : Type 0 where
+  pub state : WalkState n dep marks′ stack′ numbers′
   pub kept : (u : ℕ) → 0 < nat marks u → nat marks′ u ≡ nat marks u
   pub some : 0 < r
   pub least : r ≤ nat marks′ v
@@ -58,7 +58,7 @@ pub record Visited (n : ℕ) (dep : ℕ → List ℕ) (v : ℕ) (marks marks′ 
   pub hit : r ≤ 4096 → (w : ℕ) × (nat marks w ≡ r) × Reaches dep v w
 
 -- the variables below v have been visited
-pub record Swept (n : ℕ) (dep : ℕ → List ℕ) (v : ℕ) (marks stack numbers : List ℕ) : Type 0 where
-  pub state : State n dep marks stack numbers
+pub record EnteredBelow (n : ℕ) (dep : ℕ → List ℕ) (v : ℕ) (marks stack numbers : List ℕ) : Type 0 where
+  pub state : WalkState n dep marks stack numbers
   pub passed : (u : ℕ) → u < v → 0 < nat marks u
   pub none : (u : ℕ) → Waits marks u → ⊥

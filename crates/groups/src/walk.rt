@@ -1,15 +1,15 @@
 // The groups of variables that depend on each other, in one walk: each variable is entered once, and the first that was entered of a group closes it when its
 // own links are done.
+use crate::stacks::enter;
+use crate::stacks::group_number;
+use crate::stacks::mark_group;
+use integers::naturals::smaller;
 use integers::wide;
-use naturals::smaller;
-use stacks::enter;
-use stacks::group_number;
-use stacks::mark_group;
 ghost use mathlib.Core.Path.{_≡_};
 ghost use Prim.Native.Nat.{min, _+_, _≤_, _<_};
 ghost use Rattle.order.specs.Numbering.{Clean, partAt, Parted};
 ghost use Rattle.groups.specs.Groups.{Found};
-ghost use Rattle.groups.specs.Walk.{State, Leading, Visited, Swept};
+ghost use Rattle.groups.specs.Walk.{WalkState, Leading, GroupVisit, EnteredBelow};
 
 // Visits v: the mark of v if it has been entered before or if its group closes; else the least place that links lead to from what this visit leaves waiting.
 fn visit(
@@ -24,9 +24,9 @@ fn visit(
 ) -> usize
     requires parted { ⌜ Parted n (now begins) (now stops) (now vars) ⌝ }
     requires there { ⌜ v < n ⌝ }
-    requires state { ⌜ State n (partAt (now begins) (now stops) (now vars)) (now marks) (now stack) (now numbers) ⌝ }
+    requires state { ⌜ WalkState n (partAt (now begins) (now stops) (now vars)) (now marks) (now stack) (now numbers) ⌝ }
     requires leading { ⌜ Leading (partAt (now begins) (now stops) (now vars)) v (now marks) ⌝ }
-    ensures { λ r. ⌜ Visited n (partAt (now (begins .entry)) (now (stops .entry)) (now (vars .entry))) v (now (marks .entry)) (now (marks .exit)) (now (stack .exit)) (now (numbers .exit)) r ⌝ }
+    ensures { λ r. ⌜ GroupVisit n (partAt (now (begins .entry)) (now (stops .entry)) (now (vars .entry))) v (now (marks .entry)) (now (marks .exit)) (now (stack .exit)) (now (numbers .exit)) r ⌝ }
 {
     let known = wide(marks[v]);
     if known > 0 {
@@ -65,7 +65,7 @@ fn visit_all(
 )
     requires parted { ⌜ Parted n (now begins) (now stops) (now vars) ⌝ }
     requires clean { ⌜ Clean n (now marks) × Clean (n + 1) (now stack) × Clean n (now numbers) ⌝ }
-    ensures { λ _. ⌜ Swept n (partAt (now (begins .entry)) (now (stops .entry)) (now (vars .entry))) n (now (marks .exit)) (now (stack .exit)) (now (numbers .exit)) ⌝ }
+    ensures { λ _. ⌜ EnteredBelow n (partAt (now (begins .entry)) (now (stops .entry)) (now (vars .entry))) n (now (marks .exit)) (now (stack .exit)) (now (numbers .exit)) ⌝ }
 {
     let mut v = 0;
     while v < n {

@@ -1,4 +1,6 @@
 // The casts that lose nothing and that the language has no form for: a signed number through its bits, and a table entry as an index.
+pub mod naturals;
+
 ghost use mathlib.Core.Path.{_≡_};
 ghost use Prim.Native.Nat.{_<_};
 ghost use mir.Syntax.{w16, w32};

@@ -4,7 +4,7 @@ use mathlib.Core.List.{List}
 use mathlib.Core.Path.{_≡_, refl}
 use Prim.Native.Nat.{ℕ}
 use Rattle.paper.specs.Net.{number}
-use Rattle.paper.specs.Tables.{Tables, net, rowOf, ends, order}
+use Rattle.paper.specs.Tables.{Tables, net, rowOf, ends}
 use Rattle.paper.specs.Checks.{Sound, numbered}
 use Rattle.paper.proofs.Sizes.{sized-facts}
 use Rattle.paper.proofs.Accept.{sound-row, row-of, made-by, made-below, inputs-below}
@@ -45,10 +45,6 @@ ends-bare t = refl
 pub number-bare : (t : Tables) → number (net (bareOf t)) (t .n) ≡ number (net t) (t .n)
 unfolding rowOf
 number-bare t = refl
-
-pub order-bare : (t : Tables) → order (bareOf t) ≡ order t
-unfolding rowOf
-order-bare t = refl
 
 pub numbered-bare : (t : Tables) (nums ord : List ℕ) → numbered (bareOf t) nums ord ≡ numbered t nums ord
 unfolding rowOf

@@ -25,8 +25,8 @@ use Rattle.paper.proofs.Order.{Prec, Sorted, Rising, rank, order-sorted, order-
 use Rattle.paper.proofs.Eight.{numbered-ends, numbered-numbers, numbered-order, numbered-of}
 use Rattle.tables.specs.Makers.{Makers}
 use Rattle.order.specs.Formed.{Formed}
-use Rattle.ascents.specs.Ascent.{standing, floor, risesAt}
-use Rattle.ascents.proofs.Climbs.{fails-here}
+use Rattle.order.specs.Ascent.{rankOf, floor, risesAt}
+use Rattle.order.proofs.Climbs.{fails-here}
 use Rattle.order.specs.Numbering.{above, searchedRight, madeRight}
 use Rattle.order.proofs.ByRows.{rightAt, iff, by-rows}
 use Rattle.order.proofs.Sweeps.{numbering-above}
@@ -126,14 +126,14 @@ module _ (t : Tables) (F : Formed t) (nums ord : List ℕ) (long : t .n ≤ leng
 
   -- ── the order ──
   module _ (is : Numbered) where
-    stands-is : (r : ℕ) → r < t .m → standing (t .makes) nums r ≡ rank t r * 65536 + r
+    stands-is : (r : ℕ) → r < t .m → rankOf (t .makes) nums r ≡ rank t r * 65536 + r
     stands-is r l = ap (λ z. z * 65536 + r) (is (nat (t .makes) r) (F .row-makes r l))
 
     few : t .m ≤ 65536
     few = let a = F .rows in let b = F .few in omega arith
 
     abbrev Rises : ℕ → Bool
-    Rises = risesAt (standing (t .makes) nums) (t .m) ord
+    Rises = risesAt (rankOf (t .makes) nums) (t .m) ord
 
     module _ (up : (i : ℕ) → i < t .m → Rises i ≡ true) where
       row-below : (i : ℕ) → i < t .m → nat ord i < t .m
@@ -142,7 +142,7 @@ module _ (t : Tables) (F : Formed t) (nums ord : List ℕ) (long : t .n ≤ leng
       neighbours : (i : ℕ) → suc i < t .m → Prec (rank t) (nat ord i) (nat ord (suc i))
       neighbours i l =
           let a = row-below i (omega arith) in let b = row-below (suc i) l in let f = few in
-          let h = leb-true (standing (t .makes) nums (nat ord i) + 1) (standing (t .makes) nums (nat ord (suc i))) (and-right (ltb (nat ord (suc i)) (t .m)) _ (up (suc i) l)) in
+          let h = leb-true (rankOf (t .makes) nums (nat ord i) + 1) (rankOf (t .makes) nums (nat ord (suc i))) (and-right (ltb (nat ord (suc i)) (t .m)) _ (up (suc i) l)) in
           let x = stands-is (nat ord i) a in let y = stands-is (nat ord (suc i)) b in
           stands-down (rank t) (nat ord i) (nat ord (suc i)) (omega arith) (omega arith) (omega arith)
 
@@ -156,7 +156,7 @@ module _ (t : Tables) (F : Formed t) (nums ord : List ℕ) (long : t .n ≤ leng
               (λ r m. let (j, l, q) = index-of (x ∷ xs) m in let a = same j (omega arith) in let b = row-below j (omega arith) in omega arith) e
 
     order-rises : take (t .m) ord ≡ order t → (i : ℕ) → i < t .m → Rises i ≡ true
-    order-rises e i l = ap₂ _&&_ (lt-ltb (nat ord i) (t .m) (at i l)) (le-leb (floor (standing (t .makes) nums) ord i) (standing (t .makes) nums (nat ord i)) (above-floor i l))
+    order-rises e i l = ap₂ _&&_ (lt-ltb (nat ord i) (t .m) (at i l)) (le-leb (floor (rankOf (t .makes) nums) ord i) (rankOf (t .makes) nums (nat ord i)) (above-floor i l))
       where
         same : (j : ℕ) → j < t .m → nat ord j ≡ nat (order t) j
         same j h = sym (getD-take (t .m) ord j 0 h) ∙ ap (λ z. nat z j) e
@@ -168,7 +168,7 @@ module _ (t : Tables) (F : Formed t) (nums ord : List ℕ) (long : t .n ≤ leng
             let q = ltb-true (nat (order t) j) (t .m) (all-at (λ r. ltb r (t .m)) (order t) rows j 0 (omega arith)) in
             omega arith
 
-        above-floor : (j : ℕ) → j < t .m → floor (standing (t .makes) nums) ord j ≤ standing (t .makes) nums (nat ord j)
+        above-floor : (j : ℕ) → j < t .m → floor (rankOf (t .makes) nums) ord j ≤ rankOf (t .makes) nums (nat ord j)
         above-floor zero h = omega arith
         above-floor (suc j) h =
             let k = order-length t in let f = few in
@@ -179,13 +179,13 @@ module _ (t : Tables) (F : Formed t) (nums ord : List ℕ) (long : t .n ≤ leng
             omega arith
 
   -- ── both ──
-  passes : allBelow (rightAt (inputsOf t) nums) (t .n) ≡ true → allBelow (risesAt (standing (t .makes) nums) (t .m) ord) (t .m) ≡ numbered t nums ord
+  passes : allBelow (rightAt (inputsOf t) nums) (t .n) ≡ true → allBelow (risesAt (rankOf (t .makes) nums) (t .m) ord) (t .m) ≡ numbered t nums ord
   passes e =
       let right = allBelow-at (rightAt (inputsOf t) nums) (t .n) e in
-      iff (allBelow (risesAt (standing (t .makes) nums) (t .m) ord) (t .m)) (numbered t nums ord)
+      iff (allBelow (risesAt (rankOf (t .makes) nums) (t .m) ord) (t .m)) (numbered t nums ord)
       (λ q. numbered-of t nums ord (λ v l. ends-all right v) (numbers-are right)
-      (order-is (numbers-are right) (allBelow-at (risesAt (standing (t .makes) nums) (t .m) ord) (t .m) q)))
-      (λ q. below-all (risesAt (standing (t .makes) nums) (t .m) ord) (t .m) (order-rises (numbers-are right) (numbered-order t nums ord q room)))
+      (order-is (numbers-are right) (allBelow-at (risesAt (rankOf (t .makes) nums) (t .m) ord) (t .m) q)))
+      (λ q. below-all (risesAt (rankOf (t .makes) nums) (t .m) ord) (t .m) (order-rises (numbers-are right) (numbered-order t nums ord q room)))
 
   -- the paper's numbers meet the equations
   fails : allBelow (rightAt (inputsOf t) nums) (t .n) ≡ false → false ≡ numbered t nums ord
@@ -204,7 +204,7 @@ module _ (t : Tables) (F : Formed t) (nums ord : List ℕ) (long : t .n ≤ leng
     told : (a && b) ≡ allBelow (rightAt (inputsOf t) nums) (t .n)
     told = ap₂ _&&_ p q ∙ by-rows t F by nums M
 
-    pub eight-right : {c : Bool} → (a && b) ≡ true → c ≡ allBelow (risesAt (standing (t .makes) nums) (t .m) ord) (t .m) → c ≡ numbered t nums ord
+    pub eight-right : {c : Bool} → (a && b) ≡ true → c ≡ allBelow (risesAt (rankOf (t .makes) nums) (t .m) ord) (t .m) → c ≡ numbered t nums ord
     eight-right e h = h ∙ passes (sym told ∙ e)
 
     pub eight-wrong : (a && b) ≡ false → false ≡ numbered t nums ord

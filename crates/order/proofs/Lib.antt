@@ -1,3 +1,4 @@
+pub mod Climbs
 pub mod Bare
 pub mod Parted
 pub mod Visits

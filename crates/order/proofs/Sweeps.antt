@@ -22,7 +22,7 @@ use Rattle.paper.proofs.Numbers.{Numbers, number-right, numbers-unique}
 use Rattle.paper.proofs.Circle.{numbers-end, has-able}
 use Rattle.tables.specs.Makers.{Makers}
 use Rattle.order.specs.Formed.{Formed}
-use Rattle.order.specs.Numbering.{Clean, above, partAt, searchState, ended, numberIn, Visited, Swept, Found}
+use Rattle.order.specs.Numbering.{Clean, above, partAt, searchState, ended, numberIn, NumberVisit, NumberedBelow, NumbersFound}
 use Rattle.order.proofs.Parted.{Parts, over-out, search-none}
 
 -- a new row is clean
@@ -35,7 +35,7 @@ clean-new n k h = record { long = let e = length-replicate {A = ℕ} k 0 in omeg
 
 -- ── the loop over all variables ──
 module _ (n : ℕ) (dep : ℕ → List ℕ) where
-  pub swept-step : (v r : ℕ) (state after : List ℕ) → Swept n dep v state → Visited n dep v state after r → Swept n dep (v + 1) after
+  pub swept-step : (v r : ℕ) (state after : List ℕ) → NumberedBelow n dep v state → NumberVisit n dep v state after r → NumberedBelow n dep (v + 1) after
   swept-step v r state after S W = record {
     right = W .right;
     begun = λ u l. go u l (ltb u v) refl;
@@ -69,7 +69,7 @@ module _ (t : Tables) (F : Formed t) (by : List ℕ) (M : Makers t by) {begins s
   none : (u : ℕ) → 0 < nat begun u → partAt begins stops (t .vars) u ≡ []
   none u h = let (l, e) = some u h in P .inputs u ∙ search-none t F by M u l e
 
-  pub swept-start : Swept (t .n) (partAt begins stops (t .vars)) 0 begun
+  pub swept-start : NumberedBelow (t .n) (partAt begins stops (t .vars)) 0 begun
   swept-start = record {
     right = record {
       long = let e = over-length (λ v. searchState (nat by v)) (t .n) zeros (C .long) in let h = C .long in omega arith;
@@ -102,7 +102,7 @@ numbering-above t F f v = go (isMade t v) refl
     go false e = refl
 
 -- ── what the states then say ──
-module _ (t : Tables) (F : Formed t) (state : List ℕ) (S : Swept (t .n) (inputsOf t) (t .n) state) where
+module _ (t : Tables) (F : Formed t) (state : List ℕ) (S : NumberedBelow (t .n) (inputsOf t) (t .n) state) where
   meets : (u : ℕ) → 2 ≤ nat state u → numberIn state u ≡ numbering (net t) (numberIn state) u
   meets u h = let q = S .right .number u h in let e = numbering-above t F (numberIn state) u in omega arith
 
@@ -147,7 +147,7 @@ module _ (t : Tables) (F : Formed t) (state : List ℕ) (S : Swept (t .n) (input
         let chain = numbers-end (net t) (lawful t) (t .n) (F .inputs-below) (F .made-below) (F .some) (numberIn state) meets-all in
         numbers-unique (net t) (lawful t) (t .n) chain (numberIn state) (number (net t) (t .n)) meets-all (number-right (net t) (lawful t) (t .n) chain) v
 
-  found : (r : ℕ) → r ≡ firstFail (ended state) (t .n) → Found t state r
+  found : (r : ℕ) → r ≡ firstFail (ended state) (t .n) → NumbersFound t state r
   found r e = record {
     least = e ∙ firstFail-same (ended state) (ends t) (t .n) ended-ends;
     which = λ v l. sym (ended-ends v l);
@@ -158,5 +158,5 @@ module _ (t : Tables) (F : Formed t) (state : List ℕ) (S : Swept (t .n) (input
       past h v l = firstFail-before (ended state) (t .n) v (omega arith)
 
 pub swept-found : (t : Tables) → Formed t → (begins stops state : List ℕ) (r : ℕ) → Parts t begins stops
-    → Swept (t .n) (partAt begins stops (t .vars)) (t .n) state → r ≡ firstFail (ended state) (t .n) → Found t state r
-swept-found t F begins stops state r P S e = found t F state (subst (λ dep. Swept (t .n) dep (t .n) state) (fun-ext (P .inputs)) S) r e
+    → NumberedBelow (t .n) (partAt begins stops (t .vars)) (t .n) state → r ≡ firstFail (ended state) (t .n) → NumbersFound t state r
+swept-found t F begins stops state r P S e = found t F state (subst (λ dep. NumberedBelow (t .n) dep (t .n) state) (fun-ext (P .inputs)) S) r e

@@ -15,7 +15,7 @@ use borrow.Author.Tests.{leb-true, le-leb, lt-leb, eqb-true, eqb-false, eq-eqb, 
 use Rattle.paper.specs.Lists.{nat, size}
 use Rattle.paper.proofs.Lists.{clash, same-or}
 use Rattle.paper.proofs.Count.{size-le, size-add, size-mono}
-use Rattle.order.specs.Numbering.{above, fresh, ended, numberIn, Right, Held, Visited}
+use Rattle.order.specs.Numbering.{above, unvisited, ended, numberIn, NumbersRight, InputBegun, NumberVisit}
 
 -- ── the least number above all entries ──
 above-same : (f g : ℕ → ℕ) (xs : List ℕ) → ((i : ℕ) → List·Memᴰ i xs → f i ≡ g i) → above f xs ≡ above g xs
@@ -43,7 +43,7 @@ left-none vars i stop h = drop-of-length-le (take stop vars) {i = i} (simp lengt
 
 module _ (n : ℕ) (dep : ℕ → List ℕ) where
   -- ── one state changes: v's, which has not ended ──
-  module _ (v x : ℕ) (state : List ℕ) (R : Right n dep state) (l : v < n) (low : nat state v ≤ 1) where
+  module _ (v x : ℕ) (state : List ℕ) (R : NumbersRight n dep state) (l : v < n) (low : nat state v ≤ 1) where
     here : nat (set state v x) v ≡ x
     here = getD-set-same state v x 0 (let h = R .long in omega arith)
 
@@ -57,7 +57,7 @@ module _ (n : ℕ) (dep : ℕ → List ℕ) where
     abbrev Ends : Type 0
     Ends = ((i : ℕ) → List·Memᴰ i (dep v) → 2 ≤ nat state i) × (x ≡ 2 + above (numberIn state) (dep v)) × (x ≤ 2 + size (ended state) n)
 
-    right-set : (2 ≤ x → Ends) → Right n dep (set state v x)
+    right-set : (2 ≤ x → Ends) → NumbersRight n dep (set state v x)
     right-set E = record {
       long = rw length-set (R .long);
       number = λ u h. ⊎-elim
@@ -85,19 +85,19 @@ module _ (n : ℕ) (dep : ℕ → List ℕ) where
         more h = size-add (ended state) (ended (set state v x)) v n l (lt-leb 2 (nat state v) (omega arith)) (le-leb 2 (nat (set state v x) v) (let s = here in omega arith))
             (λ u ne. rw (there u ne))
 
-  pub visited-known : (v x : ℕ) (state : List ℕ) → Right n dep state → x ≡ nat state v → 0 < x → Visited n dep v state state x
+  pub visited-known : (v x : ℕ) (state : List ℕ) → NumbersRight n dep state → x ≡ nat state v → 0 < x → NumberVisit n dep v state state x
   visited-known v x state R e h = record { right = R; kept = λ u q. refl; is = e; begun = h; stuck = λ u q. inl q }
 
   -- ── a visit on its way ──
   -- before it v was fresh
   pub record Begun (v : ℕ) (before : List ℕ) : Type 0 where
-    pub right : Right n dep before
+    pub right : NumbersRight n dep before
     pub below : v < n
     pub unseen : nat before v ≡ 0
 
   -- the inputs in `left` are still to be visited, best is the greatest state of the others, from 1 up, and `mid` are the states where the loop began
   pub record Going (v : ℕ) (left : List ℕ) (best : ℕ) (mid state : List ℕ) : Type 0 where
-    pub right : Right n dep state
+    pub right : NumbersRight n dep state
     pub kept : (u : ℕ) → 0 < nat mid u → nat state u ≡ nat mid u
     pub stuck : (u : ℕ) → nat state u ≡ 1 → nat mid u ≡ 1
     pub rest : (w : ℕ) → List·Memᴰ w left → List·Memᴰ w (dep v)
@@ -105,7 +105,7 @@ module _ (n : ℕ) (dep : ℕ → List ℕ) where
     pub reached : (best ≡ 1) ⊎ ((w : ℕ) × List·Memᴰ w (dep v) × (2 ≤ nat state w) × (nat state w ≡ best))
 
   -- the next input is visited, and ends
-  pub going-step : (v best w r b : ℕ) (left more mid state after : List ℕ) → Going v left best mid state → left ≡ w ∷ more → Visited n dep w state after r
+  pub going-step : (v best w r b : ℕ) (left more mid state after : List ℕ) → Going v left best mid state → left ≡ w ∷ more → NumberVisit n dep w state after r
       → r ≢ 1 → b ≡ max best r → Going v more b mid after
   going-step v best w r b left more mid state after G e W ne eb = record {
     right = W .right;
@@ -166,28 +166,28 @@ module _ (n : ℕ) (dep : ℕ → List ℕ) where
       stuck-all u p = ⊎-elim (λ e. inl e) (λ ne. inr (sym (mid-there u ne) ∙ G .stuck u p)) (same-or u v)
 
       -- fewer are fresh
-      pub going-less : size (fresh state) n < size (fresh before) n
+      pub going-less : size (unvisited state) n < size (unvisited before) n
       going-less =
           let seen = ne-eqb (nat mid v) 0 (λ z. let s = mid-here in omega arith) in
-          let a = size-add (fresh mid) (fresh before) v n (B .below) seen (eq-eqb (nat before v) 0 (B .unseen)) (λ u ne. rw (mid-there u ne)) in
-          let b = size-mono (fresh state) (fresh mid) n (λ u e. go u (eqb-true (nat state u) 0 e) (same-or (nat mid u) 0)) in
+          let a = size-add (unvisited mid) (unvisited before) v n (B .below) seen (eq-eqb (nat before v) 0 (B .unseen)) (λ u ne. rw (mid-there u ne)) in
+          let b = size-mono (unvisited state) (unvisited mid) n (λ u e. go u (eqb-true (nat state u) 0 e) (same-or (nat mid u) 0)) in
           omega arith
         where
-          go : (u : ℕ) → nat state u ≡ 0 → (nat mid u ≡ 0) ⊎ (nat mid u ≢ 0) → fresh mid u ≡ true
+          go : (u : ℕ) → nat state u ≡ 0 → (nat mid u ≡ 0) ⊎ (nat mid u ≢ 0) → unvisited mid u ≡ true
           go u z (inl e) = eq-eqb (nat mid u) 0 e
           go u z (inr ne) = let s = G .kept u (omega arith) in absurd (ne (omega arith))
 
       -- the next input waits, and so does v
-      pub going-fail : (w r : ℕ) (more after : List ℕ) → left ≡ w ∷ more → Visited n dep w state after r → r ≡ 1 → Visited n dep v before after 1
+      pub going-fail : (w r : ℕ) (more after : List ℕ) → left ≡ w ∷ more → NumberVisit n dep w state after r → r ≡ 1 → NumberVisit n dep v before after 1
       going-fail w r more after e W one = record {
         right = W .right;
         kept = λ u h. let s = kept-all u h in W .kept u (omega arith) ∙ s;
         is = let s = waits in sym (W .kept v (omega arith) ∙ s);
         begun = omega arith;
-        stuck = λ u p. ⊎-elim (λ q. ⊎-elim (λ s. inr (refl, subst (Held n dep after) (sym s) held)) inl (stuck-all u q)) (λ q. inr (refl, q .1)) (W .stuck u p);
+        stuck = λ u p. ⊎-elim (λ q. ⊎-elim (λ s. inr (refl, subst (InputBegun n dep after) (sym s) held)) inl (stuck-all u q)) (λ q. inr (refl, q .1)) (W .stuck u p);
       }
         where
-          held : Held n dep after v
+          held : InputBegun n dep after v
           held = (w, G .rest w (subst (List·Memᴰ w) (sym e) (List·Memᴰ·head refl)), sym (W .is) ∙ one)
 
       -- the greatest state is that of one that has ended
@@ -198,7 +198,7 @@ module _ (n : ℕ) (dep : ℕ → List ℕ) where
       going-small few = let b = bounded in let s = size-le (ended state) n in omega arith
 
       -- all inputs have ended, and so does v
-      pub going-end : left ≡ [] → Visited n dep v before (set state v (best + 1)) (best + 1)
+      pub going-end : left ≡ [] → NumberVisit n dep v before (set state v (best + 1)) (best + 1)
       going-end e = record {
         right = right-set v (best + 1) state (G .right) (B .below) one (λ q. (λ i m. entry i m .0, equation, (let b = bounded in omega arith)));
         kept = λ u h. let s = kept-all u h in end-there u (other u h) ∙ s;

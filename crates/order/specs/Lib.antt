@@ -1,3 +1,4 @@
+pub mod Ascent
 pub mod Formed
 pub mod Numbering
 pub mod Chains

@@ -58,8 +58,8 @@ pub record Parted (n : ℕ) (begins stops vars : List ℕ) : Type 0 where
   pub below : (v i : ℕ) → List·Memᴰ i (partAt begins stops vars v) → i < n
 
 -- ── the state of a variable: 0 before its visit, 1 once that has begun, and its number and 2 once that has ended ──
-abbrev pub fresh : List ℕ → ℕ → Bool
-fresh state v = eqb (nat state v) 0
+abbrev pub unvisited : List ℕ → ℕ → Bool
+unvisited state v = eqb (nat state v) 0
 
 abbrev pub ended : List ℕ → ℕ → Bool
 ended state v = leb 2 (nat state v)
@@ -74,29 +74,29 @@ searchState maker = cond (eqb maker 0) 2 0
 -- dep gives the inputs
 module _ (n : ℕ) (dep : ℕ → List ℕ) where
   -- what has ended has its number, and so have its inputs
-  pub record Right (state : List ℕ) : Type 0 where
+  pub record NumbersRight (state : List ℕ) : Type 0 where
     pub long : n ≤ length state
     pub number : (u : ℕ) → 2 ≤ nat state u → nat state u ≡ 2 + above (numberIn state) (dep u)
     pub inputs : (u : ℕ) → 2 ≤ nat state u → (i : ℕ) → List·Memᴰ i (dep u) → 2 ≤ nat state i
     pub small : (u : ℕ) → 2 ≤ nat state u → nat state u < 2 + size (ended state) n
 
   -- the visit of some input of u has begun and not ended
-  abbrev pub Held : List ℕ → ℕ → Type 0
-  Held state u = (i : ℕ) × List·Memᴰ i (dep u) × (nat state i ≡ 1)
+  abbrev pub InputBegun : List ℕ → ℕ → Type 0
+  InputBegun state u = (i : ℕ) × List·Memᴰ i (dep u) × (nat state i ≡ 1)
 
   -- a visit of v, which found r: what had begun is as it was, and what it began and did not end waits on an input
-  pub record Visited (v : ℕ) (before after : List ℕ) (r : ℕ) : Type 0 where
-    pub right : Right after
+  pub record NumberVisit (v : ℕ) (before after : List ℕ) (r : ℕ) : Type 0 where
+    pub right : NumbersRight after
     pub kept : (u : ℕ) → 0 < nat before u → nat after u ≡ nat before u
     pub is : r ≡ nat after v
     pub begun : 0 < r
-    pub stuck : (u : ℕ) → nat after u ≡ 1 → (nat before u ≡ 1) ⊎ ((r ≡ 1) × Held after u)
+    pub stuck : (u : ℕ) → nat after u ≡ 1 → (nat before u ≡ 1) ⊎ ((r ≡ 1) × InputBegun after u)
 
   -- the variables below v have been visited
-  pub record Swept (v : ℕ) (state : List ℕ) : Type 0 where
-    pub right : Right state
+  pub record NumberedBelow (v : ℕ) (state : List ℕ) : Type 0 where
+    pub right : NumbersRight state
     pub begun : (u : ℕ) → u < v → 0 < nat state u
-    pub held : (u : ℕ) → nat state u ≡ 1 → Held state u
+    pub held : (u : ℕ) → nat state u ≡ 1 → InputBegun state u
 
 -- ── found ──
 -- the row holds two more than each variable's number
@@ -105,7 +105,7 @@ pub record Numbered (t : Tables) (state : List ℕ) : Type 0 where
   pub at : (v : ℕ) → v < t .n → nat state v ≡ 2 + number (net t) (t .n) v
 
 -- r is the least variable that can have no number, or n; with n the row holds the numbers; what has ended is what can have one
-pub record Found (t : Tables) (state : List ℕ) (r : ℕ) : Type 0 where
+pub record NumbersFound (t : Tables) (state : List ℕ) (r : ℕ) : Type 0 where
   pub least : r ≡ firstFail (ends t) (t .n)
   pub which : (v : ℕ) → v < t .n → ends t v ≡ ended state v
   pub numbered : t .n ≤ r → Numbered t state

@@ -1,4 +1,5 @@
 // Topological numbers where no chain closes, found and checked, and the order checked; chains threaded through a list.
+pub mod ascents;
 mod chain;
 mod parts;
 mod right;

@@ -1,7 +1,7 @@
 // Check 8: whether lent numbers and a lent order are what build gives, without numbering anew.
-use ascents::order_right;
+use crate::ascents::order_right;
+use integers::naturals::larger;
 use integers::wide;
-use naturals::larger;
 ghost use mathlib.Core.Path.{_≡_};
 ghost use Prim.Native.Nat.{_≤_};
 ghost use lib.ListN.{length};

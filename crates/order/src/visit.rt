@@ -1,14 +1,14 @@
 // Which variables can have a topological number, and which: each is visited once, after what it is made from.
 use crate::parts::set_parts;
+use integers::naturals::larger;
 use integers::wide;
-use naturals::larger;
 ghost use mathlib.Core.Path.{_≡_};
 ghost use Prim.Native.Nat.{_≤_, _<_};
 ghost use lib.ListN.{length};
 ghost use Rattle.paper.specs.Lists.{nat, over, firstFail};
 ghost use Rattle.tables.specs.Makers.{Makers};
 ghost use Rattle.order.specs.Formed.{bare, Formed};
-ghost use Rattle.order.specs.Numbering.{Clean, partAt, Parted, Right, Visited, Swept, searchState, ended, Found};
+ghost use Rattle.order.specs.Numbering.{Clean, partAt, Parted, NumbersRight, NumberVisit, NumberedBelow, searchState, ended, NumbersFound};
 
 // The state of v after its visit: two more than its number, or 1 if it waits for itself or for one that does. An input that has been visited costs a look and
 // no call.
@@ -22,8 +22,8 @@ fn visit(
 ) -> usize
     requires parted { ⌜ Parted n (now begins) (now stops) (now vars) ⌝ }
     requires there { ⌜ v < n ⌝ }
-    requires right { ⌜ Right n (partAt (now begins) (now stops) (now vars)) (now state) ⌝ }
-    ensures { λ r. ⌜ Visited n (partAt (now (begins .entry)) (now (stops .entry)) (now (vars .entry))) v (now (state .entry)) (now (state .exit)) r ⌝ }
+    requires right { ⌜ NumbersRight n (partAt (now begins) (now stops) (now vars)) (now state) ⌝ }
+    ensures { λ r. ⌜ NumberVisit n (partAt (now (begins .entry)) (now (stops .entry)) (now (vars .entry))) v (now (state .entry)) (now (state .exit)) r ⌝ }
 {
     let known = wide(state[v]);
     if known > 0 {
@@ -80,8 +80,8 @@ fn visit_all(
     state: &mut [u16; 4096],
 )
     requires parted { ⌜ Parted n (now begins) (now stops) (now vars) ⌝ }
-    requires swept { ⌜ Swept n (partAt (now begins) (now stops) (now vars)) 0 (now state) ⌝ }
-    ensures { λ _. ⌜ Swept n (partAt (now (begins .entry)) (now (stops .entry)) (now (vars .entry))) n (now (state .exit)) ⌝ }
+    requires swept { ⌜ NumberedBelow n (partAt (now begins) (now stops) (now vars)) 0 (now state) ⌝ }
+    ensures { λ _. ⌜ NumberedBelow n (partAt (now (begins .entry)) (now (stops .entry)) (now (vars .entry))) n (now (state .exit)) ⌝ }
 {
     let mut v = 0;
     while v < n {
@@ -120,7 +120,7 @@ pub fn find_numbers(
     requires formed { ⌜ Formed (bare n m (now makes) (now firsts) (now counts) (now vars)) ⌝ }
     requires makers { ⌜ Makers (bare n m (now makes) (now firsts) (now counts) (now vars)) (now by) ⌝ }
     requires clean { ⌜ Clean n (now state) ⌝ }
-    ensures { λ r. ⌜ Found (bare n m (now (makes .entry)) (now (firsts .entry)) (now (counts .entry)) (now (vars .entry))) (now (state .exit)) r ⌝ }
+    ensures { λ r. ⌜ NumbersFound (bare n m (now (makes .entry)) (now (firsts .entry)) (now (counts .entry)) (now (vars .entry))) (now (state .exit)) r ⌝ }
 {
     let mut begins = [0u16; 4096];
     let mut stops = [0u16; 4096];

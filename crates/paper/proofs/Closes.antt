@@ -24,7 +24,6 @@ use Rattle.paper.proofs.Accept.{made-below, inputs-below}
 use Rattle.paper.proofs.Lawful.{lawful}
 use Rattle.paper.proofs.Circle.{ends-everywhere}
 use Rattle.paper.proofs.Order.{levels-length}
-use Rattle.paper.proofs.Eight.{numbered-ends}
 use Rattle.paper.proofs.Fresh.{Fresh, form-same}
 use Rattle.paper.proofs.Needs.{worth-meets, search-determined}
 use Rattle.paper.proofs.Groups.{group-le}
@@ -113,9 +112,6 @@ module _ (t : Tables) (s : Sound t) where
 
       orderBy : List ℕ → Bool
       orderBy l = allBelow (λ i. eqb (nat ord i) (nat l i)) (t .m)
-
-  pub numbered-groups : (nums ord : List ℕ) → numbered t nums ord ≡ true → groupsNumbered t nums ord ≡ true
-  numbered-groups nums ord ok = sym (numbered-same nums ord (not-closes t (numbered-ends t nums ord ok))) ∙ ok
 
   -- ── stored values where a chain closes ──
   module _ (old : Values) (e : closes t ≡ true) (passed : (v : ℕ) → v < t .n → storedFresh t old v ≡ true) where

@@ -78,9 +78,6 @@ module _ (dep : ℕ → List ℕ) (n : ℕ) (below : (v i : ℕ) → List·Mem�
           go i m (inl x) = rw (← (eqb-true i w x)) (direct m)
           go i m (inr x) = through m (h i x)
 
-  pub depends-not : (v w : ℕ) → depends dep n v w ≡ false → v < n → Depends dep v w → ⊥
-  depends-not v w e l d = clash (depends-yes v w l d) e
-
   -- ── they are on one closed chain ──
   pub together-yes : (v w : ℕ) → Mutual dep v w → together dep n v w ≡ true
   together-yes v w (a, b) = ap₂ _&&_ (depends-yes v w (depends-low b) a) (depends-yes w v (depends-low a) b)
@@ -114,9 +111,6 @@ module _ (dep : ℕ → List ℕ) (n : ℕ) (below : (v i : ℕ) → List·Mem�
 
   pub grouped-sym : (v w : ℕ) → grouped dep n v w ≡ grouped dep n w v
   grouped-sym v w = grouped-exactly (grouped dep n v w) w v (λ e. same-sym dep (grouped-is v w e)) (λ s. grouped-yes v w (same-sym dep s))
-
-  pub grouped-trans : (u v w : ℕ) → grouped dep n u v ≡ true → grouped dep n v w ≡ true → grouped dep n u w ≡ true
-  grouped-trans u v w a b = grouped-yes u w (same-trans dep (grouped-is u v a) (grouped-is v w b))
 
   -- variables of one group have the same group
   pub grouped-same : (u v w : ℕ) → grouped dep n u v ≡ true → grouped dep n u w ≡ grouped dep n v w

@@ -4,27 +4,24 @@
 use Prim.Native.Nat.{ℕ, _≤_, _<_}
 use native.Mathlib.Nat.{lt-irrefl}
 use native.Mathlib.Omega.{arith}
-use mathlib.Core.Bool.{Bool, true, false, not, _&&_, _||_}
+use mathlib.Core.Bool.{Bool, true, false}
 use mathlib.Core.List.{List}
-use mathlib.Core.Path.{_≡_, refl, ap, ap₂, sym, _∙_}
+use mathlib.Core.Path.{_≡_, refl, ap, sym, _∙_}
 use lib.IntN.{ℤ, pos}
 use lib.Dec.{ltb}
 use lib.ListN.{take, length-take, List·getD-eq-default}
 use borrow.Author.Tests.{ltb-true, ltb-false}
-use Rattle.integers.specs.Integers.{eqZ}
-use Rattle.integers.proofs.Order.{eqZ-self}
 use Rattle.paper.specs.Net.{Values, input-to-output, moved, names}
 use Rattle.paper.specs.Tables.{Tables, net, valuesIn}
-use Rattle.paper.specs.Chains.{worth, determined, closes, storedFresh}
+use Rattle.paper.specs.Chains.{determined}
 use Rattle.paper.specs.Checks.{Bounds, Move, movePairs}
 use Rattle.paper.specs.Log.{Log}
 use Rattle.paper.specs.Moves.{Apart, AllPairs}
 use Rattle.paper.specs.Calls.{Session, Model, storedValues, Kept, keptStored}
 use Rattle.paper.proofs.Sizes.{sized-facts}
-use Rattle.paper.proofs.Accept.{made-below, inputs-below}
 use Rattle.paper.proofs.Fresh.{Alike, moved-alike, unnamed}
-use Rattle.paper.proofs.Needs.{worth-alike, determined-alike, route-worth}
-use Rattle.paper.proofs.Known.{MoveKnown, named-below, model-open, model-closed, KeepKnown}
+use Rattle.paper.proofs.Needs.{determined-alike}
+use Rattle.paper.proofs.Known.{MoveKnown, named-below, KeepKnown}
 use Rattle.paper.proofs.Moves.{new-search, kept-value, either-order, as-one}
 
 -- a lent row of values is 0 beyond the variables
@@ -63,20 +60,6 @@ module _ (s : Session) (l : Log) (w : Model) (c : Kept) (has : KeepKnown s l w c
   pub kept-determined : (next : List (ℕ × ℤ))
       → determined (w .tables) (moved next (valuesIn (w .tables) (keptStored (w .tables) (w .stored) c))) ≡ determined (w .tables) (moved next (moved (movePairs (c .move)) (storedValues w)))
   kept-determined next = determined-alike t (moved next left) (moved next (moved mv old)) (moved-alike (net t) next left (moved mv old) kept-search)
-
-  -- and they pass check 21
-  pub keep-leaves-fresh : (v : ℕ) → v < w .tables .n → storedFresh (w .tables) (valuesIn (w .tables) (keptStored (w .tables) (w .stored) c)) v ≡ true
-  keep-leaves-fresh v low = go (closes t) refl
-    where
-      go : (x : Bool) → closes t ≡ x → storedFresh t left v ≡ true
-      go false e = model-open w (has .model) e .fresh left v
-      go true e =
-          let det = ap (λ (p : ℕ → Bool). p v) (determined-alike t left (moved mv old) kept-search) ∙ has .determined v in
-          let is : left v ≡ worth t left v =
-          kept-value w c v low
-          ∙ route-worth t (inputs-below t (has .model .sound)) (made-below t (has .model .sound)) some (moved mv old) (has .determined) old (model-closed w (has .model) e (has .fresh) .fresh) input-to-output v
-          ∙ sym (ap (λ (f : Values). f v) (worth-alike t left (moved mv old) kept-search)) in
-          ap₂ (λ x y. not x || (y && eqZ (left v) (worth t left v))) e det ∙ ap (eqZ (left v)) (sym is) ∙ eqZ-self (left v)
 
 -- ── both moves, and one of all their pairs ──
 module _ (t : Tables) (bs : Bounds) (a b : Move) (known-a : MoveKnown t bs a) (known-b : MoveKnown t bs b) (apart : Apart a b) (s : Values) where

@@ -9,7 +9,7 @@ use lib.ListN.{take, drop, replicate}
 use Rattle.paper.specs.Lists.{every, below}
 use Rattle.paper.specs.Tables.{Tables, lent}
 use Rattle.paper.specs.Checks.{accepted, refused, lowest, highest}
-use Rattle.paper.specs.File.{Version, version1, version2, Contents, contents, plain, counted, countedAs, fileBytesAs, writeVerdictAs, write, writeBounded, headerAs, readVerdictAs, read, readBounded, converted, convertVerdict, toVersion2, toVersion1}
+use Rattle.paper.specs.File.{Version, version1, version2, Contents, contents, unboundedContents, counted, countedAs, fileBytesAs, writeVerdictAs, write, writeBounded, headerAs, readVerdictAs, read, readBounded, converted, convertVerdict, toVersion2, toVersion1}
 
 -- variable 1 is LINEAR of variable 0 with coefficient -2 and parameter 7; variable 0 starts at -2
 abbrev model : Tables

@@ -14,14 +14,14 @@ use Rattle.integers.specs.Integers.{eqZ}
 use Rattle.integers.proofs.Parts.{dif-bal}
 use Rattle.integers.proofs.Order.{lt-yes, lt-no, yes-lt, no-lt, eqZ-self}
 use Rattle.paper.specs.Lists.{any, all, tally, size}
-use Rattle.paper.specs.Formula.{blank, fit, someBlank, sum, lesser, greater, places, sharing, departures, last, inputAt, plain, formula}
+use Rattle.paper.specs.Formula.{blank, fit, someBlank, sum, lesser, greater, places, sharing, departures, last, inputAt, pickedFormula, formula}
 use Rattle.paper.proofs.Lists.{or-false-left, or-false-right, eqb-self}
 use Rattle.paper.proofs.Count.{size-le, size-same, size-add}
 use Rattle.paper.proofs.Extreme.{isBlank, Extreme, least, most, none-left}
 
 -- ── blank inputs ──
 by-blank : (kind : ℕ) (param : ℤ) (coefs xs : List ℤ) (b : Bool) → any (eqb kind) (2 ∷ 3 ∷ 4 ∷ []) ≡ false → someBlank xs ≡ b
-    → formula kind param coefs xs ≡ cond b blank (plain kind param coefs xs)
+    → formula kind param coefs xs ≡ cond b blank (pickedFormula kind param coefs xs)
 unfolding formula
 by-blank kind param coefs xs b k e =
     let two = or-false-left (eqb kind 2) (any (eqb kind) (3 ∷ 4 ∷ [])) k in
@@ -75,7 +75,7 @@ sharing-shares xs =
 
 -- ── the paper's sentences ──
 module _ (param : ℤ) (coefs : List ℤ) where
-  full : (kind : ℕ) (xs : List ℤ) → any (eqb kind) (2 ∷ 3 ∷ 4 ∷ []) ≡ false → someBlank xs ≡ false → formula kind param coefs xs ≡ plain kind param coefs xs
+  full : (kind : ℕ) (xs : List ℤ) → any (eqb kind) (2 ∷ 3 ∷ 4 ∷ []) ≡ false → someBlank xs ≡ false → formula kind param coefs xs ≡ pickedFormula kind param coefs xs
   full kind xs k e = by-blank kind param coefs xs false k e
 
   -- 1. the exact sum, judged once, at the end

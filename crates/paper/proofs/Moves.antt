@@ -18,9 +18,9 @@ use Rattle.paper.specs.Formula.{blank}
 use Rattle.paper.specs.Net.{Net, Values, Route, input-to-output, runs, new, moved, names}
 use Rattle.paper.specs.Tables.{Tables, net, isMade, valuesIn}
 use Rattle.paper.specs.Chains.{determined, groupsNumbered, storedFresh}
-use Rattle.paper.specs.Checks.{accepted, Bounds, within, indexed, storedGood, inBounds, storedAllowed, Move, movePairs, moveFits, movable, namedOnce, hasValue, pairWithin}
-use Rattle.paper.specs.Log.{Log, logFits, logGood}
-use Rattle.paper.specs.Calls.{Session, blanksAmong, newValues, Model, modelFits, storedValues, Kept, keptBlanks, keptStored, keepFits, keepVerdict}
+use Rattle.paper.specs.Checks.{Verdict, accepted, Bounds, within, indexed, storedGood, inBounds, storedAllowed, Move, movePairs, moveFits, movable, namedOnce, hasValue, pairWithin, freshChecks}
+use Rattle.paper.specs.Log.{Log, logged, logFits, logGood}
+use Rattle.paper.specs.Calls.{Session, blanksAmong, newValues, Model, modelFits, modelChecks, storedValues, Kept, keptBlanks, keptStored, keepFits, keepVerdict, latest, takeFits, takeVerdict}
 use Rattle.paper.proofs.Lists.{clash, eqb-self, all-yes, any-at}
 use Rattle.paper.proofs.Buffers.{length-below, getD-below, over-length, over-front}
 use Rattle.paper.proofs.Scan.{any-append}
@@ -31,7 +31,7 @@ use Rattle.paper.proofs.Fresh.{unnamed}
 use Rattle.paper.proofs.Closes.{groups-of}
 use Rattle.paper.proofs.Count.{size-same}
 use Rattle.paper.proofs.Known.{ModelKnown, BlanksKnown, MoveKnown}
-use Rattle.paper.specs.Moves.{pairAt, Has, Apart, AllPairs, joined}
+use Rattle.paper.specs.Moves.{pairAt, Has, Apart, AllPairs, bothMoves}
 
 -- ── tests and pairs ──
 not-so : (x : Bool) → (x ≡ true → ⊥) → x ≡ false
@@ -217,7 +217,7 @@ module _ (t : Tables) (bs : Bounds) (a b : Move) (known-a : MoveKnown t bs a) (k
     }
 
   -- ── the pairs of the first and then those of the second ──
-  first-at : (i : ℕ) → i < a .pairs → pairAt (joined a b) i ≡ pairAt a i
+  first-at : (i : ℕ) → i < a .pairs → pairAt (bothMoves a b) i ≡ pairAt a i
   first-at i l =
       let h = known-a .vars-long in let k = known-a .values-long in
       let p = length-take-le (a .pairs) (a .vars) h in let q = length-take-le (a .pairs) (a .values) k in
@@ -225,18 +225,18 @@ module _ (t : Tables) (bs : Bounds) (a b : Move) (known-a : MoveKnown t bs a) (k
       (List·getD-append (take (a .pairs) (a .vars)) (take (b .pairs) (b .vars)) 0 i (omega arith) ∙ getD-take (a .pairs) (a .vars) i 0 l)
       (List·getD-append (take (a .pairs) (a .values)) (take (b .pairs) (b .values)) (pos 0) i (omega arith) ∙ getD-take (a .pairs) (a .values) i (pos 0) l)
 
-  second-at : (i : ℕ) → i < b .pairs → pairAt (joined a b) (a .pairs + i) ≡ pairAt b i
+  second-at : (i : ℕ) → i < b .pairs → pairAt (bothMoves a b) (a .pairs + i) ≡ pairAt b i
   second-at i l =
       pair-same
-      (ap (λ k. nat (joined a b .vars) (k + i)) (sym (length-take-le (a .pairs) (a .vars) (known-a .vars-long)))
+      (ap (λ k. nat (bothMoves a b .vars) (k + i)) (sym (length-take-le (a .pairs) (a .vars) (known-a .vars-long)))
       ∙ getD-append-add (take (a .pairs) (a .vars)) (take (b .pairs) (b .vars)) i 0 ∙ getD-take (b .pairs) (b .vars) i 0 l)
-      (ap (λ k. getD (joined a b .values) (k + i) (pos 0)) (sym (length-take-le (a .pairs) (a .values) (known-a .values-long)))
+      (ap (λ k. getD (bothMoves a b .values) (k + i) (pos 0)) (sym (length-take-le (a .pairs) (a .values) (known-a .values-long)))
       ∙ getD-append-add (take (a .pairs) (a .values)) (take (b .pairs) (b .values)) i (pos 0) ∙ getD-take (b .pairs) (b .values) i (pos 0) l)
 
-  later-at : (i : ℕ) → a .pairs ≤ i → i < a .pairs + b .pairs → pairAt (joined a b) i ≡ pairAt b (i - a .pairs)
-  later-at i h l = let e : i ≡ a .pairs + (i - a .pairs) = omega arith in ap (pairAt (joined a b)) e ∙ second-at (i - a .pairs) (omega arith)
+  later-at : (i : ℕ) → a .pairs ≤ i → i < a .pairs + b .pairs → pairAt (bothMoves a b) i ≡ pairAt b (i - a .pairs)
+  later-at i h l = let e : i ≡ a .pairs + (i - a .pairs) = omega arith in ap (pairAt (bothMoves a b)) e ∙ second-at (i - a .pairs) (omega arith)
 
-  pub joined-all : a .pairs + b .pairs ≤ 64 → AllPairs a b (joined a b)
+  pub joined-all : a .pairs + b .pairs ≤ 64 → AllPairs a b (bothMoves a b)
   joined-all few = record {
     of-first = λ i l. record { place = i; low = omega arith; is = first-at i l };
     of-second = λ i l. record { place = a .pairs + i; low = omega arith; is = second-at i l };
@@ -252,11 +252,11 @@ module _ (t : Tables) (bs : Bounds) (a b : Move) (known-a : MoveKnown t bs a) (k
           let p = length-append (take (a .pairs) xs) (take (b .pairs) ys) in
           let q = length-take-le (a .pairs) xs h in let r = length-take-le (b .pairs) ys k in omega arith
 
-      other : (i : ℕ) → i < a .pairs + b .pairs → (x : Bool) → ltb i (a .pairs) ≡ x → Has a (pairAt (joined a b) i) ⊎ Has b (pairAt (joined a b) i)
+      other : (i : ℕ) → i < a .pairs + b .pairs → (x : Bool) → ltb i (a .pairs) ≡ x → Has a (pairAt (bothMoves a b) i) ⊎ Has b (pairAt (bothMoves a b) i)
       other i l true q = let h = ltb-true i (a .pairs) q in inl (record { place = i; low = h; is = sym (first-at i h) })
       other i l false q = let h = ltb-false i (a .pairs) q in inr (record { place = i - a .pairs; low = omega arith; is = sym (later-at i h l) })
 
-      twice : (i k : ℕ) → i < k → k < a .pairs + b .pairs → pairAt (joined a b) i .0 ≡ pairAt (joined a b) k .0
+      twice : (i k : ℕ) → i < k → k < a .pairs + b .pairs → pairAt (bothMoves a b) i .0 ≡ pairAt (bothMoves a b) k .0
           → (x : Bool) → ltb i (a .pairs) ≡ x → (y : Bool) → ltb k (a .pairs) ≡ y → ⊥
       twice i k l h e x q true r =
           let y = ltb-true k (a .pairs) r in let z : i < a .pairs = omega arith in
@@ -270,6 +270,25 @@ module _ (t : Tables) (bs : Bounds) (a b : Move) (known-a : MoveKnown t bs a) (k
           (sym (ap (λ (p : ℕ × ℤ). p .0) (later-at i z (omega arith))) ∙ e ∙ ap (λ (p : ℕ × ℤ). p .0) (later-at k y h))
 
 -- ── what is accepted ──
+-- a model whose checks are passed has room, and leaves the rest to say
+module _ (w : Model) (model : ModelKnown w) where
+  model-fits : modelFits w ≡ true
+  model-fits = ap₂ _&&_ (model .sound .sized) (all-yes _ (le-leb _ _ (model .numbers-long), (le-leb _ _ (model .order-long), (le-leb _ _ (model .stored-long), (model .index-fits, (model .bounds-fit, tt))))))
+
+  model-next : (blanks : ℕ) → BlanksKnown blanks w → (next : Verdict) → modelChecks w blanks next ≡ next
+  model-next blanks same next = let t = w .tables in
+      tables-next t (w .bounds) (model .sound) (model .bounds) _
+      ∙ require-next 8 0 (groupsNumbered t (w .numbers) (w .order)) _ (groups-of t (w .numbers) (w .order) (model .permitted) (model .numbers-are) (model .order-is))
+      ∙ require-next 8 0 (indexed t (w .index)) _ (model .index-is)
+      ∙ require-next 19 0 (eqb blanks (blanksAmong (t .n) (storedValues w))) _ (eq-eqb blanks (blanksAmong (t .n) (storedValues w)) same)
+      ∙ check-next 7 (t .n) (storedAllowed t (w .bounds) (storedValues w)) next (λ v l. ap₂ _&&_ (model .stored v l) (model .inside v l))
+
+  -- values that are fresh and stay determined
+  fresh-next : (mv : Move) → ((v : ℕ) → v < w .tables .n → storedFresh (w .tables) (storedValues w) v ≡ true)
+      → ((v : ℕ) → determined (w .tables) (moved (movePairs mv) (storedValues w)) v ≡ true) → freshChecks (w .tables) (storedValues w) mv ≡ accepted
+  fresh-next mv fresh det = let t = w .tables in
+      check-next 21 (t .n) (storedFresh t (storedValues w)) _ fresh ∙ check-next 20 (t .n) (determined t (moved (movePairs mv) (storedValues w))) accepted (λ v l. det v)
+
 -- a keep whose model, move and log pass their checks, and whose values are fresh and stay determined
 pub keep-accepts : (s : Session) (g : Log) (w : Model) (c : Kept) → ModelKnown w → BlanksKnown (s .blanks) w → MoveKnown (w .tables) (w .bounds) (c .move) → w .tables .n ≤ length (c .flags)
     → logFits g ≡ true → logGood g (w .tables) (w .bounds) (s .kept) ≡ true
@@ -277,27 +296,31 @@ pub keep-accepts : (s : Session) (g : Log) (w : Model) (c : Kept) → ModelKnown
     → keepVerdict s g w c ≡ accepted
 unfolding keepVerdict
 keep-accepts s g w c model blanks move room log-fits log-good fresh det = let t = w .tables in let mv = c .move in
-    require-next 1 0 (keepFits g w c) _ fits ∙ tables-next t (w .bounds) (model .sound) (model .bounds) _
-    ∙ require-next 8 0 (groupsNumbered t (w .numbers) (w .order)) _ (groups-of t (w .numbers) (w .order) (model .permitted) (model .numbers-are) (model .order-is))
-    ∙ require-next 8 0 (indexed t (w .index)) _ (model .index-is)
-    ∙ require-next 19 0 (eqb (s .blanks) (blanksAmong (t .n) (storedValues w))) _ (eq-eqb (s .blanks) (blanksAmong (t .n) (storedValues w)) blanks)
-    ∙ check-next 7 (t .n) (storedAllowed t (w .bounds) (storedValues w)) _ (λ v l. ap₂ _&&_ (model .stored v l) (model .inside v l))
+    require-next 1 0 (keepFits g w c) _ fits ∙ model-next w model (s .blanks) blanks _
     ∙ check-next 10 (mv .pairs) (movable mv t) _ (movable-at t (w .bounds) mv move)
     ∙ check-next 11 (mv .pairs) (namedOnce mv) _ (λ i l. ap not (move .once i l))
     ∙ check-next 12 (mv .pairs) (hasValue mv) _ (λ i l. ap not (move .full i l))
     ∙ check-next 17 (mv .pairs) (pairWithin mv (w .bounds)) _ (move .inside)
     ∙ require-next 16 0 (logGood g t (w .bounds) (s .kept)) _ log-good
-    ∙ check-next 21 (t .n) (storedFresh t (storedValues w)) _ fresh
-    ∙ check-next 20 (t .n) (determined t (moved (movePairs mv) (storedValues w))) accepted (λ v l. det v)
+    ∙ fresh-next w model mv fresh det
   where
-    model-fits : modelFits w ≡ true
-    model-fits = ap₂ _&&_ (model .sound .sized) (all-yes _ (le-leb _ _ (model .numbers-long), (le-leb _ _ (model .order-long), (le-leb _ _ (model .stored-long), (model .index-fits, (model .bounds-fit, tt))))))
-
     move-fits : moveFits (c .move) ≡ true
     move-fits = all-yes _ (le-leb _ _ (move .few), (le-leb _ _ (move .vars-long), (le-leb _ _ (move .values-long), tt)))
 
     fits : keepFits g w c ≡ true
-    fits = all-yes _ (model-fits, (move-fits, (le-leb _ _ room, (log-fits, tt))))
+    fits = all-yes _ (model-fits w model, (move-fits, (le-leb _ _ room, (log-fits, tt))))
+
+-- a taking back whose model passes its checks and whose log is good and not empty, over values that are fresh and stay determined
+pub take-accepts : (s : Session) (g : Log) (w : Model) (flags : List ℕ) → ModelKnown w → BlanksKnown (s .blanks) w → w .tables .n ≤ length flags
+    → logFits g ≡ true → logGood g (w .tables) (w .bounds) (s .kept) ≡ true → 0 < logged g
+    → ((v : ℕ) → v < w .tables .n → storedFresh (w .tables) (storedValues w) v ≡ true)
+    → ((v : ℕ) → determined (w .tables) (moved (movePairs (latest g flags .move)) (storedValues w)) v ≡ true) → takeVerdict s g w flags ≡ accepted
+unfolding takeVerdict
+take-accepts s g w flags model blanks room log-fits log-good some fresh det =
+    require-next 1 0 (takeFits g w flags) _ (all-yes _ (model-fits w model, (le-leb _ _ room, (log-fits, tt)))) ∙ model-next w model (s .blanks) blanks _
+    ∙ require-next 16 0 (logGood g (w .tables) (w .bounds) (s .kept)) _ log-good
+    ∙ require-next 15 0 (ltb 0 (logged g)) _ (lt-ltb 0 (logged g) some)
+    ∙ fresh-next w model (latest g flags .move) fresh det
 
 -- a route leaves a search variable with the move's value
 pub new-search : (N : Net) (k : ℕ) → 0 < k → (r : Route) (old s : Values) (v : ℕ) → N .made v ≡ false → new N r old s k v ≡ s v

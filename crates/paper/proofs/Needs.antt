@@ -1,23 +1,19 @@
 -- What `determined` says of tables: a variable is determined exactly if all that it needs is, one that needs itself is not, and one that is not comes to one that
 -- needs itself; and a walk along the choices finds the determined variables with their values. Assumes nothing.
 use Prim.Native.Nat.{ℕ, _≤_, _<_}
-use native.Mathlib.Nat.{le-refl}
-use mathlib.Core.Logic.{inl}
 use mathlib.Core.Bool.{Bool, true, false}
 use mathlib.Core.List.{List, List·Memᴰ, List·Memᴰ·not-nil}
 use mathlib.Core.Path.{_≡_, refl, ap, subst}
 use lib.IntN.{ℤ}
 use Rattle.paper.specs.Lists.{all}
-use Rattle.paper.specs.Net.{Values, Depends, able, valuation, Route, live, routing, new, moved}
+use Rattle.paper.specs.Net.{Values, able, valuation, Route, live, routing, new, moved}
 use Rattle.paper.specs.Tables.{Tables, net, isMade, inputsOf, asksOf}
-use Rattle.paper.proofs.Lists.{clash}
 use Rattle.paper.proofs.Lawful.{lawful}
 use Rattle.paper.proofs.Fresh.{Fresh, Alike, afresh-alike}
 use Rattle.paper.proofs.Circle.{Comes, unable-comes}
 use Rattle.paper.specs.Chains.{worth, needs, determined}
-use Rattle.paper.proofs.Saturate.{both-ways}
 use Rattle.paper.proofs.Ends.{able-more, able-least, able-free, able-link, able-equation, comes-unable}
-use Rattle.paper.proofs.Determined.{Determined, followed-value, followed-able, afresh-search, afresh-meets, afresh-only, able-over, next-able, afresh-fresh, quiet, route-fresh, new-equation, step-fresh}
+use Rattle.paper.proofs.Determined.{Determined, followed-value, followed-able, afresh-search, afresh-meets, next-able, afresh-fresh, quiet, route-fresh, new-equation, step-fresh}
 
 module _ (t : Tables) (s : Values) where
   -- ── a walk along the choices ──
@@ -35,40 +31,18 @@ module _ (t : Tables) (s : Values) where
   unfolding determined
   needs-determined v i e m = able-link (needs t s) (t .n) v i e m
 
-  pub needs-undetermined : (v i : ℕ) → List·Memᴰ i (needs t s v) → determined t s i ≡ false → determined t s v ≡ false
-  needs-undetermined v i m e = go (determined t s v) refl
-    where
-      go : (b : Bool) → determined t s v ≡ b → determined t s v ≡ false
-      go true q = clash (needs-determined v i q m) e
-      go false q = q
-
   pub comes-undetermined : (v : ℕ) → Comes (needs t s) v → determined t s v ≡ false
   unfolding determined
   comes-undetermined v c = comes-unable (needs t s) (t .n) v c
-
-  -- a variable that needs itself
-  pub round-undetermined : (v : ℕ) → Depends (needs t s) v v → determined t s v ≡ false
-  round-undetermined v d = comes-undetermined v (v, inl refl, d)
 
   pub worth-meets : (v : ℕ) → determined t s v ≡ true → worth t s v ≡ valuation (net t) s (worth t s) v
   unfolding determined
   worth-meets v e = afresh-meets (net t) (lawful t) s (t .n) v e
 
-  pub worth-only : (f : Values) → ((v : ℕ) → f v ≡ valuation (net t) s f v) → (v : ℕ) → determined t s v ≡ true → f v ≡ worth t s v
-  unfolding determined
-  worth-only f h v e = afresh-only (net t) (lawful t) s (t .n) f h v e
-
   -- the determined variables are the least set that holds a variable if it holds all that it needs
   pub determined-least : (P : ℕ → Type 0) → ((v : ℕ) → ((i : ℕ) → List·Memᴰ i (needs t s v) → P i) → P v) → (v : ℕ) → determined t s v ≡ true → P v
   unfolding determined
   determined-least P h v e = able-least (needs t s) P h (t .n) v e
-
-  -- and judged over any values that meet the sentence they are the same
-  pub determined-over : (f : Values) → ((v : ℕ) → f v ≡ valuation (net t) s f v) → (v : ℕ) → determined t s v ≡ able (λ w. asksOf t w f) (t .n) v
-  unfolding determined
-  determined-over f h v =
-      both-ways (able (needs t s) (t .n) v) (able (λ w. asksOf t w f) (t .n) v) (able-over (net t) (lawful t) s (t .n) f h (t .n) v (le-refl (t .n)))
-      (λ e. followed f (λ u. Unit {0}) (λ u p. h u) (λ u i p m. tt) (t .n) v (le-refl (t .n)) tt e .0)
 
   -- a search variable
   pub search-determined : (v : ℕ) → 0 < t .n → isMade t v ≡ false → (determined t s v ≡ true) × (worth t s v ≡ s v)

@@ -14,7 +14,7 @@ use Rattle.paper.specs.Tables.{Tables, inputsOf}
 use Rattle.paper.proofs.Lists.{any-in, any-has, and-left, and-right, clash}
 use Rattle.paper.proofs.Least.{firstFail-le, firstFail-fails, allBelow-at}
 use Rattle.paper.proofs.Circle.{then}
-use Rattle.paper.specs.Chains.{depends, together, isElement, plain, indices, roundIndex, permitted}
+use Rattle.paper.specs.Chains.{depends, together, isElement, plainInputs, indices, roundIndex, permitted}
 use Rattle.paper.specs.Permitted.{Through, input, index, candidate, isIndex, isCandidate, linked, Chain, link, on, PermittedExactly}
 use Rattle.paper.proofs.Depends.{Mutual, depends-yes, depends-is, depends-low, together-yes, together-is}
 
@@ -74,11 +74,11 @@ module _ (t : Tables) where
       (isCandidate k || c, isIndex k || x, on k h e)
 
   -- without candidate and index they are chains of plain links
-  pub plain-chain : {v w : ℕ} → Depends (plain t) v w → Chain t v w false false
+  pub plain-chain : {v w : ℕ} → Depends (plainInputs t) v w → Chain t v w false false
   plain-chain (direct m) = link input m
   plain-chain (through m d) = on input m (plain-chain d)
 
-  pub chain-plain : {v w : ℕ} {c x : Bool} → Chain t v w c x → c ≡ false → x ≡ false → Depends (plain t) v w
+  pub chain-plain : {v w : ℕ} {c x : Bool} → Chain t v w c x → c ≡ false → x ≡ false → Depends (plainInputs t) v w
   chain-plain (link input m) p q = direct m
   chain-plain (link index m) p q = absurd (true≢false q)
   chain-plain (link candidate m) p q = absurd (true≢false p)
@@ -134,7 +134,7 @@ module _ (t : Tables) where
 
   -- ── the test ──
   module _ (below : (v i : ℕ) → List·Memᴰ i (inputsOf t v) → i < t .n) where
-    plain-below : (v i : ℕ) → List·Memᴰ i (plain t v) → i < t .n
+    plain-below : (v i : ℕ) → List·Memᴰ i (plainInputs t v) → i < t .n
     plain-below v i m = below v i (linked-input input v m)
 
     -- an index that is found is on a closed chain
@@ -162,7 +162,7 @@ module _ (t : Tables) where
     permitted-exactly v = record { each = each; some = some }
       where
         plainly : Bool
-        plainly = depends (plain t) (t .n) v v
+        plainly = depends (plainInputs t) (t .n) v v
 
         off : Bool
         off = allBelow (λ x. not (roundIndex t v x)) (t .n)
@@ -183,13 +183,13 @@ module _ (t : Tables) where
             bare true q = q
             bare false q =
                 let l = depends-low (inputsOf t) (t .n) below (chain-depends d) in
-                clash (depends-yes (plain t) (t .n) plain-below v v l (chain-plain d q clear)) (not-true plainly (and-left (not plainly) off e))
+                clash (depends-yes (plainInputs t) (t .n) plain-below v v l (chain-plain d q clear)) (not-true plainly (and-left (not plainly) off e))
 
         some : permitted t v ≡ false → (c : Bool) × (x : Bool) × Chain t v v c x × ((c ≡ false) ⊎ (x ≡ true))
         some e = go plainly refl e
           where
             go : (b : Bool) → plainly ≡ b → (not b && off) ≡ false → (c : Bool) × (x : Bool) × Chain t v v c x × ((c ≡ false) ⊎ (x ≡ true))
-            go true q r = (false, false, plain-chain (depends-is (plain t) (t .n) plain-below v v q), inl refl)
+            go true q r = (false, false, plain-chain (depends-is (plainInputs t) (t .n) plain-below v v q), inl refl)
             go false q r =
                 let (x, k, h) = below-fails (λ y. not (roundIndex t v y)) (t .n) r in
                 let (c, d) = round-chain v x (not-false (roundIndex t v x) h) in

@@ -17,7 +17,7 @@ use Rattle.paper.specs.Lists.{any, all, between, nat}
 use Rattle.paper.specs.Formula.{blank, inRange, fit, someBlank, sum, element, pick, places, sharing, excess, trips, departures, last, inputAt, formula, looked, elementLooks}
 use Rattle.paper.specs.Net.{Values}
 use Rattle.paper.specs.Tables.{Tables, part, rowOf, isMade, inputsOf, asksOf}
-use Rattle.paper.specs.Reason.{allBlank, inside, choiceBlank, stopped, headwayBad, outside, indexOutside, noDepartures, why, reason, reasonOf}
+use Rattle.paper.specs.Reason.{allBlank, inside, choiceBlank, stopped, headwayBad, outsideIndex, indexOutside, noDepartures, why, reason, reasonOf}
 use Rattle.paper.specs.Checks.{arity}
 use Rattle.paper.proofs.Lists.{clash, and-left, and-right, or-false-left, or-false-right, map-same}
 use Rattle.paper.proofs.Lawful.{formula-same}
@@ -76,7 +76,7 @@ over-blank a b = go (ltZ b a)
     go true = judged (a -ℤ b)
     go false = refl
 
-element-blank : (xs : List ℤ) → eqZ (element xs) blank ≡ (choiceBlank xs || outside xs)
+element-blank : (xs : List ℤ) → eqZ (element xs) blank ≡ (choiceBlank xs || outsideIndex xs)
 element-blank [] = refl
 element-blank (negsuc i ∷ cs) = go (eqZ (negsuc i) blank)
   where
@@ -172,7 +172,7 @@ module _ (param : ℤ) (coefs : List ℤ) where
       three n = max-blank param coefs xs ∙ or-none (allBlank xs)
 
       four : Holds 4
-      four n = element-blank xs ∙ ap (choiceBlank xs ||_) (or-none (outside xs))
+      four n = element-blank xs ∙ ap (choiceBlank xs ||_) (or-none (outsideIndex xs))
 
       five : Holds 5
       five n = unless (someBlank xs) (pos (sharing xs))
@@ -286,7 +286,7 @@ module _ (kind : ℕ) (param : ℤ) (coefs xs : List ℤ) where
 
     -- only ELEMENT has an index
     pub index-kinds : reason kind param coefs xs ≡ 2 → eqb kind 4 ≡ true
-    index-kinds e = and-left (eqb kind 4) (outside xs) (and-right (not (headwayBad kind xs)) _ (and-right (not (stopped kind xs)) _ (sym (exactly .index) ∙ ap (λ r. eqb r 2) e)))
+    index-kinds e = and-left (eqb kind 4) (outsideIndex xs) (and-right (not (headwayBad kind xs)) _ (and-right (not (stopped kind xs)) _ (sym (exactly .index) ∙ ap (λ r. eqb r 2) e)))
 
     -- only DEPARTURES and LAST a headway
     pub headway-kinds : reason kind param coefs xs ≡ 3 → (eqb kind 8 || eqb kind 9) ≡ true
@@ -300,7 +300,7 @@ module _ (kind : ℕ) (param : ℤ) (coefs xs : List ℤ) where
 -- ── a reason looks only at what the formula looks at ──
 module _ (f g : Values) where
   choice-same : (vs : List ℕ) → ((w : ℕ) → List·Memᴰ w (elementLooks f vs) → f w ≡ g w)
-      → (choiceBlank (map f vs) ≡ choiceBlank (map g vs)) × (outside (map f vs) ≡ outside (map g vs))
+      → (choiceBlank (map f vs) ≡ choiceBlank (map g vs)) × (outsideIndex (map f vs) ≡ outsideIndex (map g vs))
   unfolding formula looked
   choice-same [] h = (refl, refl)
   choice-same (v ∷ vs) h =

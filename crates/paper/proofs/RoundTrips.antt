@@ -12,7 +12,7 @@ use lib.ListN.{length, take, drop}
 use lib.Seq.{take-at}
 use Rattle.paper.specs.Tables.{Tables}
 use Rattle.paper.specs.Checks.{Verdict, accepted, refused, require, leaves}
-use Rattle.paper.specs.File.{Version, version1, endsAs, Contents, plain, counted, countedAs, fileBytesAs, heldAs, writeVerdictAs, writeAs, write, nIn, mIn, eIn, laidAs, readVerdictAs, readAs, read}
+use Rattle.paper.specs.File.{Version, version1, endsAs, Contents, unboundedContents, counted, countedAs, fileBytesAs, heldAs, writeVerdictAs, writeAs, write, nIn, mIn, eIn, laidAs, readVerdictAs, readAs, read}
 use Rattle.paper.specs.Demands.{Fitting, FittingAs, cutAs, ReadBackAs, WrittenBackAs, ReadBack, WrittenBack}
 use Rattle.paper.proofs.Lists.{and-left}
 use Rattle.paper.proofs.Verdicts.{require-held}
@@ -72,29 +72,29 @@ abbrev parts : Contents → Tables × List ℤ
 parts c = (c .tables, c .starts)
 
 pub write-refused : (t : Tables) (starts : List ℤ) (bytes : List ℕ) → (write t starts bytes .0 ≡ accepted → ⊥) → write t starts bytes ≡ (refused 1 0, bytes)
-write-refused t starts = write-as-refused version1 (plain t starts)
+write-refused t starts = write-as-refused version1 (unboundedContents t starts)
 
 pub read-refused-as-was : (bytes : List ℕ) (t : Tables) (starts : List ℤ) → (read bytes t starts .0 ≡ accepted → ⊥) → read bytes t starts .1 ≡ (counted 0 0 0 t, starts)
-read-refused-as-was bytes t starts no-ok = ap parts (read-as-refused version1 bytes (plain t starts) no-ok)
+read-refused-as-was bytes t starts no-ok = ap parts (read-as-refused version1 bytes (unboundedContents t starts) no-ok)
 
-pub fitting-plain : {t : Tables} {starts : List ℤ} → Fitting t starts → FittingAs version1 (plain t starts)
+pub fitting-plain : {t : Tables} {starts : List ℤ} → Fitting t starts → FittingAs version1 (unboundedContents t starts)
 fitting-plain fit = record { model = fit; bounds = λ i l. absurd (not-suc-le-zero l) }
 
 pub read-back : ReadBack
 read-back t starts bytes fit ok t₀ starts₀ h =
-    let r = read-back-as version1 (plain t starts) bytes (fitting-plain fit) ok (plain t₀ starts₀) h in (r .0, ap parts (r .1))
+    let r = read-back-as version1 (unboundedContents t starts) bytes (fitting-plain fit) ok (unboundedContents t₀ starts₀) h in (r .0, ap parts (r .1))
 
 -- what is read from it has no bounds
-pub read-plain : (bytes : List ℕ) (t : Tables) (starts : List ℤ) → let x = read bytes t starts .1 in readAs version1 bytes (plain t starts) .1 ≡ plain (x .0) (x .1)
-read-plain bytes t starts = go (readVerdictAs version1 bytes (plain t starts))
+pub read-plain : (bytes : List ℕ) (t : Tables) (starts : List ℤ) → let x = read bytes t starts .1 in readAs version1 bytes (unboundedContents t starts) .1 ≡ unboundedContents (x .0) (x .1)
+read-plain bytes t starts = go (readVerdictAs version1 bytes (unboundedContents t starts))
   where
     left : Verdict → Contents
-    left w = leaves w (laidAs bytes (nIn bytes) (mIn bytes) (eIn bytes) version1 (plain t starts)) (countedAs 0 0 0 (plain t starts))
+    left w = leaves w (laidAs bytes (nIn bytes) (mIn bytes) (eIn bytes) version1 (unboundedContents t starts)) (countedAs 0 0 0 (unboundedContents t starts))
 
-    go : (w : Verdict) → left w ≡ plain (left w .tables) (left w .starts)
+    go : (w : Verdict) → left w ≡ unboundedContents (left w .tables) (left w .starts)
     go accepted = refl
     go (refused number place) = refl
 
 pub written-back : WrittenBack
 written-back bytes small t₀ starts₀ ok buffer l =
-    ap (λ c. writeAs version1 c buffer) (sym (read-plain bytes t₀ starts₀)) ∙ written-back-as version1 bytes small (plain t₀ starts₀) ok buffer l
+    ap (λ c. writeAs version1 c buffer) (sym (read-plain bytes t₀ starts₀)) ∙ written-back-as version1 bytes small (unboundedContents t₀ starts₀) ok buffer l

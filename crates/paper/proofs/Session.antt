@@ -21,7 +21,7 @@ use Rattle.paper.specs.Chains.{worth, determined}
 use Rattle.paper.specs.Checks.{Verdict, accepted, refused, leaves, sized, within, movePairs}
 use Rattle.paper.specs.Log.{Log, logIn, logged, back, logGood, dropped}
 use Rattle.paper.specs.Calls.{Session, blanksAmong, Answer, Refused, numberOf, evaluationsOf, newValues, evaluates, BuildLent, BuildLeft, startValues, build, Model, Tried, TrialLeft, askedList, routeOf, trialVerdict, trialLeaves, trial, Kept, KeepLeft, storedValues, keptBlanks, keptStored, keepVerdict, keepLeaves, keep, latest, takeVerdict, takeLeaves, takeBack}
-use Rattle.paper.specs.Demands.{keepAsWas, evaluatedBy, Lent, own, another, Lends, Call, tries, keeps, takes, State, lentOf, ownAfter, rest, modelOf, verdictOf, lendsOf, logOf, passedOn, step, standing, applied, ownModel, fresh, after, history, Proper, old, renewed, tried, triedSet, TrialRight, kept, KeepRight, taken, TakeRight, Told, Demand3}
+use Rattle.paper.specs.Demands.{keepAsWas, evaluatedBy, Lent, own, another, Lends, Call, tries, keeps, takes, State, lentOf, ownAfter, rest, modelOf, verdictOf, lendsOf, logOf, passedOn, step, movesAfter, applied, ownModel, fresh, after, history, Proper, old, renewed, tried, triedSet, TrialRight, kept, KeepRight, taken, TakeRight, Told, Demand3}
 use Rattle.paper.proofs.Verdicts.{refused-stays}
 use Rattle.paper.proofs.Lists.{and-right, each}
 use Rattle.paper.proofs.Buffers.{length-below, getD-below, over-front, over-over, ones-below}
@@ -94,10 +94,12 @@ module _ (b : BuildLent) (ok : numberOf (build b .answer) ≡ 0) where
   abbrev Stays : List ℤ → List (ℕ × ℤ) → Type 0
   Stays row mv = (v : ℕ) → determined t (moved mv (valuesIn t row)) v ≡ true
 
+  row-alike : (row : List ℤ) (s : Values) → Holds row s → Alike N (valuesIn t row) s
+  row-alike row s h u e = ap (λ (f : Values). f u) (values-in row s h) ∙ search-determined t s u some e .1
+
   stays-determined : (row : List ℤ) (s : Values) → Holds row s → (mv : List (ℕ × ℤ)) → Stays row mv → (v : ℕ) → determined t (moved mv s) v ≡ true
   stays-determined row s h mv det v =
-      let alike : Alike N (valuesIn t row) s = λ u e. ap (λ (f : Values). f u) (values-in row s h) ∙ search-determined t s u some e .1 in
-      sym (ap (λ (p : ℕ → Bool). p v) (determined-alike t (moved mv (valuesIn t row)) (moved mv s) (moved-alike N mv (valuesIn t row) s alike))) ∙ det v
+      sym (ap (λ (p : ℕ → Bool). p v) (determined-alike t (moved mv (valuesIn t row)) (moved mv s) (moved-alike N mv (valuesIn t row) s (row-alike row s h)))) ∙ det v
 
   -- then each route's new values are fresh
   new-fresh : (row : List ℤ) (s : Values) → Holds row s → (r : Route) (mv : List (ℕ × ℤ)) → Stays row mv
@@ -242,7 +244,7 @@ module _ (b : BuildLent) (ok : numberOf (build b .answer) ≡ 0) where
           go (refused number place) e =
               subst⁻¹ (λ z. Stood z moves (suc calls)) (passed-as-was now l g flags (Refused number place) (left l g) (same number place e)) (idle h)
 
-      step-stands : (c : Call) → (verdictOf now c ≡ accepted → (lendsOf c ≡ ownModel b room) × (logOf c ≡ own)) → Stood (step now c) (standing now c moves) (suc calls)
+      step-stands : (c : Call) → (verdictOf now c ≡ accepted → (lendsOf c ≡ ownModel b room) × (logOf c ≡ own)) → Stood (step now c) (movesAfter now c moves) (suc calls)
       step-stands (tries l c) proper =
           subst⁻¹ (λ (x : ℕ × ℕ). Stands (x .0) (x .1) (now .stored) (now .log) moves (suc calls)) (trial-leaves l c (λ (s : Session). (s .kept, s .blanks)) (λ s count. refl)) (idle h)
       step-stands (keeps l g c) proper =
@@ -273,6 +275,40 @@ module _ (b : BuildLent) (ok : numberOf (build b .answer) ≡ 0) where
     stands [] p = stands-first
     stands (c ∷ cs) p = step-stands (after b room cs) (history b room cs) (length cs) (stands cs (p .1)) c (p .0)
 
+    -- every variable was determined after each of these moves
+    abbrev EachDetermined : List (List (ℕ × ℤ)) → Type 0
+    EachDetermined [] = (v : ℕ) → determined t (startValues b) v ≡ true
+    EachDetermined (mv ∷ earlier) = ((v : ℕ) → determined t (applied (startValues b) (mv ∷ earlier)) v ≡ true) × EachDetermined earlier
+
+    each-rest : (moves : List (List (ℕ × ℤ))) → EachDetermined moves → EachDetermined (rest moves)
+    each-rest [] h = h
+    each-rest (mv ∷ earlier) h = h .1
+
+    each-first : (moves : List (List (ℕ × ℤ))) → EachDetermined moves → (v : ℕ) → determined t (applied (startValues b) moves) v ≡ true
+    each-first [] h = h
+    each-first (mv ∷ earlier) h = h .0
+
+    each-determined : (cs : List Call) → Proper b room cs → EachDetermined (history b room cs)
+    each-determined [] p = known .determined
+    each-determined (tries l c ∷ cs) p = each-determined cs (p .1)
+    each-determined (keeps l g c ∷ cs) p = go (verdictOf (after b room cs) (keeps l g c)) refl (each-determined cs (p .1))
+      where
+        go : (v : Verdict) → verdictOf (after b room cs) (keeps l g c) ≡ v → EachDetermined (history b room cs) → EachDetermined (leaves v (movePairs (c .move) ∷ history b room cs) (history b room cs))
+        go accepted e h = (
+          λ v. ap (λ u. determined t (applied (startValues b) (leaves u (movePairs (c .move) ∷ history b room cs) (history b room cs))) v) (sym e)
+              ∙ stands (keeps l g c ∷ cs) p .holds .determined v,
+          h,
+        )
+        go (refused number place) e h = h
+    each-determined (takes l g flags ∷ cs) p = go (verdictOf (after b room cs) (takes l g flags)) (each-determined cs (p .1))
+      where
+        go : (v : Verdict) → EachDetermined (history b room cs) → EachDetermined (leaves v (rest (history b room cs)) (history b room cs))
+        go accepted h = each-rest (history b room cs) h
+        go (refused number place) h = h
+
+    rest-determined : (cs : List Call) → Proper b room cs → (v : ℕ) → determined t (applied (startValues b) (rest (history b room cs))) v ≡ true
+    rest-determined cs p = each-first (rest (history b room cs)) (each-rest (history b room cs) (each-determined cs p))
+
     -- ── the next call ──
     module _ (cs : List Call) (p : Proper b room cs) where
       abbrev now : State
@@ -287,6 +323,19 @@ module _ (b : BuildLent) (ok : numberOf (build b .answer) ≡ 0) where
       -- every variable is determined, by the stored values' own search variables
       pub old-determined : (v : ℕ) → determined t (applied (startValues b) (history b room cs)) v ≡ true
       old-determined = holds .determined
+
+      -- the latest logged move takes the head of the history out of the search values again
+      pub latest-undone : (flags : List ℕ) → 0 < logged (after b room cs .log)
+          → moved (movePairs (latest (after b room cs .log) flags .move)) (applied (startValues b) (history b room cs)) ≡ applied (startValues b) (rest (history b room cs))
+      latest-undone flags l = undoes-latest (startValues b) (back (now .log)) (logged (now .log)) (history b room cs) l (stands cs p .undoes) .0
+
+      -- and over the stored values it leaves every variable determined, as it was before that move
+      pub latest-determined : (flags : List ℕ) → 0 < logged (after b room cs .log)
+          → (v : ℕ) → determined t (moved (movePairs (latest (after b room cs .log) flags .move)) (valuesIn t (after b room cs .stored))) v ≡ true
+      latest-determined flags l v =
+          let row = after b room cs .stored in let s = applied (startValues b) (history b room cs) in let mv = movePairs (latest (after b room cs .log) flags .move) in
+          ap (λ (d : ℕ → Bool). d v) (determined-alike t (moved mv (valuesIn t row)) (moved mv s) (moved-alike N mv (valuesIn t row) s (row-alike row s holds)))
+          ∙ ap (λ f. determined t f v) (latest-undone flags l) ∙ rest-determined cs p v
 
       pub new-is : (r : Route) (mv : List (ℕ × ℤ)) (asked : List ℕ) → ((v : ℕ) → determined t (moved mv (valuesIn t (after b room cs .stored))) v ≡ true)
           → newValues t (valuesIn t (after b room cs .stored)) r mv asked ≡ fresh b room (mv ∷ history b room cs)
@@ -311,8 +360,7 @@ module _ (b : BuildLent) (ok : numberOf (build b .answer) ≡ 0) where
       -- what the latest move undoes
       pub undone-is : (flags : List ℕ) → takeVerdict (after b room cs .session) (after b room cs .log) (mine (after b room cs)) flags ≡ accepted
           → fresh b room (movePairs (latest (after b room cs .log) flags .move) ∷ history b room cs) ≡ fresh b room (rest (history b room cs))
-      undone-is flags e = ap (λ s. afresh N s (t .n))
-          (undoes-latest (startValues b) (back (now .log)) (logged (now .log)) (history b room cs) (take-known (now .session) (now .log) (mine now) flags e .some) (stands cs p .undoes) .0)
+      undone-is flags e = ap (λ s. afresh N s (t .n)) (latest-undone flags (take-known (now .session) (now .log) (mine now) flags e .some))
 
       pub trial-right : (c : Tried) → numberOf (tried b room cs (ownModel b room) c .answer) ≡ 0 → TrialRight b room cs (ownModel b room) c
       trial-right c h = record {

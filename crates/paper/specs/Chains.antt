@@ -42,8 +42,8 @@ module _ (t : Tables) where
   isElement v = eqb (nat (t .kinds) (rowOf t v)) 4
 
   -- the inputs of v, unless it is made by ELEMENT; the index of an ELEMENT, and its candidates
-  abbrev pub plain : ℕ → List ℕ
-  plain v = cond (isElement v) [] (inputsOf t v)
+  abbrev pub plainInputs : ℕ → List ℕ
+  plainInputs v = cond (isElement v) [] (inputsOf t v)
 
   abbrev pub indices : ℕ → List ℕ
   indices v = cond (isElement v) (take 1 (inputsOf t v)) []
@@ -57,7 +57,7 @@ module _ (t : Tables) where
 
   -- 6: no closed chain through v is without a candidate, and none passes through an index
   abbrev pub permitted : ℕ → Bool
-  permitted v = not (depends plain (t .n) v v) && allBelow (λ x. not (roundIndex v x)) (t .n)
+  permitted v = not (depends plainInputs (t .n) v v) && allBelow (λ x. not (roundIndex v x)) (t .n)
 
   -- ── topological numbers: 0 at search variables; 1 plus the greatest among the inputs of a group from outside it ──
   abbrev pub groupNumbering : Rule ℕ

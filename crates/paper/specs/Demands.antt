@@ -255,10 +255,10 @@ module _ (now : State) where
   step (takes l g flags) = passedOn l g (takeBack (now .session) (lentOf g (now .log)) (modelOf l) flags)
 
   -- the moves kept and not taken back
-  abbrev pub standing : Call → List (List (ℕ × ℤ)) → List (List (ℕ × ℤ))
-  standing (tries l c) earlier = earlier
-  standing (keeps l g c) earlier = leaves (verdictOf (keeps l g c)) (movePairs (c .move) ∷ earlier) earlier
-  standing (takes l g flags) earlier = leaves (verdictOf (takes l g flags)) (rest earlier) earlier
+  abbrev pub movesAfter : Call → List (List (ℕ × ℤ)) → List (List (ℕ × ℤ))
+  movesAfter (tries l c) earlier = earlier
+  movesAfter (keeps l g c) earlier = leaves (verdictOf (keeps l g c)) (movePairs (c .move) ∷ earlier) earlier
+  movesAfter (takes l g flags) earlier = leaves (verdictOf (takes l g flags)) (rest earlier) earlier
 
 -- start values with the moves applied, from the last of the list to its head
 abbrev pub applied : Values → List (List (ℕ × ℤ)) → Values
@@ -283,7 +283,7 @@ module _ (b : BuildLent) (room : List ℕ × List ℤ) where
   -- the moves kept in it and not taken back, latest first
   abbrev pub history : List Call → List (List (ℕ × ℤ))
   history [] = []
-  history (c ∷ earlier) = standing (after earlier) c (history earlier)
+  history (c ∷ earlier) = movesAfter (after earlier) c (history earlier)
 
   -- each accepted call was lent the model's own, and the session's own log; refused ones were lent anything
   abbrev pub Proper : List Call → Type 0

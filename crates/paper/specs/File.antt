@@ -81,8 +81,8 @@ pub record Contents : Type 0 where
 abbrev pub contents : Tables → List ℤ → List ℤ → List ℤ → Contents
 contents t starts lows highs = record { tables = t; starts = starts; lows = lows; highs = highs }
 
-abbrev pub plain : Tables → List ℤ → Contents
-plain t starts = contents t starts [] []
+abbrev pub unboundedContents : Tables → List ℤ → Contents
+unboundedContents t starts = contents t starts [] []
 
 -- lent tables under other counts, and contents that have them
 abbrev pub counted : ℕ → ℕ → ℕ → Tables → Tables
@@ -126,7 +126,7 @@ fileBytesAs v c = let t = c .tables in
 
 -- of version 1
 abbrev pub fileBytes : Tables → List ℤ → List ℕ
-fileBytes t starts = fileBytesAs version1 (plain t starts)
+fileBytes t starts = fileBytesAs version1 (unboundedContents t starts)
 
 -- the counts are within their bounds, and no lent row is shorter than they ask
 abbrev pub held : Tables → List ℤ → Bool
@@ -146,7 +146,7 @@ writeAs v c bytes =
     (w, leaves w (fileBytesAs v c ++ drop (endsAs v (t .n) (t .m) (t .e)) bytes) bytes)
 
 abbrev pub write : Tables → List ℤ → List ℕ → Verdict × List ℕ
-write t starts = writeAs version1 (plain t starts)
+write t starts = writeAs version1 (unboundedContents t starts)
 
 abbrev pub writeBounded : Contents → List ℕ → Verdict × List ℕ
 writeBounded = writeAs version2
@@ -248,7 +248,7 @@ readAs v bytes c =
 
 -- of version 1: the tables and the start values
 abbrev pub read : List ℕ → Tables → List ℤ → Verdict × (Tables × List ℤ)
-read bytes t starts = let r = readAs version1 bytes (plain t starts) in (r .0, (r .1 .tables, r .1 .starts))
+read bytes t starts = let r = readAs version1 bytes (unboundedContents t starts) in (r .0, (r .1 .tables, r .1 .starts))
 
 abbrev pub readBounded : List ℕ → Contents → Verdict × Contents
 readBounded = readAs version2

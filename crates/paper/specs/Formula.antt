@@ -92,8 +92,8 @@ abbrev pub inputAt : List ℤ → ℕ → ℤ
 inputAt xs i = getD xs i blank
 
 -- the formula that a kind code picks, but for 2, 3 and 4; a code that picks none is refused by check 2 and stands here as blank
-abbrev pub plain : ℕ → ℤ → List ℤ → List ℤ → ℤ
-plain kind param coefs xs =
+abbrev pub pickedFormula : ℕ → ℤ → List ℤ → List ℤ → ℤ
+pickedFormula kind param coefs xs =
     cond (eqb kind 1) (fit (param +ℤ sum coefs xs))
     (cond (eqb kind 5) (pos (sharing xs))
     (cond (eqb kind 6) (pos (places param xs))
@@ -104,7 +104,7 @@ plain kind param coefs xs =
 
 -- any blank input gives blank
 abbrev pub strict : ℕ → ℤ → List ℤ → List ℤ → ℤ
-strict kind param coefs xs = cond (someBlank xs) blank (plain kind param coefs xs)
+strict kind param coefs xs = cond (someBlank xs) blank (pickedFormula kind param coefs xs)
 
 -- except in kinds 2 and 3, which skip blank inputs
 abbrev pub ofAll : ℕ → ℤ → List ℤ → List ℤ → ℤ

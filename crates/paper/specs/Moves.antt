@@ -33,8 +33,8 @@ pub record AllPairs (a b one : Move) : Type 0 where
   pub values-long : one .pairs ≤ length (one .values)
 
 -- such a move: the pairs of the first and then those of the second
-abbrev pub joined : Move → Move → Move
-joined a b = record {
+abbrev pub bothMoves : Move → Move → Move
+bothMoves a b = record {
   pairs = a .pairs + b .pairs;
   vars = take (a .pairs) (a .vars) ++ take (b .pairs) (b .vars);
   values = take (a .pairs) (a .values) ++ take (b .pairs) (b .values);

@@ -5,7 +5,7 @@ use mathlib.Core.List.{List, List·Memᴰ}
 use mathlib.Core.Logic.{_⊎_}
 use mathlib.Core.Path.{_≡_}
 use Rattle.paper.specs.Tables.{Tables}
-use Rattle.paper.specs.Chains.{plain, indices, candidates, permitted}
+use Rattle.paper.specs.Chains.{plainInputs, indices, candidates, permitted}
 
 -- what a link from a made variable to an input passes through
 pub data Through : Type 0 where
@@ -23,7 +23,7 @@ isCandidate candidate = true
 
 module _ (t : Tables) where
   abbrev pub linked : Through → ℕ → List ℕ
-  linked input v = plain t v
+  linked input v = plainInputs t v
   linked index v = indices t v
   linked candidate v = candidates t v
 

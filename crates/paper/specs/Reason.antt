@@ -36,12 +36,12 @@ abbrev pub headwayBad : ℕ → List ℤ → Bool
 headwayBad kind xs = (eqb kind 8 || eqb kind 9) && leZ (inputAt xs 2) (pos 0)
 
 -- ── 2: index outside, of ELEMENT ──
-abbrev pub outside : List ℤ → Bool
-outside [] = true
-outside (index ∷ candidates) = not (inside index (length candidates))
+abbrev pub outsideIndex : List ℤ → Bool
+outsideIndex [] = true
+outsideIndex (index ∷ candidates) = not (inside index (length candidates))
 
 abbrev pub indexOutside : ℕ → List ℤ → Bool
-indexOutside kind xs = eqb kind 4 && outside xs
+indexOutside kind xs = eqb kind 4 && outsideIndex xs
 
 -- ── 5: no departures, of LAST ──
 abbrev pub noDepartures : ℕ → List ℤ → Bool

@@ -1,4 +1,6 @@
 // The session record, and what a call that takes it by value comes to.
+pub mod answers;
+
 use tables::Answer;
 
 // The session record: moves kept, evaluations of the last accepted call, and how many stored values are blank.

@@ -23,7 +23,7 @@ use Rattle.paper.specs.Checks.{Verdict, accepted, refused, require, leaves, Sou
 use Rattle.paper.specs.Reason.{reasonOf}
 use Rattle.paper.specs.Calls.{BuildLent, BuildLeft, buildVerdict, buildLeaves, startValues}
 use Rattle.paper.specs.Reasoned.{Reasoned, withReasons, reasonsFit, builtReasons, buildReasoned}
-use Rattle.paper.specs.File.{version1, Contents, plain, countedAs, column, nIn, mIn, eIn, startsIn, laidAs, readVerdictAs, read}
+use Rattle.paper.specs.File.{version1, Contents, unboundedContents, countedAs, column, nIn, mIn, eIn, startsIn, laidAs, readVerdictAs, read}
 use Rattle.paper.proofs.Buffers.{over-at}
 use Rattle.paper.proofs.Accept.{sound-row, made-row}
 use Rattle.paper.proofs.Sizes.{sized-facts}
@@ -34,7 +34,7 @@ use Rattle.paper.proofs.Reason.{at-most-5}
 use Rattle.paper.proofs.Ranges.{good, formula-good}
 use Rattle.text.specs.Lines.{refusal}
 use Rattle.text.proofs.Lengths.{lines-length, refusal-length}
-use Rattle.report.specs.Printed.{fresh, ofTables, ofRead, ofFile, FileLeft, unbuilt, empty, said, textOf, printed}
+use Rattle.report.specs.Printed.{lentForFile, ofTables, ofRead, ofFile, FileLeft, unbuilt, empty, said, textOf, printed}
 
 -- ── values ──
 good-near : (z : ℤ) → good z ≡ true → natAbs z ≤ 2147483648
@@ -123,7 +123,7 @@ module _ (reasons : Bool) (b : BuildLent) (row : List ℕ) (from : (v : ℕ) →
 module _ (reasons : Bool) (file : List ℕ) (t₀ : Tables) (starts₀ : List ℤ) (numbers : List ℕ) (stored : List ℤ) (row : List ℕ) where
   read-length : length (textOf reasons (ofRead numbers stored row (read file t₀ starts₀))) ≤ 90112
   unfolding ofTables
-  read-length = go (readVerdictAs version1 file (plain t₀ starts₀))
+  read-length = go (readVerdictAs version1 file (unboundedContents t₀ starts₀))
     where
       n : ℕ
       n = nIn file
@@ -132,10 +132,10 @@ module _ (reasons : Bool) (file : List ℕ) (t₀ : Tables) (starts₀ : List �
       from v l = ap good (over-at (λ u. toZ w32 (column file 4 24 4 u)) n starts₀ v (pos 0) l) ∙ bits-good (column file 4 24 4 v)
 
       after : Verdict → Contents
-      after u = leaves u (laidAs file (nIn file) (mIn file) (eIn file) version1 (plain t₀ starts₀)) (countedAs 0 0 0 (plain t₀ starts₀))
+      after u = leaves u (laidAs file (nIn file) (mIn file) (eIn file) version1 (unboundedContents t₀ starts₀)) (countedAs 0 0 0 (unboundedContents t₀ starts₀))
 
       go : (u : Verdict) → length (textOf reasons (ofRead numbers stored row (u, (after u .tables, after u .starts)))) ≤ 90112
-      go accepted = built-length reasons (fresh _ _ numbers stored) row from
+      go accepted = built-length reasons (lentForFile _ _ numbers stored) row from
       go (refused number place) = let h = refusal-length number place in omega arith
 
 pub printed-length : (reasons : Bool) (file : List ℕ) → length (printed reasons file) ≤ 98304

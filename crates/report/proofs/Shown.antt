@@ -12,7 +12,7 @@ use Rattle.io.specs.Counts.{Counts}
 use Rattle.tables.specs.declared.Answer.{Answer}
 use Rattle.tables.specs.declared.Answer.the-variants.{Accepted, Refused}
 use Rattle.records.specs.Left.{answerIn}
-use Rattle.buffers.specs.Buffer.{Shows}
+use Rattle.text.specs.Buffer.{Shows}
 use Rattle.text.specs.Lines.{lines, refusal}
 use Rattle.report.specs.declared.Built.{Built}
 use Rattle.report.specs.Printed.{ofFile, leftByFile, said, textOf, printed}

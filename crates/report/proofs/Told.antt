@@ -9,18 +9,18 @@ use Rattle.paper.specs.Tables.{Tables}
 use Rattle.paper.specs.Reasoned.{withReasons, buildReasoned}
 use Rattle.paper.specs.File.{counted, read}
 use Rattle.files.specs.Answers.{hasRead}
-use Rattle.headers.specs.declared.Reading.{Reading}
-use Rattle.headers.specs.declared.Reading.the-variants as reading
+use Rattle.files.specs.declared.headers.Reading.{Reading}
+use Rattle.files.specs.declared.headers.Reading.the-variants as reading
 use Rattle.tables.specs.declared.Answer.the-variants as code
 use Rattle.records.specs.declared.Done.{Done}
 use Rattle.records.specs.Left.{answerIn, leftByBuild}
 use Rattle.report.specs.declared.Built.{Built}
-use Rattle.report.specs.Printed.{FileLeft, fresh, ofTables, unbuilt, ofRead, ofFile, empty, leftByFile}
+use Rattle.report.specs.Printed.{FileLeft, lentForFile, ofTables, unbuilt, ofRead, ofFile, empty, leftByFile}
 
 module _ (numbers : List ℕ) (stored : List ℤ) (row : List ℕ) where
   -- of tables: the answer, the numbers, the values and the reasons of what build left
   pub tables-left : (t : Tables) (starts : List ℤ) (done : Done) (numbers′ order′ : List ℕ) (stored′ : List ℤ) (readerStarts readerPlaces logSizes row′ : List ℕ)
-      → withReasons (leftByBuild done numbers′ order′ stored′ readerStarts readerPlaces logSizes) row′ ≡ buildReasoned (fresh t starts numbers stored) row
+      → withReasons (leftByBuild done numbers′ order′ stored′ readerStarts readerPlaces logSizes) row′ ≡ buildReasoned (lentForFile t starts numbers stored) row
       → let left : FileLeft = record { answer = answerIn (done .answer); n = t .n; numbers = numbers′; stored = stored′; reasons = row′ } in
       left ≡ ofTables numbers stored row t starts
   unfolding ofTables

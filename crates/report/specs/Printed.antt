@@ -29,8 +29,8 @@ empty =
     (replicate 16384 0) (replicate 16384 (pos 0))
 
 -- what build is lent: the tables and start values that a file held, full bounds, rows for numbers and values, and else rows of zeros to fill
-abbrev pub fresh : Tables → List ℤ → List ℕ → List ℤ → BuildLent
-fresh t starts numbers stored = record {
+abbrev pub lentForFile : Tables → List ℤ → List ℕ → List ℤ → BuildLent
+lentForFile t starts numbers stored = record {
   session = record { kept = 0; evaluations = 0; blanks = 0 };
   tables = t;
   bounds = boundsIn (replicate 4096 lowest) (replicate 4096 highest);
@@ -47,7 +47,7 @@ module _ (numbers : List ℕ) (stored : List ℤ) (reasons : List ℕ) where
   -- of tables and start values: what build leaves of them
   unfoldable pub ofTables : Tables → List ℤ → FileLeft
   ofTables t starts =
-      let built = buildReasoned (fresh t starts numbers stored) reasons in
+      let built = buildReasoned (lentForFile t starts numbers stored) reasons in
       let left = built .left in
       record { answer = left .answer; n = t .n; numbers = left .numbers; stored = left .stored; reasons = built .reasons }
 

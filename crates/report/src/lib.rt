@@ -2,11 +2,11 @@
 ghost use mathlib.Core.Path.{_≡_};
 ghost use Rattle.paper.specs.Tables.{lent};
 ghost use Rattle.report.specs.Printed.{leftByFile, ofTables, ofFile};
-use bounds::HIGHEST;
-use bounds::LOWEST;
-use headers::Reading;
+use checks::bounds::HIGHEST;
+use checks::bounds::LOWEST;
+use files::headers::Reading;
+use reasoning::storing::build_reasoned;
 use records::Session;
-use storing::build_reasoned;
 use tables::Answer;
 
 // What building a file comes to: build's answer, or the refusal of a file that is not read, and how many variables the file holds, 0 if it is

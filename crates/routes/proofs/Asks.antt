@@ -19,11 +19,11 @@ use Rattle.paper.proofs.Lists.{clash, all-in}
 use Rattle.paper.proofs.Lawful.{Lawful, looked-in, formula-same, looked-same}
 use Rattle.paper.proofs.Numbers.{lower-input, number-right}
 use Rattle.paper.proofs.Fresh.{afresh-alike, afresh-equation}
-use Rattle.steps.specs.Asking.{waiting}
-use Rattle.marks.specs.Reach.{Closed, Either, Reached}
-use Rattle.marks.proofs.Reach.{reached-still, reaching-start, reaching-step, reached-own}
+use Rattle.rows.specs.Asking.{waiting}
+use Rattle.routes.specs.Reach.{Closed, Either, Reached}
+use Rattle.routes.proofs.Reach.{reached-still, reaching-start, reaching-step, reached-own}
 use Rattle.routes.specs.Rows.{valuesOf}
-use Rattle.routes.specs.Work.{byRow, workNet, depth, worksOut, Workable, workedOut, asksOut, Ready, Asked, Asking}
+use Rattle.routes.specs.Work.{byRow, workNet, depth, worksOut, RowsWorkable, workedOut, asksOut, Ready, Asked, Asking}
 
 module _ (t : Tables) (work : List ℕ) where
   -- ── the model of what is to be worked out ──
@@ -113,7 +113,7 @@ module _ (t : Tables) (work : List ℕ) where
   pub asked-value : (v : ℕ) (trial : List ℤ) (flags : List ℕ) (trial′ : List ℤ) (flags′ : List ℕ) → Asked t work v trial flags trial′ flags′ → valuesOf trial′ v ≡ workedOut t work trial v
   asked-value v trial flags trial′ flags′ a = a .holds .at v (a .reached .here)
 
-  module _ (w : Workable t work) where
+  module _ (w : RowsWorkable t work) where
     pub worked-idle : (trial : List ℤ) (v : ℕ) → worksOut t work v ≡ false → workedOut t work trial v ≡ valuesOf trial v
     unfolding workedOut
     worked-idle trial v e =

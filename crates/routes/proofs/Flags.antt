@@ -16,8 +16,8 @@ use Rattle.paper.specs.Checks.{Sound}
 use Rattle.paper.proofs.Scan.{next}
 use Rattle.paper.proofs.Sizes.{sized-facts}
 use Rattle.paper.proofs.Accept.{sound-row}
-use Rattle.readers.specs.Index.{Indexed}
-use Rattle.marks.specs.Sections.{madeFrom}
+use Rattle.index.specs.Index.{Indexed}
+use Rattle.routes.specs.Sections.{madeFrom}
 use Rattle.routes.specs.Rows.{valuesOf, rowGives}
 use Rattle.routes.specs.Routed.{flagEach, Section, passOn, passEach, Turned}
 use Rattle.routes.proofs.Read.{slice-at, section-reads}

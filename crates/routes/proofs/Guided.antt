@@ -22,7 +22,7 @@ use Rattle.paper.proofs.Lawful.{lawful}
 use Rattle.paper.proofs.Fresh.{form-same, afresh-unique}
 use Rattle.paper.proofs.Routes.{new-equation}
 use Rattle.paper.proofs.Needed.{needed-least, needed-asked, needed-closed}
-use Rattle.marks.specs.Reach.{Follows, Either}
+use Rattle.routes.specs.Reach.{Follows, Either}
 use Rattle.routes.specs.Rows.{Ended, valuesOf}
 use Rattle.routes.specs.Routed.{Begun, newOf, evaluatedOf, Routed}
 use Rattle.routes.specs.Work.{worksOut, workedOut, asksOut, AllAsked}

@@ -15,11 +15,11 @@ use Rattle.paper.specs.Formula.{looked}
 use Rattle.paper.specs.Net.{Values}
 use Rattle.paper.specs.Tables.{Tables}
 use Rattle.paper.proofs.Scan.{next}
-use Rattle.steps.specs.Asking.{chosenPlace, nextPlace}
-use Rattle.marks.proofs.Members.{at-place}
-use Rattle.marks.proofs.Reach.{reaching-skip}
+use Rattle.rows.specs.Asking.{chosenPlace, nextPlace}
+use Rattle.routes.proofs.Members.{at-place}
+use Rattle.routes.proofs.Reach.{reaching-skip}
 use Rattle.routes.specs.Rows.{valuesOf, RowFits, rowGives}
-use Rattle.routes.specs.Work.{depth, Workable, workedOut, asksOut, Ready, Asked, Asking, AllAsked, worksOut, askedFrom}
+use Rattle.routes.specs.Work.{depth, RowsWorkable, workedOut, asksOut, Ready, Asked, Asking, AllAsked, worksOut, askedFrom}
 use Rattle.routes.proofs.Places.{asked-start, asked-end, asked-next}
 use Rattle.routes.proofs.Asks.{row-asks, asks-below, asked-value, asking-start, asking-same, asking-ready, asking-step, asked-row, busy-below}
 
@@ -65,7 +65,7 @@ module _ (t : Tables) (work : List ℕ) (v r : ℕ) where
     pub some : (u : ℕ) → From trial first last i u → Goal trial u
     pub asking : Asking t work (Goal trial) (From trial first last i) trial flags trial′ flags′
 
-  module _ (w : Workable t work) (e : nat work v ≡ suc r) (trial : List ℤ) (flags : List ℕ) (ready : Ready t work trial flags) where
+  module _ (w : RowsWorkable t work) (e : nat work v ≡ suc r) (trial : List ℤ) (flags : List ℕ) (ready : Ready t work trial flags) where
     pub turn-fits : (l : List ℤ) → length l ≡ length trial → RowFits r (t .kinds) (t .params) (t .firsts) (t .counts) (t .vars) (t .coefs) l
     turn-fits l long = w .fits v r e l (let k = ready .in-trial in omega arith)
 
@@ -140,7 +140,7 @@ module _ (t : Tables) (work asked : List ℕ) (trial : List ℤ) (flags : List �
   abbrev pub ListFrom : ℕ → List ℤ → List ℕ → Type 0
   ListFrom j = Asking t work (λ u. List·Memᴰ u asked) (λ u. List·Memᴰ u (drop j asked)) trial flags
 
-  module _ (w : Workable t work) (j : ℕ) (trial′ : List ℤ) (flags′ : List ℕ) (a : ListFrom j trial′ flags′) where
+  module _ (w : RowsWorkable t work) (j : ℕ) (trial′ : List ℤ) (flags′ : List ℕ) (a : ListFrom j trial′ flags′) where
     pub list-next : j < length asked → (x : ℕ) (trial″ : List ℤ) (flags″ : List ℕ) → x ≡ nat asked j → Asked t work x trial′ flags′ trial″ flags″ → ListFrom (j + 1) trial″ flags″
     list-next h x trial″ flags″ e b =
         asking-step t work w (λ u. List·Memᴰ u asked) (λ u. List·Memᴰ u (drop j asked)) trial flags trial′ flags′ a (λ u. List·Memᴰ u (drop (j + 1) asked)) x trial″ flags″

@@ -1,3 +1,7 @@
+pub mod Members
+pub mod Reach
+pub mod Readers
+pub mod Passing
 pub mod Walks
 pub mod Worked
 pub mod Read
@@ -8,5 +12,5 @@ pub mod Places
 pub mod Asks
 pub mod InTurn
 pub mod Planned
-pub mod Marks
+pub mod Marked
 pub mod Guided

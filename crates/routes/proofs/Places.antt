@@ -14,7 +14,7 @@ use Rattle.paper.specs.Formula.{looked, chosen, elementLooks}
 use Rattle.paper.specs.Net.{Values}
 use Rattle.paper.proofs.Lists.{eqb-self}
 use Rattle.paper.proofs.Scan.{next, part-length}
-use Rattle.steps.specs.Asking.{chosenPlace, nextPlace}
+use Rattle.rows.specs.Asking.{chosenPlace, nextPlace}
 use Rattle.routes.specs.Work.{entries, askedFrom}
 
 -- ── the entries from a place on ──

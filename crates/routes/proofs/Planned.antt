@@ -17,7 +17,8 @@ use Rattle.paper.proofs.Buffers.{length-below, getD-below, over-front, over-len
 use Rattle.paper.proofs.Fix.{able-suc}
 use Rattle.paper.proofs.Accept.{sound-row, made-row, made-below}
 use Rattle.routes.specs.Rows.{Ended, valuesOf}
-use Rattle.routes.specs.Work.{rows, workNet, worksOut, Workable, workedOut, asksOut, Ready, AllAsked}
+use Rattle.routes.specs.Routed.{Begun}
+use Rattle.routes.specs.Work.{rows, workNet, worksOut, RowsWorkable, workedOut, asksOut, Ready, AllAsked}
 use Rattle.routes.specs.Plan.{planned, workOf}
 use Rattle.routes.proofs.Walks.{row-fits}
 use Rattle.routes.proofs.Asks as Asks
@@ -34,10 +35,6 @@ over-fits n f before row e h = let l = ap length e ∙ over-length f n before h 
 pub front-is : (n m : ℕ) (makes marks before row : List ℕ) → row ≡ over n (planned m makes marks) before → take n row ≡ workOf n m makes marks
 unfolding workOf
 front-is n m makes marks before row e = ap (take n) e ∙ over-front (planned m makes marks) n before
-
-pub asked-over : (t : Tables) (row work asked : List ℕ) (trial : List ℤ) (flags : List ℕ) (trial′ : List ℤ) (flags′ : List ℕ) → row ≡ work
-    → AllAsked t row asked trial flags trial′ flags′ → AllAsked t work asked trial flags trial′ flags′
-asked-over t row work asked trial flags trial′ flags′ e a = subst (λ (l : List ℕ). AllAsked t l asked trial flags trial′ flags′) e a
 
 module _ (t : Tables) (d : Ended t) (marks : List ℕ) where
   -- v is made and marked
@@ -132,7 +129,7 @@ module _ (t : Tables) (d : Ended t) (marks : List ℕ) where
       go true q h = let k = made-row t (d .sound) v (made-of v q) in omega arith
       go false q h = absurd (omega arith)
 
-  pub workable : Workable (rowsOf t) work
+  pub workable : RowsWorkable (rowsOf t) work
   workable = record {
     chains = λ v. subst (λ k. able (left .ins) k v ≡ true) (sym work-long) (chains (t .n) v (d .chains v));
     fits = λ v r e values h. row-fits t (d .sound) r (found v r e) values (let l = work-long in omega arith);
@@ -157,3 +154,19 @@ module _ (t : Tables) (d : Ended t) (marks : List ℕ) where
       at : (u : ℕ) → (worksOut (rowsOf t) work u ≡ true → nat flags u ≡ 1) → (b : Bool) → does u ≡ b → valuesOf trial u ≡ workedOut (rowsOf t) work trial u
       at u e true q = absurd (let z = clear u (does-below u q) in let o = e (works-is u ∙ q) in omega arith)
       at u e false q = sym (worked-idle (rowsOf t) work workable trial u (works-is u ∙ q))
+
+  -- ── the front of a row that it was planned in, over clear flags ──
+  module _ (before row : List ℕ) (e : row ≡ over (t .n) (planned (t .m) (t .makes) marks) before) (asked : List ℕ) where
+    front : take (t .n) row ≡ work
+    front = front-is (t .n) (t .m) (t .makes) marks before row e
+
+    pub can-ask : (stored trial : List ℤ) (flags : List ℕ) → Begun t stored trial flags → all (λ v. ltb v (t .n)) asked ≡ true
+        → RowsWorkable (rowsOf t) (take (t .n) row) × ((all (λ v. ltb v (length (take (t .n) row))) asked ≡ true) × Ready (rowsOf t) (take (t .n) row) trial flags)
+    can-ask stored trial flags b low =
+        subst (λ (l : List ℕ). RowsWorkable (rowsOf t) l × ((all (λ v. ltb v (length l)) asked ≡ true) × Ready (rowsOf t) l trial flags)) (sym front)
+        (workable, (subst (λ k. all (λ v. ltb v k) asked ≡ true) (sym work-long) low, ready trial flags (b .in-trial) (b .in-flags) (b .clear)))
+
+    -- what asking over it leaves is what asking over the row of work leaves
+    pub asked-front : (trial : List ℤ) (flags : List ℕ) (trial′ : List ℤ) (flags′ : List ℕ) → AllAsked (rowsOf t) (take (t .n) row) asked trial flags trial′ flags′
+        → AllAsked (rowsOf t) work asked trial flags trial′ flags′
+    asked-front trial flags trial′ flags′ a = subst (λ (l : List ℕ). AllAsked (rowsOf t) l asked trial flags trial′ flags′) front a

@@ -14,8 +14,8 @@ use Rattle.paper.specs.Checks.{Sound}
 use Rattle.paper.proofs.Lists.{eqb-self, any-in, any-has}
 use Rattle.paper.proofs.Those.{those-in, those-has}
 use Rattle.paper.proofs.Accept.{row-inputs, made-row, made-by}
-use Rattle.readers.specs.Index.{Indexed}
-use Rattle.marks.proofs.Members.{at-place, mapped}
+use Rattle.index.specs.Index.{Indexed}
+use Rattle.routes.proofs.Members.{at-place, mapped}
 
 -- ── what a list is mapped to ──
 mapped-from : {A B : Type 0} (f : A → B) (xs : List A) {y : B} → List·Memᴰ y (map f xs) → (x : A) × List·Memᴰ x xs × (y ≡ f x)

@@ -16,8 +16,8 @@ use Rattle.paper.specs.Tables.{Tables, inputsOf}
 use Rattle.paper.specs.Checks.{Sound}
 use Rattle.paper.proofs.Lists.{eqb-self, any-in, any-has, any-same}
 use Rattle.paper.proofs.Accept.{made-below, inputs-below}
-use Rattle.readers.specs.Index.{Indexed}
-use Rattle.marks.specs.Sections.{madeFrom}
+use Rattle.index.specs.Index.{Indexed}
+use Rattle.routes.specs.Sections.{madeFrom}
 use Rattle.routes.specs.Rows.{valuesOf}
 use Rattle.routes.specs.Routed.{flagEach, passOn, passEach}
 use Rattle.routes.proofs.Read.{input-made, section-input, input-section}

@@ -22,7 +22,7 @@ use Rattle.paper.proofs.Accept.{sound-row, row-is-made, inputs-below}
 use Rattle.paper.proofs.Lawful.{lawful}
 use Rattle.paper.proofs.Fresh.{form-same}
 use Rattle.paper.proofs.Routes.{new-equation}
-use Rattle.readers.specs.Index.{Indexed}
+use Rattle.index.specs.Index.{Indexed}
 use Rattle.routes.specs.Rows.{Along, valuesOf, rowGives}
 use Rattle.routes.specs.Routed.{Begun, Named, newOf, evaluatedOf, Routed, passOn, passEach, Passable, Turned}
 use Rattle.routes.proofs.Walks.{row-at, made-at, earlier, row-form}

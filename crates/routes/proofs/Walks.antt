@@ -20,8 +20,8 @@ use Rattle.paper.proofs.Accept.{sound-row, row-of, made-row, made-by, row-input
 use Rattle.paper.proofs.Lawful.{lawful}
 use Rattle.paper.proofs.Numbers.{number-right}
 use Rattle.paper.proofs.Order.{order-in, order-has, order-length, inputs-done}
-use Rattle.inputs.specs.Inputs.{inputs}
-use Rattle.marks.proofs.Members.{at-place}
+use Rattle.formulas.specs.Inputs.{inputs}
+use Rattle.routes.proofs.Members.{at-place}
 use Rattle.routes.specs.Rows.{Along, RowFits, rowGives}
 
 -- ── rows and places ──

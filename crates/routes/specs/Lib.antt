@@ -1,3 +1,6 @@
+pub mod Reach
+pub mod Sections
+pub mod Readers
 pub mod Rows
 pub mod Routed
 pub mod Work

@@ -9,7 +9,7 @@ use lib.ListN.{length, set}
 use Rattle.paper.specs.Lists.{nat, over}
 use Rattle.paper.specs.Net.{Values, Route, differs, new, evaluated}
 use Rattle.paper.specs.Tables.{Tables, net, isMade, valuesIn}
-use Rattle.marks.specs.Sections.{madeFrom}
+use Rattle.routes.specs.Sections.{madeFrom}
 use Rattle.routes.specs.Rows.{valuesOf, rowGives}
 
 -- the rows are long enough, the trial row begins as the stored one with the move in, which names no made variable, and no flag is set

@@ -10,9 +10,9 @@ use Rattle.paper.specs.Formula.{formula}
 use Rattle.paper.specs.Net.{able}
 use Rattle.paper.specs.Tables.{Tables, inputsOf, order}
 use Rattle.paper.specs.Checks.{Sound}
-use Rattle.inputs.specs.Inputs.{partOf, inputs}
+use Rattle.formulas.specs.Inputs.{partOf, inputs}
 use Rattle.formulas.specs.Row.{PartFits}
-pub use Rattle.steps.specs.Changes.{valuesOf}
+pub use Rattle.rows.specs.Changes.{valuesOf}
 
 -- the tables are sound, and their chains of inputs end
 pub record Ended (t : Tables) : Type 0 where

@@ -11,7 +11,7 @@ use Rattle.paper.specs.Lists.{all, nat}
 use Rattle.paper.specs.Formula.{formula, looked, elementLooks}
 use Rattle.paper.specs.Net.{Values, Net, able, number, afresh}
 use Rattle.paper.specs.Tables.{Tables, lent, part}
-use Rattle.marks.specs.Reach.{Closed, Reached, Reaching}
+use Rattle.routes.specs.Reach.{Closed, Reached, Reaching}
 use Rattle.routes.specs.Rows.{valuesOf, RowFits}
 
 -- the rows and entries that the walk reads of the tables
@@ -43,7 +43,7 @@ module _ (t : Tables) (work : List ℕ) where
   worksOut = workNet t work .made
 
   -- the rows have room for what they name, and chains end
-  pub record Workable : Type 0 where
+  pub record RowsWorkable : Type 0 where
     pub chains : (v : ℕ) → able (workNet t work .ins) (length work) v ≡ true
     pub fits : (v r : ℕ) → nat work v ≡ suc r → (values : List ℤ) → length work ≤ length values
         → RowFits r (t .kinds) (t .params) (t .firsts) (t .counts) (t .vars) (t .coefs) values

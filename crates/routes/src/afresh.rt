@@ -4,7 +4,7 @@ ghost use Prim.Native.Nat.{_≤_};
 ghost use lib.ListN.{length};
 ghost use Rattle.paper.specs.Lists.{over};
 ghost use Rattle.paper.specs.Net.{afresh};
-ghost use Rattle.paper.specs.Tables.{lent, net, valuesIn};
+ghost use Rattle.paper.specs.Tables.{Tables, lent, net, valuesIn};
 ghost use Rattle.routes.specs.Rows.{Along};
 use crate::row::row_value;
 use integers::wide;
@@ -24,9 +24,11 @@ pub fn work_out(
     order: &[u16],
     values: &mut [i32],
 )
-    requires along { ⌜ Along (lent n m e (now kinds) (now makes) (now params) (now firsts) (now counts) (now vars) (now coefs)) (now order) ⌝ }
-    requires room { ⌜ n ≤ length (now values) ⌝ }
-    ensures { λ _. ⌜ now (values .exit) ≡ over n (afresh (net (lent n m e (now (kinds .entry)) (now (makes .entry)) (now (params .entry)) (now (firsts .entry)) (now (counts .entry)) (now (vars .entry)) (now (coefs .entry)))) (valuesIn (lent n m e (now (kinds .entry)) (now (makes .entry)) (now (params .entry)) (now (firsts .entry)) (now (counts .entry)) (now (vars .entry)) (now (coefs .entry))) (now (values .entry))) n) (now (values .entry)) ⌝ }
+    ghost { Tables }
+    requires lent { λ t. ⌜ lent n m e (now kinds) (now makes) (now params) (now firsts) (now counts) (now vars) (now coefs) ≡ t ⌝ }
+    requires along { λ t. ⌜ Along t (now order) ⌝ }
+    requires room { λ _. ⌜ n ≤ length (now values) ⌝ }
+    ensures { λ t _. ⌜ now (values .exit) ≡ over n (afresh (net t) (valuesIn t (now (values .entry))) n) (now (values .entry)) ⌝ }
 {
     let mut j = 0;
     while j < m {

@@ -5,11 +5,11 @@ ghost use Prim.Native.Nat.{suc, _<_};
 ghost use lib.Dec.{ltb};
 ghost use lib.ListN.{length};
 ghost use Rattle.paper.specs.Lists.{all, nat};
-ghost use Rattle.routes.specs.Work.{rows, Workable, workedOut, Ready, Asked, AllAsked};
+ghost use Rattle.routes.specs.Work.{rows, RowsWorkable, workedOut, Ready, Asked, AllAsked};
 use crate::row::row_value;
 use integers::wide;
-use steps::next_place;
-use steps::waits;
+use rows::steps::next_place;
+use rows::steps::waits;
 
 // The value of variable v: as it stands, or, where there is work to do for v that is not done yet, the value of its row.
 fn value_of_variable(
@@ -24,7 +24,7 @@ fn value_of_variable(
     trial: &mut [i32],
     flags: &mut [u8],
 ) -> i32
-    requires workable { ⌜ Workable (rows (now (now kinds)) (now (now params)) (now (now firsts)) (now (now counts)) (now (now vars)) (now (now coefs))) (now (now work)) ⌝ }
+    requires workable { ⌜ RowsWorkable (rows (now (now kinds)) (now (now params)) (now (now firsts)) (now (now counts)) (now (now vars)) (now (now coefs))) (now (now work)) ⌝ }
     requires there { ⌜ (v < length (now (now work))) × (v < 65536) ⌝ }
     requires ready { ⌜ Ready (rows (now (now kinds)) (now (now params)) (now (now firsts)) (now (now counts)) (now (now vars)) (now (now coefs))) (now (now work)) (now trial) (now flags) ⌝ }
     ensures value { λ x. ⌜ x ≡ workedOut (rows (now (now (kinds .entry))) (now (now (params .entry))) (now (now (firsts .entry))) (now (now (counts .entry))) (now (now (vars .entry))) (now (now (coefs .entry)))) (now (now (work .entry))) (now (trial .entry)) v ⌝ }
@@ -62,7 +62,7 @@ fn value_of_row(
     trial: &mut [i32],
     flags: &mut [u8],
 ) -> i32
-    requires workable { ⌜ Workable (rows (now (now kinds)) (now (now params)) (now (now firsts)) (now (now counts)) (now (now vars)) (now (now coefs))) (now (now work)) ⌝ }
+    requires workable { ⌜ RowsWorkable (rows (now (now kinds)) (now (now params)) (now (now firsts)) (now (now counts)) (now (now vars)) (now (now coefs))) (now (now work)) ⌝ }
     requires row { ⌜ (nat (now (now work)) v ≡ suc r) × (r < 65536) ⌝ }
     requires ready { ⌜ Ready (rows (now (now kinds)) (now (now params)) (now (now firsts)) (now (now counts)) (now (now vars)) (now (now coefs))) (now (now work)) (now trial) (now flags) ⌝ }
     ensures value { λ x. ⌜ x ≡ workedOut (rows (now (now (kinds .entry))) (now (now (params .entry))) (now (now (firsts .entry))) (now (now (counts .entry))) (now (now (vars .entry))) (now (now (coefs .entry)))) (now (now (work .entry))) (now (trial .entry)) v ⌝ }
@@ -109,7 +109,7 @@ pub fn ask_all(
     trial: &mut [i32],
     flags: &mut [u8],
 )
-    requires workable { ⌜ Workable (rows (now kinds) (now params) (now firsts) (now counts) (now vars) (now coefs)) (now work) ⌝ }
+    requires workable { ⌜ RowsWorkable (rows (now kinds) (now params) (now firsts) (now counts) (now vars) (now coefs)) (now work) ⌝ }
     requires there { ⌜ all (λ v. ltb v (length (now work))) (now asked) ≡ true ⌝ }
     requires ready { ⌜ Ready (rows (now kinds) (now params) (now firsts) (now counts) (now vars) (now coefs)) (now work) (now trial) (now flags) ⌝ }
     ensures { λ _. ⌜ AllAsked (rows (now (kinds .entry)) (now (params .entry)) (now (firsts .entry)) (now (counts .entry)) (now (vars .entry)) (now (coefs .entry))) (now (work .entry)) (now (asked .entry)) (now (trial .entry)) (now (flags .entry)) (now (trial .exit)) (now (flags .exit)) ⌝ }

@@ -7,12 +7,12 @@ ghost use Rattle.paper.specs.Net.{input-to-output};
 ghost use Rattle.paper.specs.Tables.{lent};
 ghost use Rattle.paper.specs.Checks.{Sound};
 ghost use Rattle.routes.specs.Rows.{Along};
-ghost use Rattle.marks.specs.Sections.{madeFrom};
-ghost use Rattle.readers.specs.Index.{Indexed};
+ghost use Rattle.routes.specs.Sections.{madeFrom};
+ghost use Rattle.index.specs.Index.{Indexed};
 ghost use Rattle.routes.specs.Routed.{Begun, Named, Routed, Section, flagEach, passEach, Passable, Turned};
 use crate::row::row_value;
 use integers::wide;
-use steps::moved;
+use rows::steps::moved;
 
 // Flags what the readers of v make.
 fn flag_readers(v: usize, makes: &[u16], starts: &[u16], places: &[u16], flags: &mut [u8])

@@ -1,5 +1,5 @@
 // What the runs print: text, values and times of the day.
-use blanks::is_blank;
+use formulas::blanks::is_blank;
 use libc::STDOUT_FILENO;
 
 // Prints text as it is.

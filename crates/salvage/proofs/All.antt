@@ -22,8 +22,8 @@ use Rattle.paper.proofs.Buffers.{below-same, below-list}
 use Rattle.paper.proofs.Sections.{those-place}
 use Rattle.paper.proofs.Sizes.{Sized, sized-facts}
 use Rattle.paper.proofs.Accept.{sound-row, made-once}
-use Rattle.kept.specs.Saved.{packed}
-use Rattle.kept.proofs.Packed.{RowGood, Whole}
+use Rattle.damage.specs.Saved.{packed}
+use Rattle.damage.proofs.Packed.{RowGood, Whole}
 use Rattle.salvage.proofs.Bare.{bare}
 
 -- ── the numbers below n ──

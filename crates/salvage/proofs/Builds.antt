@@ -21,7 +21,7 @@ use Rattle.paper.specs.Tables.{Tables, isMade, ends, valuesIn}
 use Rattle.paper.specs.Chains.{permitted, determined}
 use Rattle.paper.specs.Checks.{accepted, sized, boundGood, within, startGood, inBounds, startAllowed, Sound}
 use Rattle.paper.specs.Calls.{BuildLent, startValues, buildFits, buildVerdict}
-use Rattle.paper.specs.File.{version1, plain, held, nIn, mIn, eIn}
+use Rattle.paper.specs.File.{version1, unboundedContents, held, nIn, mIn, eIn}
 use Rattle.paper.specs.Demands.{Fitting, cut}
 use Rattle.paper.proofs.Lists.{and-left, and-right}
 use Rattle.paper.proofs.Buffers.{length-below, getD-below}
@@ -31,11 +31,11 @@ use Rattle.paper.proofs.Accept.{tables-next}
 use Rattle.paper.proofs.Closes.{not-closes, Opened, opened}
 use Rattle.paper.proofs.Reread.{reread, cut-back}
 use Rattle.paper.proofs.RoundTrips.{fitting-plain}
-use Rattle.kept.specs.Saved.{packed, given, startGiven, keptRows, stands, startWhole, savedTables, startKept, savedStarts, savedFile}
+use Rattle.damage.specs.Saved.{packed, given, startGiven, keptRows, isSaved, startWhole, savedTables, startKept, savedStarts, savedFile}
 use Rattle.salvage.specs.Promises.{Readable, AllFull, Builds, SalvageBuilds}
-use Rattle.kept.proofs.Packed.{Rows, packed-sized, packed-sound}
-use Rattle.kept.proofs.Given.{vars-long, coefs-long, given-fits}
-use Rattle.kept.proofs.Kept.{those-at, any-those, keeps, kept-those, rows-kept}
+use Rattle.damage.proofs.Packed.{Rows, packed-sized, packed-sound}
+use Rattle.damage.proofs.Given.{vars-long, coefs-long, given-fits}
+use Rattle.damage.proofs.KeptRows.{those-at, any-those, keeps, kept-those, rows-kept}
 use Rattle.salvage.proofs.Bare.{bare-sound, sound-bare, bare-ends, bare-starts}
 use Rattle.salvage.proofs.Ends.{all-end}
 use Rattle.salvage.proofs.Fits.{packed-fits}
@@ -94,23 +94,23 @@ module _ (bytes : List ℕ) (ok : Readable bytes) where
   S = savedTables bytes
 
   -- ── the rows ──
-  stands-keeps : (r : ℕ) → r < m → stands bytes r ≡ true → keeps bytes r ≡ true
+  stands-keeps : (r : ℕ) → r < m → isSaved bytes r ≡ true → keeps bytes r ≡ true
   stands-keeps r l e = sym (any-those (keeps bytes) m r l) ∙ ap (any (eqb r)) (sym (kept-those bytes m)) ∙ and-left _ _ e
 
   kept : Rows t (those (keeps bytes) m)
   kept = rows-kept bytes (ok .head) (keeps bytes) m (λ r l e. e)
 
-  left : Rows t (those (stands bytes) m)
-  left = rows-kept bytes (ok .head) (stands bytes) m stands-keeps
+  left : Rows t (those (isSaved bytes) m)
+  left = rows-kept bytes (ok .head) (isSaved bytes) m stands-keeps
 
   sound : Sound S
-  sound = packed-sound t (those (stands bytes) m) left
+  sound = packed-sound t (those (isSaved bytes) m) left
 
-  top : (r : ℕ) → r < m → stands bytes r ≡ true → ends (packed t (those (keeps bytes) m)) (nat (t .makes) r) ≡ true
+  top : (r : ℕ) → r < m → isSaved bytes r ≡ true → ends (packed t (those (keeps bytes) m)) (nat (t .makes) r) ≡ true
   top r l e = subst (λ rows. ends (packed t rows) (nat (t .makes) r) ≡ true) (kept-those bytes m) (and-right (any (eqb r) (keptRows bytes m)) _ e)
 
   chains : (v : ℕ) → ends S v ≡ true
-  chains = all-end t (stands bytes) (keeps bytes) m stands-keeps kept left top
+  chains = all-end t (isSaved bytes) (keeps bytes) m stands-keeps kept left top
 
   -- ── the start values ──
   value : (v : ℕ) → v < nIn bytes → getD (savedStarts bytes) v (pos 0) ≡ cond (startKept bytes v) (getD (startGiven bytes) v (pos 0)) (pos 0)
@@ -140,17 +140,17 @@ module _ (bytes : List ℕ) (ok : Readable bytes) where
 
   fits : Fitting S (savedStarts bytes)
   fits =
-      packed-fits t (startGiven bytes) (given-fits bytes (ok .small)) (those (stands bytes) m) left (λ k l. those-at (stands bytes) m k l .low)
+      packed-fits t (startGiven bytes) (given-fits bytes (ok .small)) (those (isSaved bytes) m) left (λ k l. those-at (isSaved bytes) m k l .low)
       (rw (vars-long bytes) (le-refl (eIn bytes))) (rw (coefs-long bytes) (le-refl (eIn bytes))) (savedStarts bytes) start-fits
 
   holds : held S (savedStarts bytes) ≡ true
-  holds = held-of S (savedStarts bytes) (packed-sized t (those (stands bytes) m) left) (let h = length-below (λ u. cond (startKept bytes u) (getD (startGiven bytes) u (pos 0)) (pos 0)) (nIn bytes) in omega arith)
+  holds = held-of S (savedStarts bytes) (packed-sized t (those (isSaved bytes) m) left) (let h = length-below (λ u. cond (startKept bytes u) (getD (startGiven bytes) u (pos 0)) (pos 0)) (nIn bytes) in omega arith)
 
   pub builds : Builds bytes
   unfolding savedFile
   builds = record {
     reads = λ t₀ starts₀ h.
-        let own = plain S (savedStarts bytes) in let into = plain t₀ starts₀ in let fit = fitting-plain fits in
+        let own = unboundedContents S (savedStarts bytes) in let into = unboundedContents t₀ starts₀ in let fit = fitting-plain fits in
         subst (λ back. (back .0 ≡ accepted) × (cut (back .1 .tables, back .1 .starts) ≡ cut (S, savedStarts bytes))) (reread version1 own holds fit into h)
         (refl, ap (λ c. (c .tables, c .starts)) (cut-back version1 own holds fit into));
     builds = build-accepts S (savedStarts bytes) sound chains starts-good start-fits;

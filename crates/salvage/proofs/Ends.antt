@@ -16,9 +16,9 @@ use Rattle.paper.proofs.Lawful.{lawful}
 use Rattle.paper.proofs.Fix.{able-suc}
 use Rattle.paper.proofs.Circle.{free}
 use Rattle.paper.proofs.Accept.{made-row, made-by, made-below, inputs-below}
-use Rattle.kept.specs.Saved.{packed}
-use Rattle.kept.proofs.Packed.{Rows, makes-at, packed-sound, packed-inputs}
-use Rattle.kept.proofs.Kept.{those-at}
+use Rattle.damage.specs.Saved.{packed}
+use Rattle.damage.proofs.Packed.{Rows, makes-at, packed-sound, packed-inputs}
+use Rattle.damage.proofs.KeptRows.{those-at}
 
 -- variables that keep their inputs or lose all: what ended still ends
 able-less : (f g : ℕ → List ℕ) → ((v : ℕ) → (g v ≡ []) ⊎ (g v ≡ f v)) → (k v : ℕ) → able f k v ≡ true → able g k v ≡ true

@@ -18,8 +18,8 @@ use Rattle.paper.specs.Tables.{Tables, part}
 use Rattle.paper.specs.Demands.{Fitting}
 use Rattle.paper.proofs.Buffers.{getD-below}
 use Rattle.paper.proofs.Scan.{part-length}
-use Rattle.kept.specs.Saved.{packed}
-use Rattle.kept.proofs.Packed.{map-at, total-within, Rows, packed-entries}
+use Rattle.damage.specs.Saved.{packed}
+use Rattle.damage.proofs.Packed.{map-at, total-within, Rows, packed-entries}
 
 -- what holds of each place of every list holds of each place of them all
 joined-each : {A : Type 0} (P : A → Type 0) (d : A) (f : ℕ → List A) (n : ℕ) → ((k : ℕ) → k < n → (j : ℕ) → j < length (f k) → P (getD (f k) j d))

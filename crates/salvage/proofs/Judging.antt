@@ -7,7 +7,7 @@ use mathlib.Core.Path.{_≡_, refl, ap, ap₂, sym, _∙_, subst}
 use lib.Dec.{eqb}
 use lib.IntN.{ℤ}
 use lib.ListN.{length, getD, take, drop, length-take, length-map}
-use lib.Seq.{drop-nil}
+use lib.Seq.{drop-nil, take-take}
 use borrow.Author.Tests.{ltb-true}
 use Rattle.paper.specs.Demands.{cut}
 use Rattle.paper.specs.File.{nIn, mIn, eIn}
@@ -19,18 +19,18 @@ use Rattle.paper.proofs.Sizes.{Sized}
 use Rattle.paper.proofs.Those.{those-same}
 use Rattle.tables.specs.Makers.{AllBelow}
 use Rattle.order.proofs.Bare.{formed-of, ends-bare}
-use Rattle.kept.specs.Keeping.{Gives}
-use Rattle.kept.specs.Saved.{packed, given, startGiven, keptRows, stands}
-use Rattle.flags.specs.Flags.{flagged}
-use Rattle.packing.specs.Packing.{shape, Packable, Makes, Numberable}
+use Rattle.damage.specs.Keeping.{FileGives}
+use Rattle.damage.specs.Saved.{packed, given, startGiven, keptRows, isSaved}
+use Rattle.damage.specs.Flags.{flagged}
+use Rattle.salvage.specs.Packing.{shape, Packable, Makes, Numberable}
 use Rattle.salvage.specs.Saving.{Judged, Packed}
-use Rattle.kept.specs.Scratch.{Laid, Kept}
-use Rattle.kept.proofs.Given.{variables, starts-long}
-use Rattle.kept.proofs.Kept.{keeps, kept-those, kept-whole, any-those, rows-kept}
+use Rattle.damage.specs.Scratch.{Laid, KeptFlags}
+use Rattle.damage.proofs.Given.{variables, starts-long}
+use Rattle.damage.proofs.KeptRows.{keeps, kept-those, kept-whole, any-those, rows-kept}
 use Rattle.salvage.proofs.Outcome.{rows-most, entries-most, rows-stand}
-use Rattle.kept.proofs.Packed.{Rows, packed-sound, packed-entries, good-alone}
-use Rattle.flags.proofs.Stored.{those-most}
-use Rattle.packing.proofs.Packing.{those-below}
+use Rattle.damage.proofs.Packed.{Rows, packed-sound, packed-entries, good-alone}
+use Rattle.damage.proofs.Stored.{those-most}
+use Rattle.salvage.proofs.Copied.{those-below}
 
 -- ── no row of what the file gives is longer than the counts ask ──
 pub record Long (t : Tables) : Type 0 where
@@ -64,8 +64,8 @@ module _ (bytes : List ℕ) (t : Tables) (starts : List ℤ) (row : List Bool) (
   long : Long t
   long = subst Long (sym (J .tables)) (given-long bytes)
 
-  rows-are : rows ≡ those (stands bytes) (mIn bytes)
-  rows-are = q ∙ those-same (λ r. getD row r false) (stands bytes) (t .m) (J .standing) ∙ ap (those (stands bytes)) m-is
+  rows-are : rows ≡ those (isSaved bytes) (mIn bytes)
+  rows-are = q ∙ those-same (λ r. getD row r false) (isSaved bytes) (t .m) (J .standing) ∙ ap (those (isSaved bytes)) m-is
 
   good : Rows t rows
   good = subst (λ s. Rows s rows) (sym (J .tables)) (subst (Rows (given bytes)) (sym rows-are) (rows-stand bytes (J .head)))
@@ -123,14 +123,14 @@ module _ (bytes : List ℕ) (t : Tables) (starts : List ℤ) (row : List Bool) (
       same i j k a p f c v o = cc
 
 -- ── from the rows kept to the rows that stand ──
-pub gives-few : (bytes : List ℕ) (t : Tables) → Gives bytes t → t .m ≤ 4096
+pub gives-few : (bytes : List ℕ) (t : Tables) → FileGives bytes t → t .m ≤ 4096
 gives-few bytes t G =
     let a = rows-most bytes (G .head) in let b = variables bytes (G .head) .most in let c = ap (λ (s : Tables). s .m) (G .is) in omega arith
 
-pub gives-long : (bytes : List ℕ) (t : Tables) → Gives bytes t → Long t
+pub gives-long : (bytes : List ℕ) (t : Tables) → FileGives bytes t → Long t
 gives-long bytes t G = subst Long (sym (G .is)) (given-long bytes)
 
-module _ (bytes : List ℕ) (t : Tables) (G : Gives bytes t) (row : List Bool) (K : Kept bytes t row) (room : t .m ≤ length row) where
+module _ (bytes : List ℕ) (t : Tables) (G : FileGives bytes t) (row : List Bool) (K : KeptFlags bytes t row) (room : t .m ≤ length row) where
   long₁ : Long t
   long₁ = gives-long bytes t G
 
@@ -170,12 +170,12 @@ module _ (bytes : List ℕ) (t : Tables) (G : Gives bytes t) (row : List Bool) (
   -- what is left of the flags
   module _ (starts : List ℤ) (values : take (t .n) starts ≡ startGiven bytes) {left : List Bool}
       (e : left ≡ over (t .m) (λ r. getD row r false && ends (shape (t .n) (t .makes) (t .firsts) (t .counts) (t .vars) (flagged true row (t .m))) (nat (t .makes) r)) row) where
-    stands-is : (r : ℕ) → r < t .m → getD left r false ≡ stands bytes r
+    stands-is : (r : ℕ) → r < t .m → getD left r false ≡ isSaved bytes r
     stands-is r l =
         ap (λ x. getD x r false) e
         ∙ over-at (λ r. getD row r false && ends (shape (t .n) (t .makes) (t .firsts) (t .counts) (t .vars) (flagged true row (t .m))) (nat (t .makes) r)) (t .m) row r false l
         ∙ ap₂ _&&_ (K .at r l) (ap (λ f. f (nat (t .makes) r)) (ends-bare (packed t (flagged true row (t .m)))) ∙ ap (λ rows. ends (packed t rows) (nat (t .makes) r)) flagged-are)
-        ∙ subst (λ (s : Tables). (any (eqb r) (keptRows bytes (s .m)) && ends (packed s (keptRows bytes (s .m))) (nat (s .makes) r)) ≡ stands bytes r) (sym (G .is)) refl
+        ∙ subst (λ (s : Tables). (any (eqb r) (keptRows bytes (s .m)) && ends (packed s (keptRows bytes (s .m))) (nat (s .makes) r)) ≡ isSaved bytes r) (sym (G .is)) refl
 
     pub left-judged : Judged bytes (lent (t .n) (length (t .makes)) (length (t .vars)) (t .kinds) (t .makes) (t .params) (t .firsts) (t .counts) (t .vars) (t .coefs)) starts left
     left-judged = record {
@@ -187,14 +187,14 @@ module _ (bytes : List ℕ) (t : Tables) (G : Gives bytes t) (row : List Bool) (
 
 -- ── from rows over which the file's were laid ──
 module _ (bytes : List ℕ) (t : Tables) (starts : List ℤ) (L : Laid bytes t starts) where
-  pub laid-gives : Gives bytes (cut (t, []) .0)
+  laid-gives : FileGives bytes (cut (t, []) .0)
   laid-gives = record { head = L .head; is = ap (λ (z : Tables × List ℤ). z .0) (L .is) }
 
-  pub laid-cut : Gives bytes (lent (t .n) (t .m) (t .e) (take (t .m - 0) (drop 0 (t .kinds))) (take (t .m - 0) (drop 0 (t .makes))) (take (t .m - 0) (drop 0 (t .params)))
+  pub laid-cut : FileGives bytes (lent (t .n) (t .m) (t .e) (take (t .m - 0) (drop 0 (t .kinds))) (take (t .m - 0) (drop 0 (t .makes))) (take (t .m - 0) (drop 0 (t .params)))
       (take (t .m - 0) (drop 0 (t .firsts))) (take (t .m - 0) (drop 0 (t .counts))) (take (t .e - 0) (drop 0 (t .vars))) (take (t .e - 0) (drop 0 (t .coefs))))
   laid-cut = let m : t .m - 0 ≡ t .m = omega arith in let e : t .e - 0 ≡ t .e = omega arith in rw (m, e) laid-gives
 
-  pub laid-values : take (t .n) starts ≡ startGiven bytes
+  laid-values : take (t .n) starts ≡ startGiven bytes
   laid-values = ap (λ (z : Tables × List ℤ). z .1) (L .is)
 
   front-room : {A : Type 0} (k : ℕ) (l f : List A) → take k l ≡ f → length f ≡ k → k ≤ length l
@@ -224,3 +224,9 @@ module _ (bytes : List ℕ) (t : Tables) (starts : List ℤ) (L : Laid bytes t s
         },
         front-room (t .n) starts (startGiven bytes) laid-values (starts-long bytes ∙ sym n),
       )
+
+  -- the start values, cut too
+  pub laid-starts : (t .n ≤ length (take (t .n - 0) (drop 0 starts))) × (take (t .n) (take (t .n - 0) (drop 0 starts)) ≡ startGiven bytes)
+  laid-starts =
+      let n : t .n - 0 ≡ t .n = omega arith in let long = laid-room .1 in
+      rw n (omega (arith, length-take (t .n) starts), take-take (t .n) (t .n) starts (omega arith) ∙ laid-values)

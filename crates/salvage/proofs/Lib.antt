@@ -1,3 +1,4 @@
+pub mod Copied
 pub mod Ends
 pub mod Fits
 pub mod Full

@@ -10,7 +10,7 @@ use lib.IntN.{ℤ, pos}
 use lib.ListN.{length, getD, drop, length-append}
 use borrow.Author.Tests.{leb-true}
 use Rattle.paper.specs.Checks.{Verdict, accepted, refused, require, Sound}
-use Rattle.paper.specs.File.{field, version1, endsAt, plain, fileBytes, nIn, mIn, eIn, headed, write}
+use Rattle.paper.specs.File.{field, version1, endsAt, unboundedContents, fileBytes, nIn, mIn, eIn, headed, write}
 use Rattle.paper.specs.Lists.{any, between, those}
 use Rattle.paper.specs.Tables.{Tables}
 use Rattle.paper.proofs.Buffers.{length-below}
@@ -19,16 +19,16 @@ use Rattle.paper.proofs.Sizes.{Sized, held-of}
 use Rattle.paper.proofs.Those.{those-same}
 use Rattle.paper.proofs.Verdicts.{require-held, require-rest, require-next}
 use Rattle.paper.proofs.Written.{file-length, write-whole}
-use Rattle.headers.specs.Answers.{answer}
-use Rattle.headers.specs.declared.Reading.{Reading}
-use Rattle.kept.specs.Saved.{given, startGiven, stands, startKept, savedTables, savedFile, savedList, droppedRows, resetValues}
-use Rattle.salvage.specs.Salvage.{salvageVerdict, salvage, lends, left}
-use Rattle.flags.specs.Flags.{flagged}
-use Rattle.salvage.specs.Saving.{Ready}
+use Rattle.files.specs.HeaderAnswers.{answer}
+use Rattle.files.specs.declared.headers.Reading.{Reading}
+use Rattle.damage.specs.Saved.{given, startGiven, isSaved, startKept, savedTables, savedFile, savedList, droppedRows, resetValues}
+use Rattle.salvage.specs.Salvage.{salvageVerdict, salvage, lendsToSalvage, leftBySalvage}
+use Rattle.damage.specs.Flags.{flagged}
+use Rattle.salvage.specs.Saving.{SavedReady}
 use Rattle.salvage.specs.declared.Salvaged.the-variants.{Accepted, Refused}
-use Rattle.kept.proofs.Kept.{keeps, kept-those, any-those, rows-kept}
-use Rattle.kept.proofs.Packed.{Rows, packed-sized, packed-sound}
-use Rattle.headers.specs.declared.Reading.the-variants as reading
+use Rattle.damage.proofs.KeptRows.{keeps, kept-those, any-those, rows-kept}
+use Rattle.damage.proofs.Packed.{Rows, packed-sized, packed-sound}
+use Rattle.files.specs.declared.headers.Reading.the-variants as reading
 
 -- ── the header's version and counts ──
 -- one test refuses whatever follows
@@ -76,38 +76,38 @@ module _ (bytes : List ℕ) where
         leb-true (eIn bytes) 16384 (require-held 14 6 (leb (eIn bytes) 16384) _ d)
 
     -- ── what stands is sound ──
-    pub rows-stand : Rows (given bytes) (those (stands bytes) (mIn bytes))
-    rows-stand = rows-kept bytes head (stands bytes) (mIn bytes) (λ r l e.
+    pub rows-stand : Rows (given bytes) (those (isSaved bytes) (mIn bytes))
+    rows-stand = rows-kept bytes head (isSaved bytes) (mIn bytes) (λ r l e.
         sym (any-those (keeps bytes) (mIn bytes) r l) ∙ ap (any (eqb r)) (sym (kept-those bytes (mIn bytes))) ∙ and-left _ _ e)
 
     pub saved-sized : Sized (savedTables bytes)
-    saved-sized = packed-sized (given bytes) (those (stands bytes) (mIn bytes)) rows-stand
+    saved-sized = packed-sized (given bytes) (those (isSaved bytes) (mIn bytes)) rows-stand
 
     pub saved-sound : Sound (savedTables bytes)
-    saved-sound = packed-sound (given bytes) (those (stands bytes) (mIn bytes)) rows-stand
+    saved-sound = packed-sound (given bytes) (those (isSaved bytes) (mIn bytes)) rows-stand
 
   -- ── the call ──
   module _ (file list : List ℕ) where
     abbrev fits : Bool
     fits = leb (length (savedFile bytes)) (length file) && leb (length (savedList bytes)) (length list)
 
-    pub salvage-headed : {c p : ℕ} → headed bytes accepted ≡ refused c p → left (Refused c p) file list ≡ salvage (lends bytes file list)
+    pub salvage-headed : {c p : ℕ} → headed bytes accepted ≡ refused c p → leftBySalvage (Refused c p) file list ≡ salvage (lendsToSalvage bytes file list)
     unfolding salvage salvageVerdict
     salvage-headed h = simp (headed-refused (require 1 0 fits accepted) h)
 
     module _ (head : headed bytes accepted ≡ accepted) where
-      verdict-is : salvageVerdict (lends bytes file list) ≡ require 1 0 fits accepted
+      verdict-is : salvageVerdict (lendsToSalvage bytes file list) ≡ require 1 0 fits accepted
       unfolding salvageVerdict
       verdict-is = headed-next head (require 1 0 fits accepted)
 
-      pub salvage-short : fits ≡ false → left (Refused 1 0) file list ≡ salvage (lends bytes file list)
+      pub salvage-short : fits ≡ false → leftBySalvage (Refused 1 0) file list ≡ salvage (lendsToSalvage bytes file list)
       unfolding salvage
       salvage-short h = simp (verdict-is ∙ ap (λ b. require 1 0 b accepted) h)
 
       pub salvage-done : fits ≡ true
-          → left (Accepted (length (savedFile bytes)) (length (droppedRows bytes)) (length (resetValues bytes)))
+          → leftBySalvage (Accepted (length (savedFile bytes)) (length (droppedRows bytes)) (length (resetValues bytes)))
           (savedFile bytes ++ drop (length (savedFile bytes)) file) (savedList bytes ++ drop (length (savedList bytes)) list)
-          ≡ salvage (lends bytes file list)
+          ≡ salvage (lendsToSalvage bytes file list)
       unfolding salvage
       salvage-done h = simp (verdict-is ∙ ap (λ b. require 1 0 b accepted) h)
 
@@ -122,7 +122,7 @@ told-accepted bytes accepted e h = (((cc), (cc), (cc)), refl)
 told-accepted bytes (refused c p) e h = let z : _≡_ {A = ℕ} 0 1 = cc in absurd (omega arith)
 
 -- ── from what is ready ──
-module _ (bytes : List ℕ) (m : ℕ) (t : Tables) (starts : List ℤ) (row taken : List Bool) (R : Ready bytes m t starts row taken) where
+module _ (bytes : List ℕ) (m : ℕ) (t : Tables) (starts : List ℤ) (row taken : List Bool) (R : SavedReady bytes m t starts row taken) where
   pub ready-sized : Sized t
   ready-sized = subst Sized (sym (R .tables)) (saved-sized bytes (R .head))
 
@@ -140,10 +140,10 @@ module _ (bytes : List ℕ) (m : ℕ) (t : Tables) (starts : List ℤ) (row take
   file-is = sym (ap₂ fileBytes (R .tables) (R .values))
 
   long-is : length (savedFile bytes) ≡ endsAt (t .n) (t .m) (t .e)
-  long-is = ap length file-is ∙ file-length version1 (plain t starts)
+  long-is = ap length file-is ∙ file-length version1 (unboundedContents t starts)
 
   rows-are : droppedRows bytes ≡ flagged false row m
-  rows-are = sym (those-same (λ r. not (getD row r false)) (λ r. not (stands bytes r)) m (λ r l. ap not (R .standing r l)) ∙ ap (those (λ r. not (stands bytes r))) (R .rows))
+  rows-are = sym (those-same (λ r. not (getD row r false)) (λ r. not (isSaved bytes r)) m (λ r l. ap not (R .standing r l)) ∙ ap (those (λ r. not (isSaved bytes r))) (R .rows))
 
   values-are : resetValues bytes ≡ flagged false taken (t .n)
   values-are = sym (those-same (λ v. not (getD taken v false)) (λ v. not (startKept bytes v)) (t .n) (λ v l. ap not (R .kept v l)) ∙ ap (those (λ v. not (startKept bytes v))) n-is)
@@ -158,7 +158,7 @@ module _ (bytes : List ℕ) (m : ℕ) (t : Tables) (starts : List ℤ) (row take
         let l : rows + values ≡ length (savedList bytes) = ap₂ _+_ p q ∙ sym (length-append (flagged false row m) (flagged false taken (t .n))) ∙ ap length (sym list-is) in
         ap₂ (λ a b. leb a (length file) && leb b (length list)) (e ∙ sym long-is) l
 
-    pub ready-short : (leb size (length file) && leb (rows + values) (length list)) ≡ false → left (Refused 1 0) file list ≡ salvage (lends bytes file list)
+    pub ready-short : (leb size (length file) && leb (rows + values) (length list)) ≡ false → leftBySalvage (Refused 1 0) file list ≡ salvage (lendsToSalvage bytes file list)
     ready-short h = salvage-short bytes file list (R .head) (sym fits-is ∙ h)
 
     module _ (h : (leb size (length file) && leb (rows + values) (length list)) ≡ true) where
@@ -169,15 +169,15 @@ module _ (bytes : List ℕ) (m : ℕ) (t : Tables) (starts : List ℤ) (row take
       pub ready-done : {v : Verdict} {after : List ℕ} {put : List ℕ}
           → put ≡ (flagged false row m ++ flagged false taken (t .n)) ++ drop (length (flagged false row m ++ flagged false taken (t .n))) list
           → _≡_ {A = Verdict × List ℕ} (v, after) (write t starts file)
-          → left (Accepted size rows values) after put ≡ salvage (lends bytes file list)
+          → leftBySalvage (Accepted size rows values) after put ≡ salvage (lendsToSalvage bytes file list)
       ready-done {v} {after} {put} b w =
           let l = leb-true size (length file) (and-left (leb size (length file)) (leb (rows + values) (length list)) h) in
-          let whole = write-whole version1 (plain t starts) file (held-of t starts ready-sized starts-long) (omega arith) in
+          let whole = write-whole version1 (unboundedContents t starts) file (held-of t starts ready-sized starts-long) (omega arith) in
           let written : after ≡ fileBytes t starts ++ drop (endsAt (t .n) (t .m) (t .e)) file = ap (λ (z : Verdict × List ℕ). z .1) (w ∙ sym whole) in
           same (e ∙ sym long-is) (p ∙ ap length (sym rows-are)) (q ∙ ap length (sym values-are))
           (written ∙ ap₂ (λ f k. f ++ drop k file) (sym file-is) (sym long-is))
           (b ∙ ap (λ (f : List ℕ). f ++ drop (length f) list) (sym list-is))
           ∙ salvage-done bytes file list (R .head) (sym fits-is ∙ h)
         where
-          same : {s r v s′ r′ v′ : ℕ} {a b a′ b′ : List ℕ} → s ≡ s′ → r ≡ r′ → v ≡ v′ → a ≡ a′ → b ≡ b′ → left (Accepted s r v) a b ≡ left (Accepted s′ r′ v′) a′ b′
+          same : {s r v s′ r′ v′ : ℕ} {a b a′ b′ : List ℕ} → s ≡ s′ → r ≡ r′ → v ≡ v′ → a ≡ a′ → b ≡ b′ → leftBySalvage (Accepted s r v) a b ≡ leftBySalvage (Accepted s′ r′ v′) a′ b′
           same i j k x y = cc

@@ -14,7 +14,7 @@ use borrow.Author.Tests.{le-leb}
 use Rattle.paper.specs.Lists.{any, total, nat, those}
 use Rattle.paper.specs.Tables.{Tables, lent, ends, valuesIn}
 use Rattle.paper.specs.Checks.{accepted, leaves, startGood, Sound}
-use Rattle.paper.specs.File.{version1, rowsAt, entriesAt, endsAt, plain, countedAs, fileBytes, nIn, mIn, eIn, header, laidAs}
+use Rattle.paper.specs.File.{version1, rowsAt, entriesAt, endsAt, unboundedContents, countedAs, fileBytes, nIn, mIn, eIn, header, laidAs}
 use Rattle.paper.specs.Demands.{cut}
 use Rattle.paper.proofs.Lists.{all-yes}
 use Rattle.paper.proofs.Those.{those-same}
@@ -24,11 +24,11 @@ use Rattle.paper.proofs.Closes.{opened}
 use Rattle.paper.proofs.Known.{BuildKnown, build-known}
 use Rattle.paper.proofs.Reading.{Headed, headed, read-headed}
 use Rattle.paper.proofs.Rewritten.{rewritten}
-use Rattle.kept.specs.Saved.{packed, given, startGiven, canKeep, keptRows, stands, savedTables, startKept, savedStarts, savedFile, savedList}
+use Rattle.damage.specs.Saved.{packed, given, startGiven, canKeep, keptRows, isSaved, savedTables, startKept, savedStarts, savedFile, savedList}
 use Rattle.salvage.specs.Promises.{Same, UndamagedSame}
-use Rattle.kept.proofs.Packed.{alone-good}
-use Rattle.kept.proofs.Given.{starts-long, laid-given}
-use Rattle.kept.proofs.Kept.{any-those}
+use Rattle.damage.proofs.Packed.{alone-good}
+use Rattle.damage.proofs.Given.{starts-long, laid-given}
+use Rattle.damage.proofs.KeptRows.{any-those}
 use Rattle.salvage.proofs.Bare.{bare-sound, bare-ends, bare-starts}
 use Rattle.salvage.proofs.All.{numbers, packed-all, sound-whole, sound-good, made-new, made-few}
 
@@ -68,14 +68,14 @@ module _ (bytes : List ℕ) (small : (i : ℕ) → nat bytes i < 256) (good : he
   all-packed : packed t (numbers m) ≡ t
   all-packed = packed-all t sound ∙ ap (λ (x : Tables × List ℤ). x .0) (laid-given bytes (lent 0 0 0 [] [] [] [] [] [] []) [])
 
-  stands-all : (r : ℕ) → r < m → stands bytes r ≡ true
+  stands-all : (r : ℕ) → r < m → isSaved bytes r ≡ true
   stands-all r l =
       let all = kept-all m (le-refl m) in
       ap₂ _&&_ (ap (any (eqb r)) all ∙ any-those (λ i. true) m r l)
       (ap (λ rows. ends (packed t rows) (nat (t .makes) r)) all ∙ ap (λ p. ends p (nat (t .makes) r)) all-packed ∙ chains (nat (t .makes) r))
 
   tables-same : savedTables bytes ≡ t
-  tables-same = ap (packed t) (those-same (stands bytes) (λ r. true) m stands-all) ∙ all-packed
+  tables-same = ap (packed t) (those-same (isSaved bytes) (λ r. true) m stands-all) ∙ all-packed
 
   -- ── the start values ──
   start-kept : (v : ℕ) → v < nIn bytes → startKept bytes v ≡ true
@@ -93,13 +93,13 @@ module _ (bytes : List ℕ) (small : (i : ℕ) → nat bytes i < 256) (good : he
   pub same : Same bytes
   unfolding savedFile savedList
   same = record {
-    file = ap₂ fileBytes tables-same starts-same ∙ rewritten version1 bytes good (plain (lent 0 0 0 [] [] [] [] [] [] []) []) small;
-    none = ap₂ _++_ (those-none (λ r. not (stands bytes r)) m (λ r l. ap not (stands-all r l))) (those-none (λ v. not (startKept bytes v)) (nIn bytes) (λ v l. ap not (start-kept v l)));
+    file = ap₂ fileBytes tables-same starts-same ∙ rewritten version1 bytes good (unboundedContents (lent 0 0 0 [] [] [] [] [] [] []) []) small;
+    none = ap₂ _++_ (those-none (λ r. not (isSaved bytes r)) m (λ r l. ap not (stands-all r l))) (those-none (λ v. not (startKept bytes v)) (nIn bytes) (λ v l. ap not (start-kept v l)));
   }
 
 pub undamaged-same : UndamagedSame
 undamaged-same bytes small t₀ starts₀ ok b e straight v =
-    same bytes small (read-headed version1 bytes (plain t₀ starts₀) ok) (subst (λ p. Sound (p .0)) is (bare-sound (b .tables) (k .sound)))
+    same bytes small (read-headed version1 bytes (unboundedContents t₀ starts₀) ok) (subst (λ p. Sound (p .0)) is (bare-sound (b .tables) (k .sound)))
     (λ u. subst (λ p. ends (p .0) u ≡ true) is (bare-ends (b .tables) (k .sound) u ∙ opened (b .tables) (k .sound) straight .chains u))
     (subst (λ p. (u : ℕ) → u < p .0 .n → startGood (p .0) (valuesIn (p .0) (p .1)) u ≡ true) is (λ u l. bare-starts (b .tables) (b .starts) u ∙ k .starts u l))
   where
@@ -108,4 +108,4 @@ undamaged-same bytes small t₀ starts₀ ok b e straight v =
 
     -- what was read, without what the lent rows hold beyond the counts, is what the file gives
     is : cut (b .tables, b .starts) ≡ (given bytes, startGiven bytes)
-    is = ap cut (e ∙ ap (λ w. let c = leaves w (laidAs bytes (nIn bytes) (mIn bytes) (eIn bytes) version1 (plain t₀ starts₀)) (countedAs 0 0 0 (plain t₀ starts₀)) in (c .tables, c .starts)) ok) ∙ laid-given bytes t₀ starts₀
+    is = ap cut (e ∙ ap (λ w. let c = leaves w (laidAs bytes (nIn bytes) (mIn bytes) (eIn bytes) version1 (unboundedContents t₀ starts₀)) (countedAs 0 0 0 (unboundedContents t₀ starts₀)) in (c .tables, c .starts)) ok) ∙ laid-given bytes t₀ starts₀

@@ -17,9 +17,9 @@ use Rattle.paper.proofs.Sizes.{Sized}
 use Rattle.tables.specs.Makers.{Makers}
 use Rattle.tables.proofs.Made.{maker-zero}
 use Rattle.tables.proofs.Whole.{front}
-use Rattle.kept.specs.Saved.{startGiven, startKept, savedTables}
-use Rattle.admissions.specs.Starts.{startTest}
-use Rattle.salvage.specs.Saving.{startTaken, Packed, Ready}
+use Rattle.damage.specs.Saved.{startGiven, startKept, savedTables}
+use Rattle.damage.specs.Starts.{startTest}
+use Rattle.salvage.specs.Saving.{startTaken, Packed, SavedReady}
 use Rattle.salvage.proofs.Outcome.{saved-sized, saved-sound}
 
 not-not : (b : Bool) → not (not b) ≡ b
@@ -47,7 +47,7 @@ module _ (bytes : List ℕ) (m : ℕ) (t : Tables) (starts : List ℤ) (row : Li
 
     pub starts-ready : (taken : List Bool) {said : List Bool} {put : List ℤ} → said ≡ over (t .n) (startTaken (length bytes) by starts) taken
         → put ≡ over (t .n) (λ v. cond (startTaken (length bytes) by starts v) (getD starts v (pos 0)) (pos 0)) starts
-        → Ready bytes m t (take (t .n - 0) (drop 0 put)) row said
+        → SavedReady bytes m t (take (t .n - 0) (drop 0 put)) row said
     starts-ready taken {said} {put} p q = record {
       head = P .head;
       rows = P .rows;

@@ -1,3 +1,4 @@
+pub mod Packing
 pub mod Salvage
 pub mod Promises
 pub mod Saving

@@ -12,7 +12,7 @@ use Rattle.paper.specs.Checks.{accepted, Bounds, lowest, highest, low, high}
 use Rattle.paper.specs.Calls.{BuildLent, buildFits, buildVerdict}
 use Rattle.paper.specs.Demands.{cut}
 use Rattle.paper.specs.File.{held, counted, headed, read}
-use Rattle.kept.specs.Saved.{savedTables, savedStarts, savedFile, savedList}
+use Rattle.damage.specs.Saved.{savedTables, savedStarts, savedFile, savedList}
 
 -- the bytes are bytes, and the header's version and counts are right
 pub record Readable (bytes : List ℕ) : Type 0 where

@@ -10,8 +10,8 @@ use Rattle.paper.specs.Checks.{accepted}
 use Rattle.paper.specs.File.{rowsAt, mIn, headed}
 use Rattle.paper.specs.Lists.{nat}
 use Rattle.paper.specs.Tables.{Tables}
-use Rattle.admissions.specs.Starts.{startTest}
-use Rattle.kept.specs.Saved.{given, startGiven, stands, startKept, savedTables, savedStarts}
+use Rattle.damage.specs.Starts.{startTest}
+use Rattle.damage.specs.Saved.{given, startGiven, isSaved, startKept, savedTables, savedStarts}
 
 -- ── start values ──
 -- v's is whole in a file of this size, and is one that build takes, where `by` is the row of makers
@@ -24,7 +24,7 @@ pub record Judged (bytes : List ℕ) (t : Tables) (starts : List ℤ) (row : Lis
   pub head : headed bytes accepted ≡ accepted
   pub tables : t ≡ given bytes
   pub values : take (t .n) starts ≡ startGiven bytes
-  pub standing : (r : ℕ) → r < t .m → getD row r false ≡ stands bytes r
+  pub standing : (r : ℕ) → r < t .m → getD row r false ≡ isSaved bytes r
 
 -- the tables saved, and the start values given
 pub record Packed (bytes : List ℕ) (m : ℕ) (t : Tables) (starts : List ℤ) (row : List Bool) : Type 0 where
@@ -32,13 +32,13 @@ pub record Packed (bytes : List ℕ) (m : ℕ) (t : Tables) (starts : List ℤ) 
   pub rows : m ≡ mIn bytes
   pub tables : t ≡ savedTables bytes
   pub values : take (t .n) starts ≡ startGiven bytes
-  pub standing : (r : ℕ) → r < m → getD row r false ≡ stands bytes r
+  pub standing : (r : ℕ) → r < m → getD row r false ≡ isSaved bytes r
 
 -- the tables and start values saved
-pub record Ready (bytes : List ℕ) (m : ℕ) (t : Tables) (starts : List ℤ) (row taken : List Bool) : Type 0 where
+pub record SavedReady (bytes : List ℕ) (m : ℕ) (t : Tables) (starts : List ℤ) (row taken : List Bool) : Type 0 where
   pub head : headed bytes accepted ≡ accepted
   pub rows : m ≡ mIn bytes
   pub tables : t ≡ savedTables bytes
   pub values : starts ≡ savedStarts bytes
-  pub standing : (r : ℕ) → r < m → getD row r false ≡ stands bytes r
+  pub standing : (r : ℕ) → r < m → getD row r false ≡ isSaved bytes r
   pub kept : (v : ℕ) → v < t .n → getD taken v false ≡ startKept bytes v

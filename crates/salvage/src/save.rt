@@ -5,20 +5,20 @@ ghost use mathlib.Core.Path.{_≡_};
 ghost use Prim.Native.Nat.{_+_, _≤_};
 ghost use lib.ListN.{length, drop};
 ghost use Rattle.paper.specs.Tables.{lent};
-ghost use Rattle.salvage.specs.Salvage.{lends, left};
+ghost use Rattle.salvage.specs.Salvage.{lendsToSalvage, leftBySalvage};
 ghost use Rattle.salvage.specs.Salvage as Salvage;
-ghost use Rattle.flags.specs.Flags.{flagged};
-ghost use Rattle.salvage.specs.Saving.{Judged, Packed, Ready};
+ghost use Rattle.damage.specs.Flags.{flagged};
+ghost use Rattle.salvage.specs.Saving.{Judged, Packed, SavedReady};
 use crate::Salvaged;
+use crate::packing::pack;
+use crate::packing::pack_coefs;
+use crate::packing::pack_shape;
+use crate::packing::pack_signed;
 use crate::start::keep_starts;
+use damage::flags::count_flagged;
+use damage::flags::list_flagged;
+use damage::flags::list_unset;
 use files::write;
-use flags::count_flagged;
-use flags::list_flagged;
-use flags::list_unset;
-use packing::pack;
-use packing::pack_coefs;
-use packing::pack_shape;
-use packing::pack_signed;
 use tables::makers;
 
 // Writes the file of these tables and start values, and the list, if there is room for both.
@@ -39,11 +39,11 @@ fn write_saved(
     file: &mut [u8],
     list: &mut [u16],
 ) -> Salvaged
-    requires ready { ⌜ Ready (now bytes) m
+    requires ready { ⌜ SavedReady (now bytes) m
         (lent n (length (now makes)) (length (now vars)) (now kinds) (now makes) (now params) (now firsts) (now counts) (now vars) (now coefs))
         (now starts) (now row) (now taken) ⌝ }
     requires there { ⌜ (m ≤ length (now row)) × (n ≤ length (now taken)) ⌝ }
-    ensures { λ r. ⌜ left r (now (file .exit)) (now (list .exit)) ≡ Salvage.salvage (lends (now (bytes .entry)) (now (file .entry)) (now (list .entry))) ⌝ }
+    ensures { λ r. ⌜ leftBySalvage r (now (file .exit)) (now (list .exit)) ≡ Salvage.salvage (lendsToSalvage (now (bytes .entry)) (now (file .entry)) (now (list .entry))) ⌝ }
 {
     let k = makes.len();
     let e = vars.len();
@@ -100,7 +100,7 @@ fn save_packed(
         (lent n (length (now makes)) (length (now vars)) (now kinds) (now makes) (now params) (now firsts) (now counts) (now vars) (now coefs))
         (now starts) (now row) ⌝ }
     requires there { ⌜ (m ≤ length (now row)) × (n ≤ length (now starts)) ⌝ }
-    ensures { λ r. ⌜ left r (now (file .exit)) (now (list .exit)) ≡ Salvage.salvage (lends (now (bytes .entry)) (now (file .entry)) (now (list .entry))) ⌝ }
+    ensures { λ r. ⌜ leftBySalvage r (now (file .exit)) (now (list .exit)) ≡ Salvage.salvage (lendsToSalvage (now (bytes .entry)) (now (file .entry)) (now (list .entry))) ⌝ }
 {
     let mut by = [0u16; 4096];
     let mut taken = [false; 4096];
@@ -148,7 +148,7 @@ fn save_rows(
         (now starts) (now row) ⌝ }
     requires there { ⌜ (length (now makes) ≤ length (now row)) × (n ≤ length (now starts)) ⌝ }
     requires listed { ⌜ now rows ≡ flagged true (now row) (length (now makes)) ⌝ }
-    ensures { λ r. ⌜ left r (now (file .exit)) (now (list .exit)) ≡ Salvage.salvage (lends (now (bytes .entry)) (now (file .entry)) (now (list .entry))) ⌝ }
+    ensures { λ r. ⌜ leftBySalvage r (now (file .exit)) (now (list .exit)) ≡ Salvage.salvage (lendsToSalvage (now (bytes .entry)) (now (file .entry)) (now (list .entry))) ⌝ }
 {
     let mut saved_kinds = [0u16; 4096];
     let mut saved_makes = [0u16; 4096];
@@ -210,7 +210,7 @@ pub(crate) fn save(
         (lent n (length (now makes)) (length (now vars)) (now kinds) (now makes) (now params) (now firsts) (now counts) (now vars) (now coefs))
         (now starts) (now row) ⌝ }
     requires there { ⌜ (length (now makes) ≤ length (now row)) × (n ≤ length (now starts)) ⌝ }
-    ensures { λ r. ⌜ left r (now (file .exit)) (now (list .exit)) ≡ Salvage.salvage (lends (now (bytes .entry)) (now (file .entry)) (now (list .entry))) ⌝ }
+    ensures { λ r. ⌜ leftBySalvage r (now (file .exit)) (now (list .exit)) ≡ Salvage.salvage (lendsToSalvage (now (bytes .entry)) (now (file .entry)) (now (list .entry))) ⌝ }
 {
     let mut rows = [0u16; 4096];
     let k = list_flagged(makes.len(), row, true, 0, &mut rows);

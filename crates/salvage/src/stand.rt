@@ -5,19 +5,18 @@ ghost use lib.ListN.{length, take};
 ghost use Rattle.paper.specs.Tables.{lent};
 ghost use Rattle.paper.specs.Checks.{accepted};
 ghost use Rattle.paper.specs.File as File;
-ghost use Rattle.kept.specs.Saved.{startGiven};
-ghost use Rattle.salvage.specs.Salvage.{lends, left};
+ghost use Rattle.damage.specs.Saved.{startGiven};
+ghost use Rattle.salvage.specs.Salvage.{lendsToSalvage, leftBySalvage};
 ghost use Rattle.salvage.specs.Salvage as Salvage;
-ghost use Rattle.kept.specs.Scratch.{Laid, Kept};
-ghost use Rattle.kept.specs.Keeping.{Gives};
+ghost use Rattle.damage.specs.Keeping.{FileGives};
 use crate::Salvaged;
+use crate::packing::drop_rows;
 use crate::save::save;
-use kept::keep_rows;
-use kept::lay_given;
-use packing::drop_rows;
+use damage::kept::keep_rows;
+use damage::kept::lay_given;
 
-// Salvages what a file gives, where `row` says which of its rows are kept.
-fn salvage_kept(
+// Salvages the rows that a file gives: those that stand among the rows kept are saved.
+fn salvage_rows(
     bytes: &[u8],
     n: usize,
     m: usize,
@@ -30,52 +29,12 @@ fn salvage_kept(
     counts: &[u16],
     vars: &[u16],
     coefs: &[i16],
-    row: &mut [bool; 4096],
     file: &mut [u8],
     list: &mut [u16],
 ) -> Salvaged
-    requires gives { ⌜ Gives (now bytes) (lent n m e (now kinds) (now makes) (now params) (now firsts) (now counts) (now vars) (now coefs)) ⌝ }
-    requires kept { ⌜ Kept (now bytes) (lent n m e (now kinds) (now makes) (now params) (now firsts) (now counts) (now vars) (now coefs)) (now row) ⌝ }
+    requires gives { ⌜ FileGives (now bytes) (lent n m e (now kinds) (now makes) (now params) (now firsts) (now counts) (now vars) (now coefs)) ⌝ }
     requires values { ⌜ (n ≤ length (now starts)) × (take n (now starts) ≡ startGiven (now bytes)) ⌝ }
-    ensures { λ r. ⌜ left r (now (file .exit)) (now (list .exit)) ≡ Salvage.salvage (lends (now (bytes .entry)) (now (file .entry)) (now (list .entry))) ⌝ }
-{
-    drop_rows(n, m, makes, firsts, counts, vars, row);
-    save(
-        bytes,
-        n,
-        starts,
-        kinds,
-        makes,
-        params,
-        firsts,
-        counts,
-        vars,
-        coefs,
-        row,
-        file,
-        list,
-    )
-}
-
-// Salvages what a file gives, laid over rows.
-fn salvage_cut(
-    bytes: &[u8],
-    n: usize,
-    m: usize,
-    e: usize,
-    starts: &mut [i32],
-    kinds: &[u16],
-    makes: &[u16],
-    params: &[i32],
-    firsts: &[u16],
-    counts: &[u16],
-    vars: &[u16],
-    coefs: &[i16],
-    file: &mut [u8],
-    list: &mut [u16],
-) -> Salvaged
-    requires { ⌜ Laid (now bytes) (lent n m e (now kinds) (now makes) (now params) (now firsts) (now counts) (now vars) (now coefs)) (now starts) ⌝ }
-    ensures { λ r. ⌜ left r (now (file .exit)) (now (list .exit)) ≡ Salvage.salvage (lends (now (bytes .entry)) (now (file .entry)) (now (list .entry))) ⌝ }
+    ensures { λ r. ⌜ leftBySalvage r (now (file .exit)) (now (list .exit)) ≡ Salvage.salvage (lendsToSalvage (now (bytes .entry)) (now (file .entry)) (now (list .entry))) ⌝ }
 {
     let mut row = [false; 4096];
     keep_rows(
@@ -92,50 +51,10 @@ fn salvage_cut(
         coefs,
         &mut row,
     );
-    salvage_kept(
+    drop_rows(n, m, makes, firsts, counts, vars, &mut row);
+    save(
         bytes,
         n,
-        m,
-        e,
-        starts,
-        &kinds[0..m],
-        &makes[0..m],
-        &params[0..m],
-        &firsts[0..m],
-        &counts[0..m],
-        &vars[0..e],
-        &coefs[0..e],
-        &mut row,
-        file,
-        list,
-    )
-}
-
-// Salvages what a file gives, laid over scratch rows, whose length is known here.
-fn salvage_laid(
-    bytes: &[u8],
-    n: usize,
-    m: usize,
-    e: usize,
-    starts: &mut [i32; 4096],
-    kinds: &[u16; 4096],
-    makes: &[u16; 4096],
-    params: &[i32; 4096],
-    firsts: &[u16; 4096],
-    counts: &[u16; 4096],
-    vars: &[u16; 16384],
-    coefs: &[i16; 16384],
-    file: &mut [u8],
-    list: &mut [u16],
-) -> Salvaged
-    requires { ⌜ Laid (now bytes) (lent n m e (now kinds) (now makes) (now params) (now firsts) (now counts) (now vars) (now coefs)) (now starts) ⌝ }
-    ensures { λ r. ⌜ left r (now (file .exit)) (now (list .exit)) ≡ Salvage.salvage (lends (now (bytes .entry)) (now (file .entry)) (now (list .entry))) ⌝ }
-{
-    salvage_cut(
-        bytes,
-        n,
-        m,
-        e,
         starts,
         kinds,
         makes,
@@ -144,6 +63,7 @@ fn salvage_laid(
         counts,
         vars,
         coefs,
+        &row,
         file,
         list,
     )
@@ -160,7 +80,7 @@ pub(crate) fn salvage_given(
 ) -> Salvaged
     requires counts { ⌜ (n ≡ File.nIn (now bytes)) × (m ≡ File.mIn (now bytes)) × (e ≡ File.eIn (now bytes)) ⌝ }
     requires head { ⌜ File.headed (now bytes) accepted ≡ accepted ⌝ }
-    ensures { λ r. ⌜ left r (now (file .exit)) (now (list .exit)) ≡ Salvage.salvage (lends (now (bytes .entry)) (now (file .entry)) (now (list .entry))) ⌝ }
+    ensures { λ r. ⌜ leftBySalvage r (now (file .exit)) (now (list .exit)) ≡ Salvage.salvage (lendsToSalvage (now (bytes .entry)) (now (file .entry)) (now (list .entry))) ⌝ }
 {
     let mut starts = [0i32; 4096];
     let mut kinds = [0u16; 4096];
@@ -184,19 +104,19 @@ pub(crate) fn salvage_given(
         &mut vars,
         &mut coefs,
     );
-    salvage_laid(
+    salvage_rows(
         bytes,
         n,
         m,
         e,
-        &mut starts,
-        &kinds,
-        &makes,
-        &params,
-        &firsts,
-        &counts,
-        &vars,
-        &coefs,
+        &mut starts[0..n],
+        &kinds[0..m],
+        &makes[0..m],
+        &params[0..m],
+        &firsts[0..m],
+        &counts[0..m],
+        &vars[0..e],
+        &coefs[0..e],
         file,
         list,
     )

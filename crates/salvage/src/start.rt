@@ -6,7 +6,7 @@ ghost use lib.IntN.{pos};
 ghost use lib.ListN.{length, getD};
 ghost use Rattle.paper.specs.Lists.{over};
 ghost use Rattle.salvage.specs.Saving.{startTaken};
-use admissions::start_good;
+use damage::admissions::start_good;
 
 // The value, or 0 if it is not kept.
 fn value_if(kept: bool, value: i32) -> i32

@@ -3,25 +3,22 @@
 use Prim.Native.Nat.{ℕ, pred, _-_, _≤_, _<_}
 use native.Mathlib.Nat.{lt-irrefl}
 use native.Mathlib.Omega.{arith}
-use mathlib.Core.Bool.{Bool, true, _&&_}
-use mathlib.Core.Path.{_≡_, refl, sym, ap, _∙_}
+use mathlib.Core.Bool.{_&&_}
+use mathlib.Core.Path.{_≡_, refl, ap, _∙_}
 use lib.Dec.{eqb}
 use lib.IntN.{pos}
 use lib.ListN.{getD, take, drop}
 use borrow.Author.Tests.{leb-true, ltb-true}
 use Rattle.paper.specs.Lists.{total, nat, firstFail}
 use Rattle.paper.specs.Tables.{Tables, part}
-use Rattle.paper.specs.Checks.{Verdict, accepted, refused, check, require, sized, kindGood, shapeGood, numberGood, Bounds, boundsGood, madeOnce, rowChecks, tableChecks, Sound}
-use Rattle.paper.proofs.Lists.{and-left, each}
+use Rattle.paper.specs.Checks.{Verdict, accepted, refused, check, require, kindGood, shapeGood, numberGood, Bounds, boundsGood, madeOnce, rowChecks}
+use Rattle.paper.proofs.Lists.{each}
 use Rattle.paper.proofs.Least.{firstFail-before}
 use Rattle.paper.proofs.Scan.{firstFail-same}
 use Rattle.paper.proofs.Verdicts.{check-rest, check-held}
-use Rattle.paper.proofs.Sizes.{Sized, sized-of, sized-facts}
-use Rattle.paper.proofs.Accept.{tables-passed}
 use Rattle.tables.specs.Makers.{AllBelow}
 use Rattle.tables.specs.Rows.{numberRows, coefsGood, paramGood}
 use Rattle.tables.specs.Answers.{answerOf}
-use Rattle.tables.specs.declared.Answer.{Answer}
 use Rattle.tables.specs.declared.Answer.the-variants.{Accepted, Refused}
 use Rattle.tables.proofs.Whole.{front, part-front}
 
@@ -71,16 +68,9 @@ refused-is k a b accepted e = let z : _≡_ {A = ℕ} 0 1 = cc in absurd (lt-irr
 refused-is k a b (refused c d) e = let p : c ≡ a = cc in let q : d ≡ b = cc in rw (p, q)
 
 -- ── what a caller has of the tables ──
--- where `sizes` says so
-pub sizes-sized : (t : Tables) (rest r : Bool) → r ≡ (sized t && rest) → r ≡ true → Sized t
-sizes-sized t rest r e h = sized-facts t (and-left (sized t) rest (sym e ∙ h))
 
 -- where `row_checks` accepts: each row makes a variable below n
 pub rows-make : (t : Tables) → rowChecks t accepted ≡ accepted → AllBelow (t .m) (t .makes) (t .n)
 rows-make t e = record {
   at = λ r l. ltb-true (nat (t .makes) r) (t .n) (each _ (check-held 3 (t .m) (shapeGood t) _ (check-rest 2 (t .m) (kindGood t) (fromThree t accepted) e) r l) .0);
 }
-
--- where `table_checks` accepts
-pub judged-sound : (t : Tables) (bs : Bounds) (r : Answer) (j : ℕ) → Sized t → r ≡ answerOf 0 (tableChecks t bs accepted) → r ≡ Accepted j → Sound t
-judged-sound t bs r j z e h = tables-passed t bs (sized-of t z) accepted (accepted-is 0 j (tableChecks t bs accepted) (sym e ∙ h)) .0

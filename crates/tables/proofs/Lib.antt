@@ -1,8 +1,11 @@
 pub mod Tests
 pub mod Whole
-pub mod Parts
+pub mod Cut
 pub mod Shapes
 pub mod Placing
 pub mod Numbers
 pub mod Made
 pub mod Judged
+pub mod Asked
+pub mod Walk
+pub mod Plain

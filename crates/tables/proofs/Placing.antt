@@ -16,7 +16,7 @@ use Rattle.paper.proofs.Lists.{and-left, and-right}
 use Rattle.paper.proofs.Least.{allBelow-at, firstFail-none}
 use Rattle.paper.proofs.Scan.{total-next}
 use Rattle.tables.specs.Rows.{shapeRows, partsGood}
-use Rattle.tables.proofs.Parts.{cut}
+use Rattle.tables.proofs.Cut.{cut}
 use Rattle.tables.proofs.Whole.{below-next}
 use Rattle.tables.proofs.Shapes.{rows-known, inputs-known, placed-shape}
 

@@ -17,7 +17,7 @@ use Rattle.paper.proofs.Lists.{clash, and-left, and-right, all-at}
 use Rattle.paper.proofs.Least.{firstFail-fails, firstFail-before, allBelow-at}
 use Rattle.paper.proofs.Scan.{part-same}
 use Rattle.tables.proofs.Tests.{second-last}
-use Rattle.tables.proofs.Parts.{cut}
+use Rattle.tables.proofs.Cut.{cut}
 use Rattle.tables.proofs.Whole.{all-part, part-front}
 
 -- ── how many inputs ──

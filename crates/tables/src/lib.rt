@@ -3,8 +3,10 @@
 mod kind;
 mod maker;
 mod number;
+pub mod parts;
 mod shape;
 mod size;
+pub mod walker;
 
 ghost use mathlib.Core.Path.{_≡_};
 ghost use Prim.Native.Nat.{_<_};

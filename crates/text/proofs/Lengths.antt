@@ -13,39 +13,39 @@ use Rattle.io.specs.Digits.{digits}
 use Rattle.integers.specs.Integers.{eqZ}
 use Rattle.paper.specs.Lists.{nat, joined}
 use Rattle.paper.specs.Formula.{blank}
-use Rattle.buffers.specs.Buffer.{sign}
-use Rattle.text.specs.Lines.{places, decimal, value, reasoned, line, lines, refusal}
+use Rattle.text.specs.Buffer.{sign}
+use Rattle.text.specs.Lines.{digitCount, decimal, value, valueOrReason, line, lines, refusal}
 
 -- ── numbers ──
 digits-length : (b k n : ℕ) → length (digits b k n) ≡ k
 digits-length b zero n = refl
 digits-length b (suc k) n = let h = digits-length b k (n / b) in length-append (digits b k (n / b)) _ ∙ omega arith
 
-places-most : (most n : ℕ) → places most n ≤ most
+places-most : (most n : ℕ) → digitCount most n ≤ most
 places-most zero n = zero-le
 places-most (suc most) n = go (ltb n 10) (places-most most (n / 10))
   where
-    go : (b : Bool) → places most (n / 10) ≤ most → cond b 1 (suc (places most (n / 10))) ≤ suc most
+    go : (b : Bool) → digitCount most (n / 10) ≤ most → cond b 1 (suc (digitCount most (n / 10))) ≤ suc most
     go true h = omega arith
     go false h = omega arith
 
 -- a number below 10 ^ (k + 1) has at most k + 1 digits
-places-few : (most k n : ℕ) → n < 10 ^ suc k → places most n ≤ suc k
+places-few : (most k n : ℕ) → n < 10 ^ suc k → digitCount most n ≤ suc k
 places-few zero k n h = zero-le
 places-few (suc most) zero n h = rw (lt-ltb n 10 (omega arith)) (omega arith)
 places-few (suc most) (suc k) n h = go (ltb n 10) (places-few most k (n / 10) (omega arith))
   where
-    go : (b : Bool) → places most (n / 10) ≤ suc k → cond b 1 (suc (places most (n / 10))) ≤ suc (suc k)
+    go : (b : Bool) → digitCount most (n / 10) ≤ suc k → cond b 1 (suc (digitCount most (n / 10))) ≤ suc (suc k)
     go true l = omega arith
     go false l = omega arith
 
 decimal-most : (n : ℕ) → length (decimal n) ≤ 20
 unfolding decimal
-decimal-most n = rw (digits-length 10 (places 20 n) n) (places-most 20 n)
+decimal-most n = rw (digits-length 10 (digitCount 20 n) n) (places-most 20 n)
 
 decimal-few : (k n : ℕ) → n < 10 ^ suc k → length (decimal n) ≤ suc k
 unfolding decimal
-decimal-few k n h = rw (digits-length 10 (places 20 n) n) (places-few 20 k n h)
+decimal-few k n h = rw (digits-length 10 (digitCount 20 n) n) (places-few 20 k n h)
 
 -- a sign, or none, and at most ten digits
 value-length : (z : ℤ) → natAbs z ≤ 2147483648 → length (value z) ≤ 11
@@ -57,7 +57,7 @@ value-length z h = go (eqZ z blank) (ltZ z (pos 0)) (decimal-few 9 (natAbs z) (o
     go false false l = omega arith
 
 -- with a reason no more
-field-length : (b : Bool) (z : ℤ) (reason : ℕ) → natAbs z ≤ 2147483648 → reason < 1000 → length (cond b (reasoned z reason) (value z)) ≤ 11
+field-length : (b : Bool) (z : ℤ) (reason : ℕ) → natAbs z ≤ 2147483648 → reason < 1000 → length (cond b (valueOrReason z reason) (value z)) ≤ 11
 field-length true z reason h l = go (eqZ z blank) (decimal-few 2 reason (omega arith)) (value-length z h)
   where
     go : (b : Bool) → length (decimal reason) ≤ 3 → length (value z) ≤ 11 → length (cond b ((98 ∷ 108 ∷ 97 ∷ 110 ∷ 107 ∷ 58 ∷ []) ++ decimal reason) (value z)) ≤ 11

@@ -15,15 +15,15 @@ use mir.Val.{SFits, ofZ}
 use Rattle.io.specs.Digits.{Fewest, digits}
 use Rattle.integers.specs.Integers.{eqZ}
 use Rattle.paper.specs.Formula.{blank}
-use Rattle.buffers.specs.Buffer.{Put, sign}
-use Rattle.text.specs.Lines.{places, decimal, value, reasoned}
+use Rattle.text.specs.Buffer.{Put, sign}
+use Rattle.text.specs.Lines.{digitCount, decimal, value, valueOrReason}
 
 -- 10 ^ k is 10 at the least, but for k = 0
 ten-up : (k : ℕ) → 10 ≤ 10 ^ suc k
 ten-up zero = omega arith
 ten-up (suc k) = let h = ten-up k in omega arith
 
-fewest-places : (most n k : ℕ) → Fewest 10 1 n k → k ≤ most → k ≡ places most n
+fewest-places : (most n k : ℕ) → Fewest 10 1 n k → k ≤ most → k ≡ digitCount most n
 fewest-places zero n k f h = let l = f .0 in absurd (omega arith)
 fewest-places (suc most) n zero f h = absurd (not-suc-le-zero (f .0))
 fewest-places (suc most) n (suc zero) f h = let l : n < 10 ^ 1 = f .1 in rw (lt-ltb n 10 (omega arith))
@@ -73,8 +73,8 @@ module _ (z : ℤ) {l after : List ℕ} {at next : ℕ} where
   put-number = put-other (45 ∷ []) (sign z ++ decimal (natAbs z))
 
   module _ (reason : ℕ) where
-    pub put-reason : eqZ z blank ≡ true → Put ((98 ∷ 108 ∷ 97 ∷ 110 ∷ 107 ∷ 58 ∷ []) ++ decimal reason) l at after next → Put (reasoned z reason) l at after next
+    pub put-reason : eqZ z blank ≡ true → Put ((98 ∷ 108 ∷ 97 ∷ 110 ∷ 107 ∷ 58 ∷ []) ++ decimal reason) l at after next → Put (valueOrReason z reason) l at after next
     put-reason = put-first ((98 ∷ 108 ∷ 97 ∷ 110 ∷ 107 ∷ 58 ∷ []) ++ decimal reason) (value z)
 
-    pub put-no-reason : eqZ z blank ≡ false → Put (value z) l at after next → Put (reasoned z reason) l at after next
+    pub put-no-reason : eqZ z blank ≡ false → Put (value z) l at after next → Put (valueOrReason z reason) l at after next
     put-no-reason = put-other ((98 ∷ 108 ∷ 97 ∷ 110 ∷ 107 ∷ 58 ∷ []) ++ decimal reason) (value z)

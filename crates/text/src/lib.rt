@@ -1,17 +1,18 @@
 // What the programs print, put into a lent buffer: the refusal line and the list, with reasons or without. A place is where the next byte goes; a full buffer takes no
 // more, so every call takes any buffer, and the contract says what is in it.
+pub mod buffers;
 mod numbers;
 mod reasons;
 
 ghost use Rattle.io.specs.Counts.{Counts};
-ghost use Rattle.buffers.specs.Buffer.{Put, Shows};
+ghost use Rattle.text.specs.Buffer.{Put, Shows};
 ghost use Rattle.text.specs.Lines as Lines;
+use crate::buffers::least;
+use crate::buffers::put;
+use crate::buffers::put_all;
 use crate::numbers::put_decimal;
 use crate::reasons::put_field;
 use crate::reasons::reason_at;
-use buffers::least;
-use buffers::put;
-use buffers::put_all;
 
 // Puts a line of the list, with reasons or without.
 fn put_line(

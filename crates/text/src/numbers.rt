@@ -1,12 +1,12 @@
 // Numbers and values as text.
 ghost use lib.IntN.{natAbs};
 ghost use mathlib.Core.Path.{_≡_};
-ghost use Rattle.buffers.specs.Buffer.{Put};
+ghost use Rattle.text.specs.Buffer.{Put};
 ghost use Rattle.text.specs.Lines as Lines;
-use blanks::is_blank;
-use buffers::put;
-use buffers::put_all;
-use buffers::put_sign;
+use crate::buffers::put;
+use crate::buffers::put_all;
+use crate::buffers::put_sign;
+use formulas::blanks::is_blank;
 use integers::bits32;
 
 // Puts the decimal digits of a number.

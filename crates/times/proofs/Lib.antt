@@ -1,3 +1,7 @@
 pub mod Sorted
-pub mod Times
+pub mod Ascending
 pub mod Listing
+pub mod Taking
+pub mod Timing
+pub mod Following
+pub mod Writing

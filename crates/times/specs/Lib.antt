@@ -1,2 +1,3 @@
 pub mod Windows
 pub mod Order
+pub mod Taken

@@ -1,1 +1,3 @@
-// The departures of the windows of one trip in time order, and the checks that a departure board has: the definition and theorems, no code.
+// The departures of the windows of one trip in time order: the checks of a departure board, and the list.
+pub mod lists;
+pub mod overlaps;

@@ -1,1 +1,3 @@
 pub mod Tests
+mod Rows
+pub mod Noted

@@ -16,7 +16,7 @@ use Rattle.integers.specs.Integers.{eqZ}
 use Rattle.integers.proofs.Order.{lt-yes, lt-no, yes-le, no-le, le-lt}
 use Rattle.paper.specs.Lists.{all, tally}
 use Rattle.paper.specs.Formula.{blank, someBlank, trips, inputAt}
-use Rattle.paper.specs.Reason.{allBlank, inside, choiceBlank, outside, why}
+use Rattle.paper.specs.Reason.{allBlank, inside, choiceBlank, outsideIndex, why}
 use Rattle.paper.proofs.Formulas.{tally-le}
 use Rattle.paper.proofs.Windows.{reached, counted}
 
@@ -71,7 +71,7 @@ pub picks : (z : ℤ) (count : ℕ) → not (inside z count) ≡ false → Picks
 picks (pos i) count e = record { not-below = le-ltb i 0 zero-le; low = ltb-true i count (not-false (ltb i count) e) }
 picks (negsuc i) count e = absurd (true≢false e)
 
-pub outside-is : (xs : List ℤ) → 0 < length xs → not (inside (inputAt xs 0) (length xs - 1)) ≡ outside xs
+pub outside-is : (xs : List ℤ) → 0 < length xs → not (inside (inputAt xs 0) (length xs - 1)) ≡ outsideIndex xs
 outside-is [] h = absurd (omega arith)
 outside-is (x ∷ xs) h = let q : suc (length xs) - 1 ≡ length xs = omega arith in rw q
 

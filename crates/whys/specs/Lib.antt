@@ -1,1 +1,4 @@
 pub mod Window
+pub mod Plain
+pub mod Rows
+pub mod Noted

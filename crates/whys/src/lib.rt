@@ -1,5 +1,9 @@
 // Why the result of a formula is blank. A blank input that stops it comes first, then the headway, the index, and departures; what is left is a result
 // that left the range.
+pub mod notes;
+pub mod plain;
+pub mod reasoned;
+
 ghost use Prim.Native.Nat.{_<_};
 ghost use mathlib.Core.Bool.{true, cond, not};
 ghost use mathlib.Core.Path.{_≡_};
@@ -9,13 +13,13 @@ ghost use Rattle.paper.specs.Checks.{arity};
 ghost use Rattle.paper.specs.Formula.{blank};
 ghost use Rattle.paper.specs.Reason.{allBlank, inside, choiceBlank};
 ghost use Rattle.paper.specs.Reason as Reason;
-ghost use Rattle.inputs.specs.Inputs.{inputs, Within};
+ghost use Rattle.formulas.specs.Inputs.{inputs, Within};
 ghost use Rattle.whys.specs.Window.{windowWhy};
-use blanks::BLANK;
-use blanks::is_blank;
-use inputs::any_blank;
-use inputs::input;
-use inputs::places;
+use formulas::blanks::BLANK;
+use formulas::blanks::is_blank;
+use formulas::inputs::any_blank;
+use formulas::inputs::input;
+use formulas::inputs::places;
 
 // Whether all inputs are blank.
 fn all_blank(vars: &[u16], values: &[i32]) -> bool
@@ -39,7 +43,7 @@ fn picks_none(index: i32, count: usize) -> bool
 fn outside(vars: &[u16], values: &[i32]) -> bool
     requires { ⌜ 0 < length (now vars) ⌝ }
     requires { ⌜ Within (now vars) (now values) ⌝ }
-    ensures { λ r. ⌜ r ≡ Reason.outside (inputs (now (vars .entry)) (now (values .entry))) ⌝ }
+    ensures { λ r. ⌜ r ≡ Reason.outsideIndex (inputs (now (vars .entry)) (now (values .entry))) ⌝ }
 {
     picks_none(input(vars, values, 0), vars.len() - 1)
 }
@@ -81,7 +85,7 @@ fn by_tests(stopped: bool, headway_bad: bool, index_outside: bool, no_departures
 fn of_element(vars: &[u16], values: &[i32]) -> u8
     requires { ⌜ 0 < length (now vars) ⌝ }
     requires { ⌜ Within (now vars) (now values) ⌝ }
-    ensures { λ r. ⌜ r ≡ cond (choiceBlank (inputs (now (vars .entry)) (now (values .entry)))) 4 (cond (Reason.outside (inputs (now (vars .entry)) (now (values .entry)))) 2 1) ⌝ }
+    ensures { λ r. ⌜ r ≡ cond (choiceBlank (inputs (now (vars .entry)) (now (values .entry)))) 4 (cond (Reason.outsideIndex (inputs (now (vars .entry)) (now (values .entry)))) 2 1) ⌝ }
 {
     let stopped = choice_blank(vars, values);
     let index_outside = outside(vars, values);

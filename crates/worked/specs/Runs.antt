@@ -14,13 +14,13 @@ use Rattle.paper.specs.Checks.{Bounds, boundsIn, lowest, highest, Move}
 use Rattle.paper.specs.Calls.{Answer, Accepted, Refused, BuildLent, build, Model, trial}
 
 -- a run: the tables and start values, and what is to come of it
-pub data Run : Type 0 where
+pub data PaperRun : Type 0 where
   -- build: topological numbers and values
-  builds : Tables → List ℤ → List ℕ → List ℤ → Run
+  builds : Tables → List ℤ → List ℕ → List ℤ → PaperRun
   -- build refuses with this number and place
-  refuses : Tables → ℕ → ℕ → Run
+  refuses : Tables → ℕ → ℕ → PaperRun
   -- a trial over what build left: the move, the asked list and the route; the asked values and the count
-  tries : Tables → List ℤ → List (ℕ × ℤ) → List ℕ → ℕ → List ℤ → ℕ → Run
+  tries : Tables → List ℤ → List (ℕ × ℤ) → List ℕ → ℕ → List ℤ → ℕ → PaperRun
 
 -- ── the test ──
 -- the same entries, by a test of two
@@ -61,7 +61,7 @@ answers (Accepted a) (Refused number place) = false
 answers (Refused k p) (Accepted b) = false
 answers (Refused k p) (Refused number place) = eqb k number && eqb p place
 
-unfoldable pub comesOut : Run → Bool
+unfoldable pub comesOut : PaperRun → Bool
 comesOut (builds t s nums vals) =
     let left = build (building t s) in
     answers (left .answer) (Accepted (t .m)) && same eqb (left .numbers) nums && same eqZ (left .stored) vals
@@ -96,8 +96,8 @@ abbrev pub startA : List ℤ
 startA = pos 25200 ∷ pos 28800 ∷ pos 600 ∷ []
 
 -- one row over the variables before the last, which it makes
-abbrev pub single : ℕ → ℤ → List ℕ → List ℤ → Tables
-single kind param vars coefs =
+abbrev pub oneRow : ℕ → ℤ → List ℕ → List ℤ → Tables
+oneRow kind param vars coefs =
     lent (suc (length vars)) 1 (length vars) (kind ∷ []) (length vars ∷ []) (param ∷ []) (0 ∷ []) (length vars ∷ []) vars coefs
 
 -- rows of one input each: 0 made from a, 1 made from b
@@ -109,8 +109,8 @@ abbrev pub itself : Tables
 itself = lent 1 1 1 (3 ∷ []) (0 ∷ []) (zerosZ 1) (0 ∷ []) (1 ∷ []) (0 ∷ []) (ones 1)
 
 -- variable 3 is 1 more than variable 2, and so blank at the top of the range; 4 is ELEMENT of index 0, candidates 1 and 3
-abbrev pub candidates : Tables
-candidates = lent 5 2 4 (1 ∷ 4 ∷ []) (3 ∷ 4 ∷ []) (pos 1 ∷ pos 0 ∷ []) (0 ∷ 1 ∷ []) (1 ∷ 3 ∷ []) (2 ∷ 0 ∷ 1 ∷ 3 ∷ []) (ones 4)
+abbrev pub candidatesModel : Tables
+candidatesModel = lent 5 2 4 (1 ∷ 4 ∷ []) (3 ∷ 4 ∷ []) (pos 1 ∷ pos 0 ∷ []) (0 ∷ 1 ∷ []) (1 ∷ 3 ∷ []) (2 ∷ 0 ∷ 1 ∷ 3 ∷ []) (ones 4)
 
 -- variable 2 is ELEMENT of an index and two candidates, and 3 is made from 2: an input 3 closes a chain
 abbrev pub closing : ℕ → ℕ → ℕ → Tables
@@ -134,41 +134,41 @@ bottom = negsuc 2147483646
 
 -- ── the table ──
 -- a move of variable v to x in model A, with 3, 4 and 5 asked on route 1
-abbrev pub sweeps : ℕ → ℤ → ℤ → ℤ → ℤ → ℕ → Run
+abbrev pub sweeps : ℕ → ℤ → ℤ → ℤ → ℤ → ℕ → PaperRun
 sweeps v x three four five count = tries modelA startA ((v, x) ∷ []) (3 ∷ 4 ∷ 5 ∷ []) 1 (three ∷ four ∷ five ∷ []) count
 
 -- a move of the end in model A, with one variable asked
-abbrev pub asks : ℤ → ℕ → ℕ → ℤ → ℕ → Run
+abbrev pub asks : ℤ → ℕ → ℕ → ℤ → ℕ → PaperRun
 asks end v route z count = tries modelA startA ((1, end) ∷ []) (v ∷ []) route (z ∷ []) count
 
 -- the empty move in model A, with 5 asked
-abbrev pub stays : ℕ → ℕ → Run
+abbrev pub stays : ℕ → ℕ → PaperRun
 stays route count = tries modelA startA [] (5 ∷ []) route (pos 26 ∷ []) count
 
 -- a formula over given values
-abbrev pub gives : ℕ → ℤ → List ℤ → List ℕ → List ℤ → ℤ → Run
-gives kind param coefs vars xs z = tries (single kind param vars coefs) xs [] (length vars ∷ []) 2 (z ∷ []) 1
+abbrev pub gives : ℕ → ℤ → List ℤ → List ℕ → List ℤ → ℤ → PaperRun
+gives kind param coefs vars xs z = tries (oneRow kind param vars coefs) xs [] (length vars ∷ []) 2 (z ∷ []) 1
 
 -- over three values, or one, with coefficients 1
-abbrev pub ofThree : ℕ → ℤ → ℤ → ℤ → ℤ → Run
-ofThree kind a b c z = gives kind (pos 0) (ones 3) (0 ∷ 1 ∷ 2 ∷ []) (a ∷ b ∷ c ∷ []) z
+abbrev pub ofThreeValues : ℕ → ℤ → ℤ → ℤ → ℤ → PaperRun
+ofThreeValues kind a b c z = gives kind (pos 0) (ones 3) (0 ∷ 1 ∷ 2 ∷ []) (a ∷ b ∷ c ∷ []) z
 
-abbrev pub linear : ℤ → ℤ → ℤ → Run
+abbrev pub linear : ℤ → ℤ → ℤ → PaperRun
 linear param coef z = gives 1 param (coef ∷ []) (0 ∷ []) (top ∷ []) z
 
 -- ELEMENT with index i and the candidates 7 and blank
-abbrev pub picks : ℤ → ℤ → ℕ → Run
-picks i z count = tries candidates (i ∷ pos 7 ∷ top ∷ []) [] (4 ∷ []) 2 (z ∷ []) count
+abbrev pub picks : ℤ → ℤ → ℕ → PaperRun
+picks i z count = tries candidatesModel (i ∷ pos 7 ∷ top ∷ []) [] (4 ∷ []) 2 (z ∷ []) count
 
 -- candidate 1 moved to 9 where the other, which is not chosen, closes a chain; 3 asked
-abbrev pub follows : ℕ → Run
-follows route = tries (closing 0 1 3) (pos 0 ∷ pos 7 ∷ []) ((1, pos 9) ∷ []) (3 ∷ []) route (pos 9 ∷ []) 2
+abbrev pub followsChoice : ℕ → PaperRun
+followsChoice route = tries (closing 0 1 3) (pos 0 ∷ pos 7 ∷ []) ((1, pos 9) ∷ []) (3 ∷ []) route (pos 9 ∷ []) 2
 
 -- a move of variable v to x on that Sunday
-abbrev pub moves : ℕ → ℤ → List ℕ → ℕ → List ℤ → ℕ → Run
-moves v x asked route vals count = tries sunday startSunday ((v, x) ∷ []) asked route vals count
+abbrev pub movesSunday : ℕ → ℤ → List ℕ → ℕ → List ℤ → ℕ → PaperRun
+movesSunday v x asked route vals count = tries sunday startSunday ((v, x) ∷ []) asked route vals count
 
-unfoldable pub proved : List Run
+unfoldable pub proved : List PaperRun
 proved =
     builds modelA startA (0 ∷ 0 ∷ 0 ∷ 1 ∷ 1 ∷ 2 ∷ []) (pos 25200 ∷ pos 28800 ∷ pos 600 ∷ pos 6 ∷ pos 28200 ∷ pos 26 ∷ [])
     -- end 28801
@@ -186,10 +186,10 @@ proved =
     ∷ stays 2 2
     ∷ stays 3 0
     -- the widest window
-    ∷ ofThree 8 bottom top (pos 1) blank
-    ∷ ofThree 9 bottom top (pos 1) (pos 2147483646)
-    ∷ ofThree 8 bottom top (pos 2) top
-    ∷ ofThree 9 bottom top (pos 2) (pos 2147483645)
+    ∷ ofThreeValues 8 bottom top (pos 1) blank
+    ∷ ofThreeValues 9 bottom top (pos 1) (pos 2147483646)
+    ∷ ofThreeValues 8 bottom top (pos 2) top
+    ∷ ofThreeValues 9 bottom top (pos 2) (pos 2147483645)
     -- LINEAR at both ends of the range, and a sum that leaves it and comes back
     ∷ linear (pos 0) (pos 1) top
     ∷ linear (pos 1) (pos 1) blank
@@ -197,8 +197,8 @@ proved =
     ∷ linear (negsuc 0) (negsuc 0) blank
     ∷ gives 1 (pos 5) (pos 2 ∷ negsuc 1 ∷ []) (0 ∷ 1 ∷ []) (top ∷ top ∷ []) (pos 5)
     -- SHARED
-    ∷ ofThree 5 (pos 4) (pos 4) (pos 5) (pos 2)
-    ∷ ofThree 5 (pos 4) (pos 4) (pos 4) (pos 3)
+    ∷ ofThreeValues 5 (pos 4) (pos 4) (pos 5) (pos 2)
+    ∷ ofThreeValues 5 (pos 4) (pos 4) (pos 4) (pos 3)
     ∷ gives 5 (pos 0) (ones 1) (0 ∷ []) (pos 4 ∷ []) (pos 0)
     -- ELEMENT
     ∷ picks (pos 0) (pos 7) 1
@@ -208,19 +208,19 @@ proved =
     -- MIN and MAX skip the LAST of an empty window, and need it all the same
     ∷ builds sunday startSunday (0 ∷ 0 ∷ 0 ∷ 0 ∷ 1 ∷ 1 ∷ 2 ∷ 2 ∷ 2 ∷ [])
     (pos 25200 ∷ pos 28800 ∷ pos 600 ∷ pos 25200 ∷ pos 28200 ∷ blank ∷ pos 28200 ∷ pos 28200 ∷ blank ∷ [])
-    ∷ moves 1 (pos 28801) (6 ∷ []) 2 (pos 28800 ∷ []) 3
-    ∷ moves 3 (pos 25201) (6 ∷ 7 ∷ 8 ∷ []) 1 (pos 28200 ∷ pos 25200 ∷ pos 25200 ∷ []) 4
-    ∷ moves 3 (pos 25201) (7 ∷ []) 3 (pos 25200 ∷ []) 2
+    ∷ movesSunday 1 (pos 28801) (6 ∷ []) 2 (pos 28800 ∷ []) 3
+    ∷ movesSunday 3 (pos 25201) (6 ∷ 7 ∷ 8 ∷ []) 1 (pos 28200 ∷ pos 25200 ∷ pos 25200 ∷ []) 4
+    ∷ movesSunday 3 (pos 25201) (7 ∷ []) 3 (pos 25200 ∷ []) 2
     -- with headway 0 all are blank
-    ∷ moves 2 (pos 0) (6 ∷ 7 ∷ 8 ∷ []) 2 (blank ∷ blank ∷ blank ∷ []) 5
+    ∷ movesSunday 2 (pos 0) (6 ∷ 7 ∷ 8 ∷ []) 2 (blank ∷ blank ∷ blank ∷ []) 5
     -- circular
     ∷ refuses (two 1 0) 6 0
     ∷ refuses itself 6 0
     -- ELEMENT closes a chain through a candidate that is not chosen, through one that is, and through its index
     ∷ builds (closing 0 1 3) (pos 0 ∷ pos 7 ∷ []) (0 ∷ 0 ∷ 1 ∷ 1 ∷ []) (pos 0 ∷ pos 7 ∷ pos 7 ∷ pos 7 ∷ [])
-    ∷ follows 1
-    ∷ follows 2
-    ∷ follows 3
+    ∷ followsChoice 1
+    ∷ followsChoice 2
+    ∷ followsChoice 3
     ∷ refuses (closing 0 3 1) 20 2
     ∷ refuses (closing 3 0 1) 6 2
     ∷ []

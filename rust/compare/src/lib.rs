@@ -7,7 +7,7 @@
 //! [`reasons`] asks why values are blank, [`chains`] leads round closed chains, and [`salvages`] saves damaged files. [`versions`] reads and
 //! writes files of version 2, and moves files from one version to the other. [`figures`] has batches of moves in
 //! figures, [`boards`] departure boards, and [`parts`] the inputs of rows. [`tests_of!`] is everything that an engine
-//! must pass.
+//! must pass, besides the [`vectors`]: cases with the lines that must come out of them.
 #![forbid(unsafe_code)]
 #![warn(missing_docs)]
 
@@ -37,6 +37,7 @@ pub mod sessions;
 mod shrink;
 pub mod takings;
 mod tests;
+pub mod vectors;
 pub mod versions;
 
 pub use bounds::{draw_bounds, move_outside, near_a_bound, within};

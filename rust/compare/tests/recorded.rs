@@ -1,9 +1,11 @@
-//! The recording that `crates/replay` replays is what `record` writes today, and misses no case.
+//! The recording in `rust/vectors/replay` is what `record` writes today, and misses no case.
 
 use std::collections::BTreeSet;
-use std::path::{Path, PathBuf};
+use std::path::Path;
 use std::process::Command;
 use std::{env, fs, process};
+
+use compare::vectors::REPLAY;
 
 /// A session of the recording: the bounds, the model file, the calls, and the lines of the read, the build and each call.
 struct Session {
@@ -42,28 +44,27 @@ fn word(bytes: &[u8]) -> (usize, &[u8]) {
     (u32::from_le_bytes(*front) as usize, rest)
 }
 
-/// The crate that replays the recording.
-fn replay() -> PathBuf {
-    Path::new(env!("CARGO_MANIFEST_DIR")).join("../../crates/replay")
-}
-
-/// The files of a recording, by name, with what they hold.
+/// The files of a recording, by name, with what they hold: the sessions, and then their lines.
 fn files(folder: &Path) -> Vec<(String, Vec<u8>)> {
-    let data = fs::read_dir(folder.join("data")).expect("a folder data");
-    let names = data.map(|entry| format!("data/{}", entry.expect("a file").file_name().display()));
-    let mut names: Vec<String> = names.chain(["args", "stdout"].map(String::from)).collect();
-    names.sort();
+    let names = |part: &str| {
+        let files = fs::read_dir(folder.join(part)).expect("a folder of the recording");
+        let mut names: Vec<String> =
+            files.map(|file| format!("{part}/{}", file.expect("a file").file_name().display())).collect();
+        names.sort();
+        names
+    };
     let held = |name: &String| fs::read(folder.join(name)).expect("a file of the recording");
-    names.iter().map(|name| (name.clone(), held(name))).collect()
+    ["data", "expected"].map(names).concat().iter().map(|name| (name.clone(), held(name))).collect()
 }
 
 /// The sessions of the recording.
 fn sessions() -> Vec<Session> {
-    let text = fs::read_to_string(replay().join("stdout")).expect("the lines");
-    let lines: Vec<String> = text.lines().map(String::from).collect();
-    let mut lines = lines.chunk_by(|_, line| !line.starts_with("read "));
+    let files = files(&REPLAY.folder());
+    let (data, expected) = files.split_at(files.len() / 2);
     let mut sessions = Vec::new();
-    for (_, data) in files(&replay()).iter().filter(|(name, _)| name.starts_with("data/")) {
+    for ((_, data), (_, text)) in data.iter().zip(expected) {
+        let lines: Vec<String> = String::from_utf8_lossy(text).lines().map(String::from).collect();
+        let mut lines = lines.chunk_by(|_, line| !line.starts_with("read "));
         let (count, mut bytes) = word(data);
         for _ in 0..count {
             let (length, rest) = word(bytes);
@@ -77,6 +78,7 @@ fn sessions() -> Vec<Session> {
             let bounds = bounds.as_chunks().0.iter().map(|&bound| i32::from_le_bytes(bound)).collect();
             sessions.push(Session { bounds, model: model.to_vec(), calls, lines });
         }
+        assert!(bytes.is_empty() && lines.next().is_none(), "sessions and lines end together");
     }
     sessions
 }
@@ -92,9 +94,9 @@ fn is_up_to_date() {
     let folder = env::temp_dir().join(format!("recording-{}", process::id()));
     let status = Command::new(env!("CARGO_BIN_EXE_record")).arg(&folder).status().expect("record runs");
     assert!(status.success());
-    let [written, stands] = [&folder, &replay()].map(|folder| files(folder));
+    let [written, stands] = [&folder, &REPLAY.folder()].map(|folder| files(folder));
     fs::remove_dir_all(&folder).expect("the folder is there");
-    assert!(written == stands, "crates/replay is out of date: run tools/record");
+    assert!(written == stands, "rust/vectors/replay is out of date: run tools/record");
 }
 
 #[test]

@@ -11,7 +11,7 @@ use mir.Facts.{toZ-ofZ}
 use Rattle.integers.proofs.Bits.{told}
 use Rattle.paper.specs.Lists.{between}
 use Rattle.paper.specs.Formula.{formula}
-use Rattle.inputs.specs.Inputs.{partOf, inputs}
+use Rattle.formulas.specs.Inputs.{partOf, inputs}
 use Rattle.formulas.specs.declared.Worked.{Worked}
 use Rattle.formulas.specs.declared.Worked.the-variants.{Value, NoFormula}
 use Rattle.formulas.specs.Row.{worked}

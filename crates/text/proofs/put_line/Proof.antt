@@ -1,7 +1,7 @@
 -- The six parts of a line are put one behind the other (`put-then`). Assumes nothing.
 use mir.Facts.{toZ-ofZ}
 use borrow.Author.Needs.{needs}
-use Rattle.buffers.proofs.Laid.{put-then}
+use Rattle.text.proofs.Laid.{put-then}
 use Rattle.text.proofs.put_line.Statement.{statement}
 use Rattle.text.proofs.put_line.Tie as tie
 

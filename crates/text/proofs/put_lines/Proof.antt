@@ -8,9 +8,9 @@ use borrow.Author.Needs.{needs, sfits-of}
 use lib.IntN.{pos}
 use lib.ListN.{length, getD}
 use Rattle.paper.specs.Lists.{nat, joined}
-use Rattle.buffers.specs.Buffer.{Put}
+use Rattle.text.specs.Buffer.{Put}
 use Rattle.text.specs.Lines.{line, lines}
-use Rattle.buffers.proofs.Laid.{put-nothing, put-then}
+use Rattle.text.proofs.Laid.{put-nothing, put-then}
 use Rattle.text.proofs.put_lines.Statement.{statement}
 use Rattle.text.proofs.put_lines.Tie as tie
 

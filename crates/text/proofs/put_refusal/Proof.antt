@@ -1,7 +1,7 @@
 -- The five parts of the line are put one behind the other (`put-then`). Assumes nothing.
 use borrow.Author.Needs.{needs}
 use Rattle.text.specs.Lines.{refusal}
-use Rattle.buffers.proofs.Laid.{put-then}
+use Rattle.text.proofs.Laid.{put-then}
 use Rattle.text.proofs.put_refusal.Statement.{statement}
 use Rattle.text.proofs.put_refusal.Tie as tie
 

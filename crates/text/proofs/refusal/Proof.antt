@@ -1,6 +1,6 @@
 -- The text was put from the front on, and the buffer shows it (`put-shows`). Assumes nothing.
 use borrow.Author.Needs.{needs}
-use Rattle.buffers.proofs.Laid.{put-counts, put-shows}
+use Rattle.text.proofs.Laid.{put-counts, put-shows}
 use Rattle.text.proofs.refusal.Statement.{statement}
 use Rattle.text.proofs.refusal.Tie as tie
 

@@ -4,8 +4,8 @@ use borrow.Author.Needs.{needs}
 use lib.Dec.{leb}
 use Rattle.integers.specs.Integers.{eqZ}
 use Rattle.paper.specs.Formula.{blank}
-use Rattle.inputs.specs.Inputs.{inputs}
-use Rattle.inputs.proofs.Reading.{inputs-length}
+use Rattle.formulas.specs.Inputs.{inputs}
+use Rattle.formulas.proofs.Reading.{inputs-length}
 use Rattle.whys.proofs.Tests.{all-tally}
 use Rattle.whys.proofs.all_blank.Statement.{statement}
 use Rattle.whys.proofs.all_blank.Tie as tie

@@ -15,8 +15,8 @@ use Rattle.integers.proofs.Order.{natAbs-away}
 use Rattle.integers.proofs.Ranges.{fits-away}
 use Rattle.paper.specs.Formula.{inputAt}
 use Rattle.paper.specs.Reason.{inside}
-use Rattle.inputs.specs.Inputs.{inputs}
-use Rattle.inputs.proofs.Reading.{inputs-length}
+use Rattle.formulas.specs.Inputs.{inputs}
+use Rattle.formulas.proofs.Reading.{inputs-length}
 use Rattle.whys.proofs.Tests.{Picks, picks, none-picked, one-picked}
 use Rattle.whys.proofs.choice_blank.Statement.{statement}
 use Rattle.whys.proofs.choice_blank.Tie as tie

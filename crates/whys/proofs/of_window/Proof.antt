@@ -9,7 +9,7 @@ use lib.Signed.{leZ}
 use mir.Syntax.{w32}
 use Rattle.integers.proofs.Bits.{told}
 use Rattle.paper.specs.Formula.{someBlank, trips, inputAt}
-use Rattle.inputs.specs.Inputs.{inputs}
+use Rattle.formulas.specs.Inputs.{inputs}
 use Rattle.whys.proofs.Tests.{no-times}
 use Rattle.whys.proofs.of_window.Statement.{statement}
 use Rattle.whys.proofs.of_window.Tie as tie

@@ -4,8 +4,8 @@ use mathlib.Core.Path.{_∙_}
 use borrow.Author.Needs.{needs}
 use mir.Syntax.{w32}
 use Rattle.integers.proofs.Bits.{told}
-use Rattle.inputs.specs.Inputs.{inputs}
-use Rattle.inputs.proofs.Reading.{inputs-length}
+use Rattle.formulas.specs.Inputs.{inputs}
+use Rattle.formulas.proofs.Reading.{inputs-length}
 use Rattle.whys.proofs.Tests.{outside-is}
 use Rattle.whys.proofs.outside.Statement.{statement}
 use Rattle.whys.proofs.outside.Tie as tie

@@ -11,7 +11,7 @@ use lib.ListN.{length}
 use Rattle.paper.specs.Lists.{between}
 use Rattle.paper.specs.Reason.{why}
 use Rattle.paper.proofs.Lists.{and-left, and-right}
-use Rattle.inputs.specs.Inputs.{inputs}
+use Rattle.formulas.specs.Inputs.{inputs}
 use Rattle.whys.proofs.Tests.{of-extremes, of-others}
 use Rattle.whys.proofs.why.Statement.{statement}
 use Rattle.whys.proofs.why.Tie as tie

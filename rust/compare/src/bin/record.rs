@@ -1,41 +1,21 @@
-//! Records random sessions with the answers of the second implementation, for the program `replay` of `crates/`:
-//! `cargo run --release --bin record -- FOLDER` writes `FOLDER/data/sessions-01` and on, `FOLDER/args` and
-//! `FOLDER/stdout`. What it writes is always the same; `tools/record` puts it into the repository.
+//! Records random sessions with the answers of the second implementation: `cargo run --release --bin record -- FOLDER`
+//! writes the sessions to `FOLDER/data/sessions-01` and on, and their lines to `FOLDER/expected/sessions-01` and on.
+//! What it writes is always the same; `tools/record` puts it into the repository.
 //!
-//! A file of the data, little-endian, holds the number of its sessions (4 bytes), and one session after another:
-//!
-//! | bytes | |
-//! |---|---|
-//! | 4, 4 | length L of the model file, number C of calls |
-//! | 64, 64 | the lowest and the highest allowed numbers of 16 variables, 4 bytes each |
-//! | L | the model file, at times damaged |
-//! | 48 C | the calls |
-//!
-//! A trial or a keep is: 1 or 2, route, pairs, asked (4 bytes each), 4 pair variables (2 each), 4 new values (4 each),
-//! 4 asked variables (2 each). What lies beyond pairs or asked means nothing; of a keep route and asked are 0. A change
-//! of one field of what is lent is: 3, row, place, new field (4 bytes each) and zeros. Row 0 is the record, with its moves
-//! kept at place 0 and its number of blanks at place 1; rows 1 to 17 are kinds, made variables, parameters, firsts, counts,
-//! entry variables, coefficients, numbers, order, stored values, of the index of readers the starts and the places, of the
-//! log the sizes, the variables and the values, and the lowest and the highest allowed numbers. A taking back is 4 and
-//! zeros. All keeps and takings back of a session have one log, which the last files try over sessions of many calls; two
-//! of these have narrow bounds. The files before them have models with closed chains. Reasons are not recorded.
-//!
-//! The text has a line `read NUMBER PLACE N M E`; if that is accepted a line `build`; and if that is accepted a line for
-//! each call: `trial`, `keep`, `back` or `change ROW PLACE FIELD`. `build`, `trial`, `keep` and `back` go on with `NUMBER
-//! PLACE EVALUATIONS` and the record's moves kept, evaluations and number of blanks. If they are accepted, the rows that they leave follow,
-//! a bar before each: numbers, order, stored values, and n + 1 starts and e places of the index; results, trial row and
-//! flags; stored values, flags, how many moves the log holds and how many pairs each has, and the variables and the values
-//! of the latest. A blank is `-`.
+//! [`compare::vectors::replay`] says how a session and its lines are laid out. All keeps and takings back of a session
+//! have one log, which the last files try over sessions of many calls; two of these have narrow bounds. The files
+//! before them have models with closed chains. Reasons are not recorded.
 
-use std::fmt::{Display, Write};
 use std::path::Path;
 use std::{env, fs, io};
 
-use compare::{
-    Answer, Call, Case, Engine, Guarded, Random, Second, Sizes, damage, interlined, model, model_of, move_outside,
-    near_a_bound, trial_of, value,
+use compare::vectors::replay::{
+    CALL, MOST, ROWS, build_line, building, call_line, change_line, go_on, put_field, read_line, reading, with_rows,
 };
-use lent::{LOG_SIZES, Session};
+use compare::{
+    Call, Case, Engine, Random, Second, Sizes, damage, interlined, model, model_of, move_outside, near_a_bound,
+    trial_of, value,
+};
 use second::{BLANK, HIGHEST, LOWEST};
 
 /// Where the random numbers start.
@@ -55,30 +35,17 @@ const TURNS: usize = 230;
 const RECOUNTED: usize = 40;
 const NARROW: usize = 3;
 
-/// The longest file that is replayed.
-const LONGEST: usize = 16_384;
-
-/// The rows and variables, the entries, and the pairs or asked variables that the program's buffers have room for.
-const ROWS: usize = 16;
-const ENTRIES: usize = 64;
-const MOST: usize = 4;
-
-/// The bytes of a recorded call.
-const CALL: usize = 48;
-
-/// The record before a build.
-const BEFORE: Session = Session { kept: 7, evaluations: 9, blanks: 11 };
-
 fn main() -> io::Result<()> {
     let folder = env::args().nth(1).ok_or(io::Error::other("record FOLDER"))?;
     let folder = Path::new(&folder);
-    fs::create_dir_all(folder.join("data"))?;
+    for part in ["data", "expected"] {
+        fs::create_dir_all(folder.join(part))?;
+    }
     let mut random = Random::new(SEED);
-    let (mut names, mut lines) = (String::new(), String::new());
     for file in 1..=FILES + CHAINED_FILES + LONG_FILES {
         let long = file > FILES + CHAINED_FILES;
         let sessions = if long { 1 } else { [SESSIONS, CHAINED_SESSIONS][usize::from(file > FILES)] };
-        let mut data = sessions.to_le_bytes().to_vec();
+        let (mut data, mut lines) = (sessions.to_le_bytes().to_vec(), String::new());
         for _ in 0..sessions {
             let recorded = if long {
                 Recording::of_long_session(&mut random, file % 2 == 0)
@@ -88,14 +55,10 @@ fn main() -> io::Result<()> {
             data.extend(recorded.data());
             lines += &recorded.lines;
         }
-        if data.len() > LONGEST {
-            return Err(io::Error::other("more than the program reads"));
-        }
-        names += &format!("sessions-{file:02}\n");
         fs::write(folder.join(format!("data/sessions-{file:02}")), data)?;
+        fs::write(folder.join(format!("expected/sessions-{file:02}")), lines)?;
     }
-    fs::write(folder.join("args"), names)?;
-    fs::write(folder.join("stdout"), lines)
+    Ok(())
 }
 
 /// A session as far as it is recorded.
@@ -112,7 +75,7 @@ struct Recording {
 impl Recording {
     /// The session of a random model, with closed chains or of any kind: a read, a build, and calls one after another.
     fn of_session(random: &mut Random, chained: bool) -> Recording {
-        let file = reading(random, chained);
+        let file = any_reading(random, chained);
         let mut session = Recording { chained, ..Recording::of_file(&file) };
         if let Some(mut model) = session.read_and_build(file) {
             for _ in 0..2 + random.below(11) {
@@ -128,8 +91,8 @@ impl Recording {
         Recording { bounds, file: file.bytes.to_vec(), ..Recording::default() }
     }
 
-    /// A session of so many keeps that the log is full, then takings back among them, until none is left; over it blanks come
-    /// and go. Its bounds are narrow or full.
+    /// A session of so many keeps that the log is full, then takings back among them, until none is left; over it
+    /// blanks come and go. Its bounds are narrow or full.
     fn of_long_session(random: &mut Random, narrow: bool) -> Recording {
         loop {
             let (session, bounded) = Recording::of_keeps_and_takings_back(random);
@@ -148,7 +111,7 @@ impl Recording {
         while model.is_none() {
             let drawn = model_of(random, 12, sizes);
             let length = length_of(&drawn);
-            let file = into_program(written(drawn, length));
+            let file = with_bounds(written(drawn, length));
             session = Recording::of_file(&file);
             model = session.read_and_build(file);
         }
@@ -171,20 +134,14 @@ impl Recording {
     /// Reads and builds; gives the model if both are accepted.
     fn read_and_build(&mut self, file: Case) -> Option<Case> {
         let mut model = file;
-        let Answer { number, place, n, m, e, .. } = Second.answer(&mut model);
-        self.lines += &format!("read {number} {place} {n} {m} {e}\n");
-        if number != 0 {
+        let answer = Second.answer(&mut model);
+        self.line(&read_line(answer));
+        if answer.number != 0 {
             return None;
         }
-        let (n, m, e) = (n as usize, m as usize, e as usize);
-        let full = Case { n: ROWS, m: ROWS, e: ENTRIES, ..model }.with_room();
-        let log_sizes = vec![7; LOG_SIZES].into();
-        model = Case { call: Call::Build, session: BEFORE, n, m, e, log_sizes, ..full }.with_log();
+        model = building(model, answer);
         let answer = Second.answer(&mut model);
-        let index = [row(&model.reader_starts[..=n]), row(&model.reader_places[..e])];
-        let left = [row(&model.numbers[..n]), row(&model.order[..m]), values(&model.stored[..n])];
-        let left = rows(left) + &rows(index);
-        self.told("build", answer, model.session, &left);
+        self.line(&build_line(answer, &model));
         (answer.number == 0).then_some(model)
     }
 
@@ -238,17 +195,9 @@ impl Recording {
         }
         self.calls.extend(bytes_of(&case));
         let answer = Second.answer(&mut case);
-        let (n, flags) = (case.n, row(&case.flags[..case.n]));
-        if name == Call::Trial {
-            let results = values(&case.results[..case.asked.min(MOST)]);
-            self.told("trial", answer, case.session, &rows([results, values(&case.trial[..n]), flags]));
-        } else {
-            let left = rows([values(&case.stored[..n]), flags]) + &rows(log(&case));
-            self.told(if name == Call::Keep { "keep" } else { "back" }, answer, case.session, &left);
-        }
-        let Case { session, stored, reasons, log_sizes, log_vars, log_values, .. } = case;
-        self.recounted += usize::from(session.blanks != model.session.blanks);
-        *model = Case { session, stored, reasons, log_sizes, log_vars, log_values, ..std::mem::take(model) };
+        self.line(&call_line(answer, &case));
+        self.recounted += usize::from(case.session.blanks != model.session.blanks);
+        *model = go_on(std::mem::take(model), case);
     }
 
     /// A change.
@@ -258,20 +207,18 @@ impl Recording {
             self.calls.extend(number.to_le_bytes());
         }
         self.calls.extend([0; CALL - 16]);
-        self.lines += &format!("change {row} {place} {field}\n");
+        self.line(&change_line(row, place, field));
     }
 
-    /// The line of a call, with what it leaves if it is accepted.
-    fn told(&mut self, name: &str, answer: Answer, session: Session, left: &str) {
-        let Answer { number, place, evaluations, .. } = answer;
-        let Session { kept, evaluations: last, blanks } = session;
-        let left = if number == 0 { left } else { "" };
-        self.lines += &format!("{name} {number} {place} {evaluations} {kept} {last} {blanks}{left}\n");
+    /// The next line.
+    fn line(&mut self, line: &str) {
+        self.lines += line;
+        self.lines.push('\n');
     }
 }
 
-/// The read of a random model's file, at times damaged, into tables as long as the program's.
-fn reading(random: &mut Random, chained: bool) -> Case {
+/// The read of a random model's file, at times damaged.
+fn any_reading(random: &mut Random, chained: bool) -> Case {
     let sizes = Sizes { variables: 12, entries: 48, inputs: 5 };
     let mut case = match random.below(16) {
         _ if chained => interlined(random, sizes),
@@ -289,7 +236,7 @@ fn reading(random: &mut Random, chained: bool) -> Case {
     if !chained && random.once_in(8) {
         damage(random, &mut case);
     }
-    into_program(case)
+    with_bounds(case)
 }
 
 /// The length of a model's file.
@@ -304,29 +251,21 @@ fn written(model: Case, length: usize) -> Case {
     Case { call: Call::Read, ..case }
 }
 
-/// A read into tables as long as the program's, with as many bounds.
-fn into_program(mut case: Case) -> Case {
+/// A read into the tables of a session, with as many bounds.
+fn with_bounds(mut case: Case) -> Case {
     case.lows.edit(|lows| lows.resize(ROWS, LOWEST));
     case.highs.edit(|highs| highs.resize(ROWS, HIGHEST));
-    for table in [&mut case.kinds, &mut case.makes, &mut case.firsts, &mut case.counts] {
-        *table = vec![0; ROWS].into();
-    }
-    case.params = vec![0; ROWS].into();
-    case.starts = vec![0; ROWS].into();
-    case.vars = vec![0; ENTRIES].into();
-    case.coefs = vec![0; ENTRIES].into();
-    case
+    reading(case)
 }
 
-/// The case with buffers as long as the program's, and no more pairs and asked variables than they hold.
+/// The case with the rows of a session, and no more pairs and asked variables than they hold.
 fn cut(mut case: Case) -> Case {
     case.pairs = case.pairs.min(MOST);
     case.asked = case.asked.min(MOST);
     case.move_vars.edit(|vars| vars.resize(MOST, 0));
     case.move_values.edit(|values| values.resize(MOST, 0));
     case.asked_vars.edit(|vars| vars.resize(MOST, 0));
-    let why = vec![0; MOST].into();
-    Case { results: vec![0; MOST].into(), trial: vec![0; ROWS].into(), flags: vec![0; ROWS].into(), why, ..case }
+    with_rows(case)
 }
 
 /// Gives some pairs of the move values that choose a candidate, where their bounds allow them.
@@ -371,7 +310,8 @@ fn bytes_of(case: &Case) -> Vec<u8> {
     bytes
 }
 
-/// The numbers of the record, of the stored values, of the log's rows and of the bounds among the rows that a change names.
+/// The numbers of the record, of the stored values, of the log's rows and of the bounds among the rows that a change
+/// names.
 const RECORD: u32 = 0;
 const STORED: u32 = 10;
 const SIZES: u32 = 13;
@@ -436,8 +376,8 @@ impl Change {
         Change { row, place: place as u32, field }
     }
 
-    /// A stored value, which then is not the fresh one, or the first value of the latest logged move, which then may choose
-    /// another candidate.
+    /// A stored value, which then is not the fresh one, or the first value of the latest logged move, which then may
+    /// choose another candidate.
     fn of_chosen(random: &mut Random, model: &Case) -> Change {
         let held = model.logged().checked_sub(1).filter(|&latest| model.log_sizes[latest + 1] > 0);
         match held.filter(|_| random.once_in(2)) {
@@ -462,65 +402,6 @@ impl Change {
 
     /// Makes the change, and gives the field that was there.
     fn put(self, model: &mut Case) -> u32 {
-        let (place, field) = (self.place as usize, self.field);
-        match self.row {
-            RECORD if place == 0 => std::mem::replace(&mut model.session.kept, field),
-            RECORD => std::mem::replace(&mut model.session.blanks, field),
-            1 => put16(&mut model.kinds, place, field),
-            2 => put16(&mut model.makes, place, field),
-            3 => put32(&mut model.params, place, field),
-            4 => put16(&mut model.firsts, place, field),
-            5 => put16(&mut model.counts, place, field),
-            6 => put16(&mut model.vars, place, field),
-            7 => std::mem::replace(&mut model.coefs[place], field as u16 as i16) as u16 as u32,
-            8 => put16(&mut model.numbers, place, field),
-            9 => put16(&mut model.order, place, field),
-            STORED => put32(&mut model.stored, place, field),
-            11 => put16(&mut model.reader_starts, place, field),
-            SIZES => put16(&mut model.log_sizes, place, field),
-            VARS => put16(&mut model.log_vars, place, field),
-            VALUES => put32(&mut model.log_values, place, field),
-            LOWS => put32(&mut model.lows, place, field),
-            HIGHS => put32(&mut model.highs, place, field),
-            _ => put16(&mut model.reader_places, place, field),
-        }
+        put_field(model, self.row, self.place as usize, self.field)
     }
-}
-
-/// The log that an accepted call leaves: how many moves it holds and the pairs of each, and the pairs of the latest.
-fn log(case: &Case) -> [String; 3] {
-    let moves = case.logged();
-    let pairs = usize::from(case.log_sizes[moves]);
-    let first = 64 * moves.saturating_sub(1);
-    let latest = if moves == 0 { 0..0 } else { first..(first + pairs).min(case.log_vars.len()) };
-    [row(&case.log_sizes[..=moves]), row(&case.log_vars[latest.clone()]), values(&case.log_values[latest])]
-}
-
-/// Puts a field of 16 bits, and gives the one that was there.
-fn put16(row: &mut Guarded<u16>, place: usize, field: u32) -> u32 {
-    std::mem::replace(&mut row[place], field as u16).into()
-}
-
-/// Puts a signed field of 32 bits, and gives the one that was there.
-fn put32(row: &mut Guarded<i32>, place: usize, field: u32) -> u32 {
-    std::mem::replace(&mut row[place], field as i32) as u32
-}
-
-/// Rows behind bars.
-fn rows<const ROWS: usize>(rows: [String; ROWS]) -> String {
-    rows.map(|row| format!(" |{row}")).concat()
-}
-
-/// A row of numbers, a blank before each.
-fn row(numbers: &[impl Display]) -> String {
-    numbers.iter().fold(String::new(), |mut row, number| {
-        let _ = write!(row, " {number}");
-        row
-    })
-}
-
-/// A row of values, a blank before each.
-fn values(values: &[i32]) -> String {
-    let shown = |&value: &i32| if value == BLANK { "-".to_string() } else { value.to_string() };
-    row(&values.iter().map(shown).collect::<Vec<_>>())
 }

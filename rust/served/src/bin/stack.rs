@@ -17,22 +17,19 @@ const LEAST: usize = 128 << 10;
 fn main() {
     println!("KiB of stack for the deepest models, on {}:", std::env::consts::ARCH);
     println!("{:<14} {:>5} {:>5}", "", "chain", "ring");
-    let [chains, rings] = [models(), rings()].map(|models| models.iter().map(|model| calls(&Second, model)).collect());
-    for which in 0..calls(&Second, &models()[0]).len() {
-        println!("{:<14} {:>5} {:>5}", named(&chains, which), least_of(&chains, which), least_of(&rings, which));
+    let [chains, rings] = [models(), rings()].map(|models| every_call(&models));
+    for (which, (name, _)) in chains[0].iter().enumerate() {
+        println!("{name:<14} {:>5} {:>5}", least_of(&chains, which), least_of(&rings, which));
     }
 }
 
 /// Every call on each of some models, by name.
-type Calls = Vec<[(&'static str, Case); 13]>;
-
-/// The name of a call.
-fn named(models: &Calls, which: usize) -> &'static str {
-    models[0][which].0
+fn every_call(models: &[Case]) -> Vec<Vec<(&'static str, Case)>> {
+    models.iter().map(|model| calls(&Second, model).to_vec()).collect()
 }
 
 /// The least stack on which a call is answered on all models, in KiB.
-fn least_of(models: &Calls, which: usize) -> usize {
+fn least_of(models: &[Vec<(&'static str, Case)>], which: usize) -> usize {
     let cases: Vec<&Case> = models.iter().map(|calls| &calls[which].1).collect();
     least(LEAST / STEP..STACK / STEP + 1, &cases) * STEP / 1024
 }

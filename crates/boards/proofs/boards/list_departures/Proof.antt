@@ -4,7 +4,7 @@ use lib.ListN.{length}
 use borrow.Author.Needs.{needs}
 use Rattle.paper.specs.Checks.{accepted, refused}
 use Rattle.times.specs.Windows.{Board, lends, list, boardVerdict}
-use Rattle.boards.specs.Board.{answered}
+use Rattle.boards.specs.Board.{listedBy}
 use Rattle.boards.proofs.Judging.{passed, accepted-is, refused-is, board-meets}
 use Rattle.boards.proofs.boards.list_departures.Statement.{statement}
 use Rattle.boards.proofs.boards.list_departures.Tie as tie
@@ -46,7 +46,7 @@ same-length-2 c = search needs
 returns-2 : tie.Need-returns-2
 returns-2 c =
     let e = c .before .before .before in let b = b₅ e in
-    board-meets b _ _ accepted (good e) (e .before .before .judge .ensures ∙ ap (λ v. answered v (length (list b))) (good e)) (c .before .write-list .ensures)
+    board-meets b _ _ accepted (good e) (e .before .before .judge .ensures ∙ ap (λ v. listedBy v (length (list b))) (good e)) (c .before .write-list .ensures)
 
 pub list-departures-spec : {M : Type 1} → statement M
 list-departures-spec =

@@ -11,7 +11,7 @@ use mir.Val.{SFits, toZ, ofZ}
 use mir.Facts.{toZ-ofZ}
 use Rattle.paper.specs.Formula.{strict}
 use Rattle.times.specs.Windows.{Board, lends, start, end, headway, timesBelow}
-use Rattle.boards.specs.Counting.{counted}
+use Rattle.boards.specs.Counting.{countedOn}
 use Rattle.boards.proofs.Counts.{counted-on}
 use Rattle.boards.proofs.trips.count_departures.Statement.{statement}
 use Rattle.boards.proofs.trips.count_departures.Tie as tie
@@ -74,7 +74,7 @@ loop-less c = search needs
 loop-again : tie.Need-loop-again Inv-loop μ-loop
 loop-again c =
     let s = c .before .before .before .before .before .before .before in let l = c .before .before .before .before .before .before .loop in (
-      c .counted-on .ensures ∙ ap (counted (l .count)) (given (c .before)) ∙ counted-on (windows s) (l .i) (l .count) (s .pre .1 .good (l .i) (omega arith)) (l .inv .0),
+      c .counted-on .ensures ∙ ap (countedOn (l .count)) (given (c .before)) ∙ counted-on (windows s) (l .i) (l .count) (s .pre .1 .good (l .i) (omega arith)) (l .inv .0),
       omega arith,
     )
 

@@ -2,7 +2,7 @@
 use mathlib.Core.List.{List}
 use mathlib.Core.Path.{_≡_, ap, _∙_}
 use lib.IntN.{ℤ}
-use Rattle.boards.specs.Board.{Left, left}
+use Rattle.boards.specs.Board.{BoardLeft, leftByBoard}
 use Rattle.boards.specs.declared.Listed.{Listed}
 use Rattle.capi.specs.declared.ListOutcome.{ListOutcome}
 use Rattle.capi.specs.Products.{listInNumbers, listedOut}
@@ -11,7 +11,7 @@ use Rattle.capi.proofs.departures.lukhandro_departures.Statement.{state
 use Rattle.capi.proofs.departures.lukhandro_departures.Tie as tie
 
 -- the answer put as numbers beside the row
-put : {r : ListOutcome} {told : Listed} {list : List ℤ} {l : Left} → r ≡ listInNumbers told → left told list ≡ l → (r, list) ≡ listedOut l
+put : {r : ListOutcome} {told : Listed} {list : List ℤ} {l : BoardLeft} → r ≡ listInNumbers told → leftByBoard told list ≡ l → (r, list) ≡ listedOut l
 put {list} e f = ap (λ (x : ListOutcome). (x, list)) e ∙ ap listedOut f
 
 list-departures-requires : tie.Need-list-departures-requires

@@ -3,7 +3,7 @@ use mathlib.Core.Path.{ap, sym}
 use Rattle.paper.specs.Calls.{answered}
 use Rattle.files.specs.Answers.{verdict}
 use Rattle.files.specs.declared.Written.{Written}
-use Rattle.answers.specs.Outcomes.{inNumbers}
+use Rattle.records.specs.Outcomes.{inNumbers}
 use borrow.Author.Needs.{needs}
 use Rattle.capi.proofs.file.written_numbers.Statement.{statement}
 use Rattle.capi.proofs.file.written_numbers.Tie as tie

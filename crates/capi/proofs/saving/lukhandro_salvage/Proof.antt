@@ -2,7 +2,7 @@
 use Prim.Native.Nat.{ℕ}
 use mathlib.Core.List.{List}
 use mathlib.Core.Path.{_≡_, ap, _∙_}
-use Rattle.salvage.specs.Salvage.{Left, left}
+use Rattle.salvage.specs.Salvage.{SalvageLeft, leftBySalvage}
 use Rattle.salvage.specs.declared.Salvaged.{Salvaged}
 use Rattle.capi.specs.declared.SalvageOutcome.{SalvageOutcome}
 use Rattle.capi.specs.Outcomes.{salvageInNumbers, salvagedOut}
@@ -11,7 +11,7 @@ use Rattle.capi.proofs.saving.lukhandro_salvage.Statement.{statement}
 use Rattle.capi.proofs.saving.lukhandro_salvage.Tie as tie
 
 -- the answer put as numbers beside the two buffers
-put : {r : SalvageOutcome} {told : Salvaged} {file list : List ℕ} {l : Left} → r ≡ salvageInNumbers told → left told file list ≡ l → (r, (file, list)) ≡ salvagedOut l
+put : {r : SalvageOutcome} {told : Salvaged} {file list : List ℕ} {l : SalvageLeft} → r ≡ salvageInNumbers told → leftBySalvage told file list ≡ l → (r, (file, list)) ≡ salvagedOut l
 put {file} {list} e f = ap (λ (x : SalvageOutcome). (x, (file, list))) e ∙ ap salvagedOut f
 
 salvage-requires : tie.Need-salvage-requires

@@ -11,7 +11,7 @@ use mir.Facts.{toZ-ofZ}
 use Rattle.integers.specs.Integers.{eqZ}
 use Rattle.paper.specs.Formula.{blank, lesser, greater}
 use Rattle.figures.specs.Figures.{oneOf}
-use Rattle.figures.specs.Adding.{given}
+use Rattle.figures.specs.Adding.{resultGiven}
 use Rattle.figures.proofs.Adding.{bit-low}
 use Rattle.figures.proofs.add.add.Statement.{statement}
 use Rattle.figures.proofs.add.add.Tie as tie
@@ -49,7 +49,7 @@ add-t14 c = let s = c .before .before .before .before .before .before .before .b
 returns : tie.Need-returns
 returns c =
     let s = c .before .before .before .before .before .before .before .before .before .before .before .before .before .before .before .before .before .before .before in let t = s .args .totals in let o = s .args .outcome in
-    let given-is = toZ-ofZ (sfits-of (c .before .before .before .before .before .before .before .before .before .before .before .before .before .before .before .before .before .given-by .ok)) ∙ c .before .before .before .before .before .before .before .before .before .before .before .before .before .before .before .before .before .given-by .ensures ∙ ap (given (o .number)) (toZ-ofZ {w = w32} {z = o .result} (record { sfits = c .before .before .before .before .before .before .before .before .before .before .before .before .before .before .before .before .before .before .struct-told .given .1 .0 .1 })) in
+    let given-is = toZ-ofZ (sfits-of (c .before .before .before .before .before .before .before .before .before .before .before .before .before .before .before .before .before .given-by .ok)) ∙ c .before .before .before .before .before .before .before .before .before .before .before .before .before .before .before .before .before .given-by .ensures ∙ ap (resultGiven (o .number)) (toZ-ofZ {w = w32} {z = o .result} (record { sfits = c .before .before .before .before .before .before .before .before .before .before .before .before .before .before .before .before .before .before .struct-told .given .1 .0 .1 })) in
     let blank-is = c .before .before .before .before .before .before .before .before .before .before .before .before .before .before .is-blank .ensures ∙ ap (λ z. eqZ z blank) (toZ-ofZ {w = w32} {z = o .result} (record { sfits = c .before .before .before .before .before .before .before .before .before .before .before .before .before .before .before .struct-told2 .given .1 .0 .1 })) in
     let bit-is = c .before .before .before .before .before .before .before .before .before .before .before .before .before .one-if .ensures ∙ ap (λ b. cond (eqb (o .number) 0 && b) 1 0) blank-is in
     let least-is = toZ-ofZ (sfits-of (c .before .before .before .before .before .before .before .before .before .before .one-of .ok)) ∙ c .before .before .before .before .before .before .before .before .before .before .one-of .ensures ∙ ap₂ (oneOf lesser) (toZ-ofZ {w = w32} {z = t .least} (record { sfits = c .before .before .before .before .before .before .before .before .before .before .before .struct-told3 .given .1 .0 .1 })) given-is in

@@ -1,7 +1,7 @@
 -- The test is the one of the definition; past it all moves are tried, and short of it nothing is written. Assumes nothing.
 use borrow.Author.Tests.{not-true, not-false}
 use Rattle.paper.specs.Calls.{Session, Model}
-use Rattle.fits.specs.Lent.{toModel}
+use Rattle.verdicts.specs.Lent.{toModel}
 use Rattle.records.specs.Left.{recordIn}
 use Rattle.figures.specs.Figures.{Batch, batchOf}
 use Rattle.figures.proofs.Called.{fits-known, figures-refused, figures-accepted}

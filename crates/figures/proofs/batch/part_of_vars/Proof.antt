@@ -1,5 +1,5 @@
 -- The two ends are held within the row, which leaves what there is of the part (`cut-within`). Assumes nothing.
-use Rattle.tables.proofs.Parts.{cut-within}
+use Rattle.tables.proofs.Cut.{cut-within}
 use borrow.Author.Needs.{needs}
 use Rattle.figures.proofs.batch.part_of_vars.Statement.{statement}
 use Rattle.figures.proofs.batch.part_of_vars.Tie as tie

@@ -4,10 +4,10 @@ use native.Mathlib.Omega.{arith}
 use mathlib.Core.Path.{ap₂, _∙_}
 use borrow.Author.Needs.{needs}
 use Rattle.paper.specs.Calls.{Session, Model}
-use Rattle.moves.specs.Moves.{moveOf}
-use Rattle.fits.specs.Lent.{toModel}
+use Rattle.checks.specs.Moves.{moveOf}
+use Rattle.verdicts.specs.Lent.{toModel}
 use Rattle.records.specs.Left.{recordIn}
-use Rattle.outcomes.specs.Outcomes.{outcome}
+use Rattle.figures.specs.Outcomes.{outcome}
 use Rattle.figures.specs.Figures.{Batch, batchOf}
 use Rattle.figures.proofs.Going.{cleared-long, Going, going-start, going-next, going-long, going-few, going-room, going-end}
 use Rattle.figures.proofs.batch.try_all.Statement.{statement}

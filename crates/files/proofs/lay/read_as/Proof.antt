@@ -1,7 +1,8 @@
 -- What is refused changes nothing (`nothing-read`); else each column is laid over its row, and the file is long enough for all (`all-read`). Assumes nothing.
 use Prim.Native.Nat.{_+_, _*_}
 use native.Mathlib.Omega.{arith}
-use mathlib.Core.Path.{_≡_, refl, _∙_}
+use mathlib.Core.Path.{_≡_, _∙_}
+use borrow.Author.Needs.{needs}
 use lib.ListN.{length}
 use Rattle.paper.specs.Tables.{lent}
 use Rattle.paper.specs.File.{Contents, contents, headOf, bounded, boundsFrom, countedAs}
@@ -33,43 +34,43 @@ says c =
     (held-as-facts (a .bounds) (model c) (r .0), r .1 ∙ ends-is (a .bounds) (t .n) (t .m) (t .e))
 
 judge-reading-requires : tie.Need-judge-reading-requires
-judge-reading-requires c κs = tt
+judge-reading-requires c κs = search needs
 
 enum-known-told : tie.Need-enum-known-told
-enum-known-told c = c .match .keys1
+enum-known-told c = search needs
 
 enum-told : tie.Need-enum-told
-enum-told c = c .match .keys2
+enum-told c = search needs
 
 same-length : tie.Need-same-length
-same-length c = refl
+same-length c = search needs
 
 same-length-2 : tie.Need-same-length-2
-same-length-2 c = refl
+same-length-2 c = search needs
 
 same-length-3 : tie.Need-same-length-3
-same-length-3 c = refl
+same-length-3 c = search needs
 
 same-length-4 : tie.Need-same-length-4
-same-length-4 c = refl
+same-length-4 c = search needs
 
 same-length-5 : tie.Need-same-length-5
-same-length-5 c = refl
+same-length-5 c = search needs
 
 same-length-6 : tie.Need-same-length-6
-same-length-6 c = refl
+same-length-6 c = search needs
 
 same-length-7 : tie.Need-same-length-7
-same-length-7 c = refl
+same-length-7 c = search needs
 
 same-length-8 : tie.Need-same-length-8
-same-length-8 c = refl
+same-length-8 c = search needs
 
 same-length-9 : tie.Need-same-length-9
-same-length-9 c = refl
+same-length-9 c = search needs
 
 same-length-10 : tie.Need-same-length-10
-same-length-10 c = refl
+same-length-10 c = search needs
 
 returns : tie.Need-returns
 returns c =
@@ -77,13 +78,13 @@ returns c =
     nothing-read (s .args .bounds) (s .args .bytes .now) (given s) (c .before .before .judge-reading .ensures) (c .enum-told .given .1)
 
 head-length-requires : tie.Need-head-length-requires
-head-length-requires c κs = tt
+head-length-requires c κs = search needs
 
 bounds-at-requires : tie.Need-bounds-at-requires
 bounds-at-requires c κs = let h = says (c .before) in omega (arith, c .head-length .ensures)
 
 bounded-count-requires : tie.Need-bounded-count-requires
-bounded-count-requires c κs = tt
+bounded-count-requires c κs = search needs
 
 lay-starts-requires : tie.Need-lay-starts-requires
 lay-starts-requires c κs = let h = says (c .before .before .before .before) in omega (arith, c .before .before .before .head-length .ensures)
@@ -98,34 +99,34 @@ lay-bounds-requires : tie.Need-lay-bounds-requires
 lay-bounds-requires c κs = let h = says (c .before .before .before .before .before .before .before .before .before .before .before .before .before .before .before .before .before .before .before .before .before .before .before .before .before .before .before .before .before) in omega (arith, c .before .before .before .before .before .before .before .before .before .before .before .before .before .before .before .before .before .before .before .before .before .before .before .before .before .before .before .before .head-length .ensures, c .before .before .before .before .before .before .before .before .before .before .before .before .before .before .before .before .before .before .before .before .before .before .before .before .before .before .before .bounds-at .ensures, c .before .before .before .before .before .before .before .before .before .before .before .before .before .before .before .before .before .before .before .before .before .before .before .before .before .before .bounded-count .ensures)
 
 same-length-11 : tie.Need-same-length-11
-same-length-11 c = c .before .before .before .before .before .before .before .before .before .before .before .before .before .before .before .before .before .before .before .before .before .before .before .before .before .before .starts .given
+same-length-11 c = search needs
 
 same-length-12 : tie.Need-same-length-12
-same-length-12 c = c .before .before .before .before .before .before .before .before .before .before .before .before .before .before .before .before .before .before .before .kinds .given
+same-length-12 c = search needs
 
 same-length-13 : tie.Need-same-length-13
-same-length-13 c = c .before .before .before .before .before .before .before .before .before .before .before .before .before .before .before .before .before .makes .given
+same-length-13 c = search needs
 
 same-length-14 : tie.Need-same-length-14
-same-length-14 c = c .before .before .before .before .before .before .before .before .before .before .before .before .before .before .before .params .given
+same-length-14 c = search needs
 
 same-length-15 : tie.Need-same-length-15
-same-length-15 c = c .before .before .before .before .before .before .before .before .before .before .before .before .before .before .firsts .given
+same-length-15 c = search needs
 
 same-length-16 : tie.Need-same-length-16
-same-length-16 c = c .before .before .before .before .before .before .before .before .before .before .before .before .counts .given
+same-length-16 c = search needs
 
 same-length-17 : tie.Need-same-length-17
-same-length-17 c = c .before .before .before .before .before .before .before .vars .given
+same-length-17 c = search needs
 
 same-length-18 : tie.Need-same-length-18
-same-length-18 c = c .before .before .before .before .before .coefs .given
+same-length-18 c = search needs
 
 same-length-19 : tie.Need-same-length-19
-same-length-19 c = c .before .lows .given
+same-length-19 c = search needs
 
 same-length-20 : tie.Need-same-length-20
-same-length-20 c = c .highs .given
+same-length-20 c = search needs
 
 returns-2 : tie.Need-returns-2
 returns-2 c =

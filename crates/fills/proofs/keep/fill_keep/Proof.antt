@@ -4,8 +4,8 @@ use native.Mathlib.Omega.{arith}
 use mathlib.Core.Path.{refl, sym, _∙_}
 use Rattle.paper.specs.Tables.{Tables, Index, indexIn, lent}
 use Rattle.paper.specs.Calls.{Kept}
-use Rattle.fits.specs.Lent.{toKeep}
-use Rattle.fills.proofs.Writes.{held, count-fits, keep-filled}
+use Rattle.verdicts.specs.Lent.{toKeep}
+use Rattle.fills.proofs.Written.{held, count-fits, keep-filled}
 use Rattle.fills.proofs.Ran.{moves-long, begun, running, named}
 use Rattle.fills.proofs.keep.fill_keep.Statement.{statement}
 use Rattle.fills.proofs.keep.fill_keep.Tie as tie

@@ -5,8 +5,8 @@ use mathlib.Core.Path.{sym, _∙_}
 use borrow.Author.Needs.{needs}
 use Rattle.paper.specs.Tables.{Tables, Index, indexIn, lent}
 use Rattle.paper.specs.Calls.{Tried, Kept}
-use Rattle.fits.specs.Lent.{toTry}
-use Rattle.fills.proofs.Writes.{held, count-fits, asked-long, asked-within, trial-filled}
+use Rattle.verdicts.specs.Lent.{toTry}
+use Rattle.fills.proofs.Written.{held, count-fits, asked-long, asked-within, trial-filled}
 use Rattle.fills.proofs.Ran.{moves-long, begun, running, named}
 use Rattle.fills.proofs.trial.fill_trial.Statement.{statement}
 use Rattle.fills.proofs.trial.fill_trial.Tie as tie

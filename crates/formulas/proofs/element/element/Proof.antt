@@ -17,8 +17,8 @@ use Rattle.integers.proofs.Order.{natAbs-away}
 use Rattle.integers.proofs.Ranges.{fits-away}
 use Rattle.integers.proofs.Bits.{lt-read, nat-of, told}
 use Rattle.paper.specs.Formula.{blank, inputAt, element}
-use Rattle.inputs.specs.Inputs.{inputs}
-use Rattle.inputs.proofs.Reading.{inputs-length}
+use Rattle.formulas.specs.Inputs.{inputs}
+use Rattle.formulas.proofs.Reading.{inputs-length}
 use Rattle.formulas.proofs.element.element.Statement.{statement}
 use Rattle.formulas.proofs.element.element.Tie as tie
 

@@ -11,7 +11,7 @@ use mir.Facts.{toZ-ofZ}
 use Rattle.integers.specs.Integers.{away, eqZ}
 use Rattle.integers.proofs.Bits.{cast-fits, cast-is, told}
 use Rattle.paper.specs.Formula.{blank, fit, inputAt}
-use Rattle.inputs.specs.Inputs.{inputs}
+use Rattle.formulas.specs.Inputs.{inputs}
 use Rattle.formulas.proofs.Sums.{Summed, summed-none, summed-blank, summed-next, summed-all, term-room}
 use Rattle.formulas.proofs.linear.linear.Statement.{statement}
 use Rattle.formulas.proofs.linear.linear.Tie as tie

@@ -4,7 +4,7 @@ use borrow.Author.Needs.{needs}
 use mir.Syntax.{w32}
 use Rattle.integers.proofs.Bits.{told}
 use Rattle.paper.specs.Formula.{inputAt, excess}
-use Rattle.inputs.specs.Inputs.{inputs}
+use Rattle.formulas.specs.Inputs.{inputs}
 use Rattle.formulas.proofs.over.over.Statement.{statement}
 use Rattle.formulas.proofs.over.over.Tie as tie
 

@@ -6,7 +6,7 @@ use mir.Val.{toZ, ofZ}
 use mir.Facts.{toZ-ofZ}
 use Rattle.integers.specs.Integers.{eqZ}
 use Rattle.integers.proofs.Bits.{told}
-use Rattle.inputs.proofs.Counting.{tally-most}
+use Rattle.formulas.proofs.Counting.{tally-most}
 use Rattle.formulas.proofs.places.count.Statement.{statement}
 use Rattle.formulas.proofs.places.count.Tie as tie
 

@@ -5,8 +5,8 @@ use lib.Dec.{leb}
 use mir.Syntax.{w32}
 use Rattle.integers.proofs.Bits.{told}
 use Rattle.paper.specs.Formula.{places}
-use Rattle.inputs.specs.Inputs.{inputs}
-use Rattle.inputs.proofs.Counting.{tally-most}
+use Rattle.formulas.specs.Inputs.{inputs}
+use Rattle.formulas.proofs.Counting.{tally-most}
 use Rattle.formulas.proofs.places.shared.Statement.{statement}
 use Rattle.formulas.proofs.places.shared.Tie as tie
 

@@ -6,7 +6,7 @@ use borrow.Author.Needs.{needs}
 use lib.IntN.{ℤ}
 use lib.ListN.{length, take}
 use Rattle.paper.specs.Formula.{sharing}
-use Rattle.inputs.proofs.Reading.{inputs-length}
+use Rattle.formulas.proofs.Reading.{inputs-length}
 use Rattle.formulas.proofs.places.sharing.Statement.{statement}
 use Rattle.formulas.proofs.places.sharing.Tie as tie
 

@@ -5,7 +5,7 @@ use borrow.Author.Needs.{needs}
 use mir.Syntax.{w32}
 use Rattle.integers.proofs.Bits.{told}
 use Rattle.paper.specs.Formula.{departures, last}
-use Rattle.inputs.specs.Inputs.{inputs}
+use Rattle.formulas.specs.Inputs.{inputs}
 use Rattle.formulas.specs.Row.{ofThree}
 use Rattle.formulas.proofs.window.window.Statement.{statement}
 use Rattle.formulas.proofs.window.window.Tie as tie

@@ -10,8 +10,8 @@ use borrow.Author.Needs.{needs}
 use Rattle.paper.specs.Lists.{nat, size}
 use Rattle.order.specs.Numbering.{partAt}
 use Rattle.order.proofs.Visits.{left-next, left-none}
-use Rattle.stacks.specs.Stack.{Waits, askedAt, firstNumber, Best}
-use Rattle.groups.specs.Walk.{fresh}
+use Rattle.groups.specs.Stack.{Waits, askedAt, firstNumber, Best}
+use Rattle.groups.specs.Walk.{unentered}
 use Rattle.groups.proofs.Entering.{Begun, enter-room, enter-begun, enter-state}
 use Rattle.groups.proofs.Going.{Going, visited-known, going-start, going-at, going-less, going-link, going-next, going-step, going-back}
 use Rattle.groups.proofs.Closing.{First, first-of, number-short, closes}
@@ -20,16 +20,16 @@ use borrow.Fn.PlainCycle.{Measures, is, falls, and}
 use Rattle.groups.proofs.walk.visit.Reads as visit
 use Rattle.groups.proofs.walk.visit.Kinds as visit-kinds
 use Rattle.groups.proofs.walk.+visit.Lts-visit as visit-lts
-use Rattle.stacks.proofs.enter.Reads as enter-reads
-use Rattle.stacks.proofs.group_number.Reads as group-number-reads
-use Rattle.stacks.proofs.mark_group.Reads as mark-group-reads
-use Rattle.naturals.proofs.smaller.Reads as smaller-reads
+use Rattle.groups.proofs.stacks.enter.Reads as enter-reads
+use Rattle.groups.proofs.stacks.group_number.Reads as group-number-reads
+use Rattle.groups.proofs.stacks.mark_group.Reads as mark-group-reads
+use Rattle.integers.proofs.naturals.smaller.Reads as smaller-reads
 use Rattle.integers.proofs.wide.Reads as wide-reads
 use Rattle.groups.proofs.walk.+visit.{statement}
 use Rattle.groups.proofs.walk.+visit.Tie.{close}
 
 abbrev μ-visit : Measures 6 visit-kinds.ps ℕ
-μ-visit κs a = size (fresh (a .1 .1 .1 .1 .1 .0 .now)) (a .1 .0)
+μ-visit κs a = size (unentered (a .1 .1 .1 .1 .1 .0 .now)) (a .1 .0)
 
 abbrev visit-at : ℕ → In 6 visit-kinds.ps
 visit-at t = and 6 visit-kinds.ps (is 6 visit-kinds.ps μ-visit t) visit.Pre

@@ -4,13 +4,13 @@ use mathlib.Core.Path.{_≡_}
 use native.Mathlib.Omega.{arith}
 use borrow.Author.Needs.{needs}
 use Rattle.order.specs.Numbering.{partAt}
-use Rattle.groups.specs.Walk.{Swept}
+use Rattle.groups.specs.Walk.{EnteredBelow}
 use Rattle.groups.proofs.Sweeping.{swept-start, swept-leading, swept-step}
 use Rattle.groups.proofs.walk.visit_all.Statement.{statement}
 use Rattle.groups.proofs.walk.visit_all.Tie as tie
 
 abbrev Inv-loop : tie.InvT-loop
-Inv-loop n begins stops vars marks₀ stack₀ numbers₀ v₀ marks stack numbers v = (v ≤ n) × Swept n (partAt begins stops vars) v marks stack numbers
+Inv-loop n begins stops vars marks₀ stack₀ numbers₀ v₀ marks stack numbers v = (v ≤ n) × EnteredBelow n (partAt begins stops vars) v marks stack numbers
 
 abbrev μ-loop : tie.MeasureT-loop
 μ-loop n begins stops vars marks₀ stack₀ numbers₀ v₀ marks stack numbers v = n - v

@@ -6,7 +6,7 @@ use lib.ListN.{take, drop}
 use borrow.Author.Needs.{needs}
 use Rattle.paper.specs.Lists.{nat}
 use Rattle.paper.proofs.Scan.{Scan, scan-start, part-same}
-use Rattle.ascents.proofs.Climbs.{holds-all}
+use Rattle.order.proofs.Climbs.{holds-all}
 use Rattle.order.specs.Formed.{bare}
 use Rattle.order.specs.Numbering.{madeRight, Inputs, above}
 use Rattle.order.proofs.ByRows.{part-below}

@@ -9,7 +9,7 @@ use lib.ListN.{length}
 use lib.Seq.{slice}
 use borrow.Author.Needs.{needs}
 use Rattle.paper.specs.Lists.{size}
-use Rattle.order.specs.Numbering.{partAt, fresh, Visited}
+use Rattle.order.specs.Numbering.{partAt, unvisited, NumberVisit}
 use Rattle.order.proofs.Visits.{left-next, left-none, visited-known, Begun, Going, going-start, going-less, going-fail, going-small, going-end, going-step}
 use borrow.Fn.Kinds.{In}
 use borrow.Fn.PlainCycle.{Measures, is, falls, and}
@@ -17,12 +17,12 @@ use Rattle.order.proofs.visit.visit.Reads as visit
 use Rattle.order.proofs.visit.visit.Kinds as visit-kinds
 use Rattle.order.proofs.visit.+visit.Lts-visit as visit-lts
 use Rattle.integers.proofs.wide.Reads as wide-reads
-use Rattle.naturals.proofs.larger.Reads as larger-reads
+use Rattle.integers.proofs.naturals.larger.Reads as larger-reads
 use Rattle.order.proofs.visit.+visit.{statement}
 use Rattle.order.proofs.visit.+visit.Tie.{close}
 
 abbrev μ-visit : Measures 4 visit-kinds.ps ℕ
-μ-visit κs a = size (fresh (a .1 .1 .1 .1 .1 .0 .now)) (a .1 .0)
+μ-visit κs a = size (unvisited (a .1 .1 .1 .1 .1 .0 .now)) (a .1 .0)
 
 abbrev visit-at : ℕ → In 4 visit-kinds.ps
 visit-at t = and 4 visit-kinds.ps (is 4 visit-kinds.ps μ-visit t) visit.Pre
@@ -144,7 +144,7 @@ visit-visit-requires t c κs =
 -- it has been visited, before or now
 visit-found : (t : ℕ) (j : visit-lts.Joined2 (told t) (visit-at t) visit.Post visit-Inv-loop visit-μ-loop)
     → let w = j .before .before .before in let l = w .before .before .before in let a = start t l .args in
-    Visited (a .n) (partAt (a .begins .now) (a .stops .now) (a .vars .now)) (w .wide4 .result) (l .loop .state) (j .if2 .state) (j .if2 .found)
+    NumberVisit (a .n) (partAt (a .begins .now) (a .stops .now) (a .vars .now)) (w .wide4 .result) (l .loop .state) (j .if2 .state) (j .if2 .found)
 visit-found t j =
     let l = j .before .before .before .before .before .before in
     ⊎-elim

@@ -3,13 +3,13 @@ use Prim.Native.Nat.{_≤_, _-_}
 use mathlib.Core.Path.{_≡_}
 use native.Mathlib.Omega.{arith}
 use borrow.Author.Needs.{needs}
-use Rattle.order.specs.Numbering.{partAt, Swept}
+use Rattle.order.specs.Numbering.{partAt, NumberedBelow}
 use Rattle.order.proofs.Sweeps.{swept-step}
 use Rattle.order.proofs.visit.visit_all.Statement.{statement}
 use Rattle.order.proofs.visit.visit_all.Tie as tie
 
 abbrev Inv-loop : tie.InvT-loop
-Inv-loop n begins stops vars state₀ v₀ state v = (v ≤ n) × Swept n (partAt begins stops vars) v state
+Inv-loop n begins stops vars state₀ v₀ state v = (v ≤ n) × NumberedBelow n (partAt begins stops vars) v state
 
 abbrev μ-loop : tie.MeasureT-loop
 μ-loop n begins stops vars state₀ v₀ state v = n - v

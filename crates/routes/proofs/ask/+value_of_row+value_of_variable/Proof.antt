@@ -25,8 +25,8 @@ use Rattle.routes.proofs.ask.value_of_variable.Reads as value-of-variab
 use Rattle.routes.proofs.ask.value_of_variable.Kinds as value-of-variable-kinds
 use Rattle.routes.proofs.ask.+value_of_row+value_of_variable.Lts-value_of_variable as value-of-variable-lts
 use Rattle.integers.proofs.wide.Reads as wide-reads
-use Rattle.steps.proofs.next_place.Reads as next-place-reads
-use Rattle.steps.proofs.waits.Reads as waits-reads
+use Rattle.rows.proofs.steps.next_place.Reads as next-place-reads
+use Rattle.rows.proofs.steps.waits.Reads as waits-reads
 use Rattle.routes.proofs.row.row_value.Reads as row-value-reads
 use Rattle.routes.proofs.ask.+value_of_row+value_of_variable.{statement}
 use Rattle.routes.proofs.ask.+value_of_row+value_of_variable.Tie.{close}

@@ -6,7 +6,7 @@ use mathlib.Core.Logic.{⊎-elim}
 use mathlib.Core.Path.{_≡_, refl, sym, _∙_, subst}
 use lib.ListN.{length, drop}
 use borrow.Author.Needs.{needs}
-use Rattle.marks.proofs.Members.{at-place}
+use Rattle.routes.proofs.Members.{at-place}
 use Rattle.routes.specs.Routed.{passEach}
 use Rattle.routes.proofs.Flags.{pass-next, pass-end}
 use Rattle.routes.proofs.sweep.flag_moved.Statement.{statement}

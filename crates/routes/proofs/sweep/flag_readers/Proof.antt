@@ -7,7 +7,7 @@ use lib.ListN.{length, length-set}
 use lib.Seq.{slice}
 use borrow.Author.Needs.{needs}
 use Rattle.paper.specs.Lists.{nat}
-use Rattle.marks.specs.Sections.{madeFrom}
+use Rattle.routes.specs.Sections.{madeFrom}
 use Rattle.routes.specs.Routed.{flagEach}
 use Rattle.routes.proofs.Flags.{flag-next, flag-end}
 use Rattle.routes.proofs.sweep.flag_readers.Statement.{statement}

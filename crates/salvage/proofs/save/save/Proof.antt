@@ -5,9 +5,9 @@ use mathlib.Core.Bool.{true}
 use mathlib.Core.Path.{refl}
 use lib.ListN.{length, replicate, length-replicate}
 use Rattle.paper.specs.Tables.{Tables, lent}
-use Rattle.flags.specs.Flags.{flagged}
+use Rattle.damage.specs.Flags.{flagged}
 use Rattle.salvage.proofs.Judging.{vars-packable, rows-few}
-use Rattle.packing.proofs.Packing.{front-of}
+use Rattle.salvage.proofs.Copied.{front-of}
 use Rattle.salvage.proofs.save.save.Statement.{statement}
 use Rattle.salvage.proofs.save.save.Tie as tie
 

@@ -8,9 +8,9 @@ use lib.ListN.{length, getD, take, replicate, length-replicate}
 use Rattle.paper.specs.Lists.{nat}
 use Rattle.paper.specs.Tables.{Tables, lent}
 use Rattle.tables.proofs.Whole.{front}
-use Rattle.packing.specs.Packing.{Packable}
+use Rattle.salvage.specs.Packing.{Packable}
 use Rattle.salvage.proofs.Judging.{vars-packable, coefs-packable, kinds-in, makes-in, params-in, rows-packed}
-use Rattle.packing.proofs.Packing.{over-map, parts-front}
+use Rattle.salvage.proofs.Copied.{over-map, parts-front}
 use Rattle.salvage.proofs.save.save_rows.Statement.{statement}
 use Rattle.salvage.proofs.save.save_rows.Tie as tie
 

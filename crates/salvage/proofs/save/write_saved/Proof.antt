@@ -7,9 +7,9 @@ use borrow.Author.Needs.{needs}
 use borrow.Author.Tests.{not-true, not-false}
 use Rattle.paper.specs.Tables.{Tables, lent}
 use Rattle.paper.proofs.Sizes.{Sized}
-use Rattle.flags.specs.Flags.{chosen}
+use Rattle.damage.specs.Flags.{flagWanted}
 use Rattle.salvage.proofs.Outcome.{ready-sized, ready-few, ready-short, ready-room, ready-done}
-use Rattle.flags.proofs.Stored.{those-most}
+use Rattle.damage.proofs.Stored.{those-most}
 use Rattle.salvage.proofs.save.write_saved.Statement.{statement}
 use Rattle.salvage.proofs.save.write_saved.Tie as tie
 
@@ -53,7 +53,7 @@ add-fits : tie.Need-add-fits
 add-fits c =
     let k = c .before .before in let a = begun k .args in let h = says k in let f = ready-few _ _ (tables k) _ _ _ (begun k .pre .0) in
     let p = c .before .count-flagged .ensures in let q = c .count-flagged2 .ensures in
-    omega (arith, those-most (λ i. chosen false (getD (a .row .now) i false)) (a .m), those-most (λ i. chosen false (getD (a .taken .now) i false)) (a .n))
+    omega (arith, those-most (λ i. flagWanted false (getD (a .row .now) i false)) (a .m), those-most (λ i. flagWanted false (getD (a .taken .now) i false)) (a .n))
 
 returns : tie.Need-returns
 returns c =

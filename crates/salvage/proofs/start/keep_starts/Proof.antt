@@ -11,9 +11,9 @@ use borrow.Author.Needs.{needs, sfits-of}
 use mir.Facts.{toZ-ofZ}
 use Rattle.paper.specs.Lists.{nat}
 use Rattle.paper.proofs.Buffers.{Filled, filled-next, filled-end}
-use Rattle.admissions.specs.Starts.{startTest}
+use Rattle.damage.specs.Starts.{startTest}
 use Rattle.salvage.specs.Saving.{startTaken}
-use Rattle.packing.proofs.Packing.{filled-here}
+use Rattle.salvage.proofs.Copied.{filled-here}
 use Rattle.salvage.proofs.start.keep_starts.Statement.{statement}
 use Rattle.salvage.proofs.start.keep_starts.Tie as tie
 

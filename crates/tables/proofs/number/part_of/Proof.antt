@@ -1,7 +1,7 @@
 -- The two ends are held within the list, which leaves what there is of the part (`cut-within`). Assumes nothing.
 use native.Mathlib.Omega.{arith}
 use borrow.Author.Needs.{needs}
-use Rattle.tables.proofs.Parts.{cut-within}
+use Rattle.tables.proofs.Cut.{cut-within}
 use Rattle.tables.proofs.number.part_of.Statement.{statement}
 use Rattle.tables.proofs.number.part_of.Tie as tie
 

@@ -12,7 +12,7 @@ use Rattle.paper.specs.Tables.{Tables}
 use Rattle.paper.specs.Checks.{shapeGood}
 use Rattle.paper.proofs.Scan.{Scan, scan-start, scan-next, scan-found, scan-all, and-on, and-off, total-next}
 use Rattle.tables.specs.Rows.{shapeRows}
-use Rattle.tables.proofs.Parts.{cut}
+use Rattle.tables.proofs.Cut.{cut}
 use Rattle.tables.proofs.Shapes.{placed, placed-facts, placed-shape}
 use Rattle.tables.proofs.shape.bad_shape_by_row.Statement.{statement}
 use Rattle.tables.proofs.shape.bad_shape_by_row.Tie as tie

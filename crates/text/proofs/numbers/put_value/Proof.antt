@@ -2,7 +2,7 @@
 use mathlib.Core.Path.{sym, _∙_}
 use mir.Facts.{toZ-ofZ}
 use borrow.Author.Needs.{needs}
-use Rattle.buffers.proofs.Laid.{put-then}
+use Rattle.text.proofs.Laid.{put-then}
 use Rattle.text.proofs.Tens.{put-blank, put-number}
 use Rattle.text.proofs.numbers.put_value.Statement.{statement}
 use Rattle.text.proofs.numbers.put_value.Tie as tie

@@ -5,7 +5,7 @@ use mir.Facts.{toZ-ofZ}
 use borrow.Author.Needs.{needs}
 use Rattle.integers.specs.Integers.{eqZ}
 use Rattle.paper.specs.Formula.{blank}
-use Rattle.buffers.proofs.Laid.{put-then}
+use Rattle.text.proofs.Laid.{put-then}
 use Rattle.text.proofs.Tens.{put-reason, put-no-reason}
 use Rattle.text.proofs.reasons.put_reasoned.Statement.{statement}
 use Rattle.text.proofs.reasons.put_reasoned.Tie as tie

@@ -1,2 +1,0 @@
-pub mod Accepts
-pub mod Given

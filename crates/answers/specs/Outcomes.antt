@@ -1,7 +1,0 @@
--- An answer as C takes it. Assumes nothing.
-use Rattle.paper.specs.Calls.{Answer, numberOf, placeOf, evaluationsOf}
-use Rattle.answers.specs.declared.Outcome.{Outcome}
-
--- the paper's number, place and evaluations
-abbrev pub inNumbers : Answer → Outcome
-inNumbers a = record { number = numberOf a; place = placeOf a; evaluations = evaluationsOf a }

@@ -1,0 +1,2 @@
+pub mod BuildJudging
+pub mod Built

@@ -1,0 +1,2 @@
+pub mod BuildJudged
+pub mod Buildable

@@ -1,0 +1,176 @@
+-- A refusal has written nothing; an acceptance is met field by field by what `fill_keep` with the latest move of the log and then `drop_move` leave. Assumes nothing.
+use Prim.Native.Nat.{ℕ}
+use native.Mathlib.Nat.{le-refl}
+use native.Mathlib.Omega.{arith}
+use mathlib.Core.List.{List}
+use mathlib.Core.Path.{_≡_, refl, sym, ap, _∙_}
+use Rattle.paper.specs.Checks.{accepted, refused}
+use Rattle.paper.specs.Log.{Log, logIn}
+use Rattle.paper.specs.Calls.{Session, Model, takeVerdict}
+use Rattle.paper.proofs.Outcomes.{take-meets}
+use Rattle.paper.proofs.Sizes.{sized-facts}
+use Rattle.paper.proofs.Known.{take-known}
+use Rattle.tables.proofs.Judged.{accepted-is, refused-is}
+use Rattle.verdicts.specs.Lent.{toModel}
+use Rattle.records.specs.Left.{recordIn, answerIn}
+use Rattle.fills.proofs.Accepted.{take-by-kept, Latest, latest-at, latest-is, taking-of, filled-long, take-met}
+use Rattle.calls.proofs.taking.take_back_core.Statement.{statement}
+use Rattle.calls.proofs.taking.take_back_core.Tie as tie
+
+abbrev session : tie.Start → Session
+session s = recordIn (s .args .session)
+
+abbrev log : tie.Start → Log
+log s = let a = s .args in logIn (a .log-sizes .now) (a .log-vars .now) (a .log-values .now)
+
+abbrev model : tie.Start → Model
+model s = let a = s .args in toModel (a .n) (a .m) (a .e) (a .kinds .now) (a .makes .now) (a .params .now) (a .firsts .now) (a .counts .now) (a .vars .now) (a .coefs .now) (a .lows .now) (a .highs .now) (a .numbers .now) (a .order .now) (a .stored .now) (a .reader-starts .now) (a .reader-places .now)
+
+abbrev flags : tie.Start → List ℕ
+flags s = s .args .flags .now
+
+abbrev start : tie.After-enum-told → tie.Start
+start c = c .before .before .before .before .before .before .before .before .before .before .before .before .before .before .before .before .before .before
+
+passed : (c : tie.After-enum-told) → takeVerdict (session (start c)) (log (start c)) (model (start c)) (flags (start c)) ≡ accepted
+passed c = let s = start c in let said = c .enum-told .given in take-by-kept (session s) (log s) (model s) (flags s) ∙ accepted-is 0 (said .0 .0) _ (sym (c .before .before .judge-take-back .ensures) ∙ said .1)
+
+-- where the latest move stands
+found : (c : tie.After-latest-move) → Latest (log (start (c .before .before))) (c .latest-move .result)
+found c = let e = c .before .before in let s = start e in latest-at (session s) (log s) (model s) (flags s) (passed e) (c .latest-move .ensures)
+
+judge-take-back-requires : tie.Need-judge-take-back-requires
+judge-take-back-requires c κs = tt
+
+enum-told : tie.Need-enum-told
+enum-told c = c .match .keys1
+
+enum-told-2 : tie.Need-enum-told-2
+enum-told-2 c = c .match .keys2
+
+same-length : tie.Need-same-length
+same-length c = refl
+
+same-length-2 : tie.Need-same-length-2
+same-length-2 c = refl
+
+same-length-3 : tie.Need-same-length-3
+same-length-3 c = refl
+
+returns : tie.Need-returns
+returns c =
+    let s = c .before .before .before .before .before .before .before .before .before .before .before .before .before .before .before .before .before .before in let said = c .enum-told2 .given in
+    let v = take-by-kept (session s) (log s) (model s) (flags s) ∙ refused-is 0 _ _ _ (sym (c .before .before .judge-take-back .ensures) ∙ said .1) in
+    take-meets (session s) (log s) (model s) _ (refused (said .0 .0) (said .0 .1 .0)) (flags s) v
+    (ap answerIn (said .1)) refl refl refl refl
+
+latest-move-requires : tie.Need-latest-move-requires
+latest-move-requires c κs = let e = c .before in let s = start e in let k = latest-at (session s) (log s) (model s) (flags s) (passed e) refl .in-sizes in omega arith
+
+add-wide : tie.Need-add-wide
+add-wide c = let k = found (c .before) .few in omega arith
+
+mul-wide : tie.Need-mul-wide
+mul-wide c = let k = found (c .before) .few in omega arith
+
+slice-read-wide : tie.Need-slice-read-wide
+slice-read-wide c = found (c .before .before) .in-sizes
+
+wide-requires : tie.Need-wide-requires
+wide-requires c κs = tt
+
+mul-fill-keep : tie.Need-mul-fill-keep
+mul-fill-keep c = let k = found (c .before .before .before) .few in omega arith
+
+mul-fill-keep-2 : tie.Need-mul-fill-keep-2
+mul-fill-keep-2 c = let k = found (c .before .before .before) .few in omega arith
+
+sub-fill-keep : tie.Need-sub-fill-keep
+sub-fill-keep c = found (c .before .before .before) .in-vars
+
+part-fill-keep-start : tie.Need-part-fill-keep-start
+part-fill-keep-start c = found (c .before .before .before) .in-vars
+
+part-fill-keep-end : tie.Need-part-fill-keep-end
+part-fill-keep-end c = le-refl _
+
+mul-fill-keep-3 : tie.Need-mul-fill-keep-3
+mul-fill-keep-3 c = let k = found (c .before .before .before .before) .few in omega arith
+
+mul-fill-keep-4 : tie.Need-mul-fill-keep-4
+mul-fill-keep-4 c = let k = found (c .before .before .before .before) .few in omega arith
+
+sub-fill-keep-2 : tie.Need-sub-fill-keep-2
+sub-fill-keep-2 c = found (c .before .before .before .before) .in-values
+
+part-fill-keep-start-2 : tie.Need-part-fill-keep-start-2
+part-fill-keep-start-2 c = found (c .before .before .before .before) .in-values
+
+part-fill-keep-end-2 : tie.Need-part-fill-keep-end-2
+part-fill-keep-end-2 c = le-refl _
+
+fill-keep-requires : tie.Need-fill-keep-requires
+fill-keep-requires c κs =
+    let e = c .before .before .before .before .before .before .before .before in let s = start e in
+    taking-of (session s) (log s) (model s) (flags s) (passed e) _ (latest-is (log s) (flags s) _ _ (c .before .before .before .before .before .before .latest-move .ensures) (c .before .before .before .wide .ensures .0))
+
+drop-move-requires : tie.Need-drop-move-requires
+drop-move-requires c κs = let k = found (c .before .before .before .before .before .before .before .before .before .before .before) .in-sizes in omega arith
+
+blanks-among-requires : tie.Need-blanks-among-requires
+blanks-among-requires c κs =
+    let e = c .before .before .before .before .before .before .before .before .before .before .before .before .before .before .before .before .before in let s = start e in let k = take-known (session s) (log s) (model s) (flags s) (passed e) .model in
+    (filled-long _ _ _ _ (c .before .before .before .before .before .before .before .before .fill-keep .ensures .stored-is) (k .stored-long), sized-facts (model s .tables) (k .sound .sized) .n-most)
+
+kept-once-less-requires : tie.Need-kept-once-less-requires
+kept-once-less-requires c κs = tt
+
+same-length-4 : tie.Need-same-length-4
+same-length-4 c = c .before .before .before .before .before .before .before .before .before .stored .given
+
+same-length-5 : tie.Need-same-length-5
+same-length-5 c = c .before .before .before .before .before .before .before .before .flags .given
+
+same-length-6 : tie.Need-same-length-6
+same-length-6 c = c .before .before .before .before .log-sizes .given
+
+returns-2 : tie.Need-returns-2
+returns-2 c =
+    let e = c .before .before .before .before .before .before .before .before .before .before .before .before .before .before .before .before .before .before .before in let s = start e in
+    take-met (session s) (log s) (model s) _ _ _ _ _ _ (flags s) _ (latest-is (log s) (flags s) _ _ (c .before .before .before .before .before .before .before .before .before .before .before .before .before .before .before .before .before .latest-move .ensures) (c .before .before .before .before .before .before .before .before .before .before .before .before .before .before .wide .ensures .0)) (passed e)
+    (c .before .before .before .before .before .before .before .before .before .before .fill-keep .ensures) (c .kept-once-less .ensures) (c .before .blanks-among .ensures) (ap (λ sizes. logIn sizes (log s .vars) (log s .values)) (c .before .before .before .before .before .drop-move .ensures))
+
+pub take-back-core-spec : {M : Type 1} → statement M
+take-back-core-spec =
+    tie.close
+    (tie.spec
+    judge-take-back-requires
+    enum-told
+    enum-told-2
+    same-length
+    same-length-2
+    same-length-3
+    returns
+    latest-move-requires
+    add-wide
+    mul-wide
+    slice-read-wide
+    wide-requires
+    mul-fill-keep
+    mul-fill-keep-2
+    sub-fill-keep
+    part-fill-keep-start
+    part-fill-keep-end
+    mul-fill-keep-3
+    mul-fill-keep-4
+    sub-fill-keep-2
+    part-fill-keep-start-2
+    part-fill-keep-end-2
+    fill-keep-requires
+    drop-move-requires
+    blanks-among-requires
+    kept-once-less-requires
+    same-length-4
+    same-length-5
+    same-length-6
+    returns-2)

@@ -1,0 +1,111 @@
+// Keep: judged first, and written only once it is accepted.
+ghost use mathlib.Core.Path.{_≡_};
+ghost use Rattle.paper.specs.Log.{logIn};
+ghost use Rattle.paper.specs.Calls.{keep as kept};
+ghost use Rattle.verdicts.specs.Lent.{toModel, toKeep};
+ghost use Rattle.records.specs.Left.{recordIn, leftByKeep};
+use fills::fill_keep;
+use formulas::blanks::blanks_among;
+use integers::naturals::kept_once_more;
+use log::noting::note_move;
+use records::Done;
+use records::Session;
+use tables::Answer;
+use verdicts::judges::judge_keep;
+
+// Keep, with the session record taken and given back by value.
+pub fn keep_core(
+    session: Session,
+    n: usize,
+    m: usize,
+    e: usize,
+    kinds: &[u16],
+    makes: &[u16],
+    params: &[i32],
+    firsts: &[u16],
+    counts: &[u16],
+    vars: &[u16],
+    coefs: &[i16],
+    lows: &[i32],
+    highs: &[i32],
+    numbers: &[u16],
+    order: &[u16],
+    stored: &mut [i32],
+    reader_starts: &[u16],
+    reader_places: &[u16],
+    pairs: usize,
+    move_vars: &[u16],
+    move_values: &[i32],
+    flags: &mut [u8],
+    log_sizes: &mut [u16],
+    log_vars: &mut [u16],
+    log_values: &mut [i32],
+) -> Done
+    ensures { λ r. ⌜ leftByKeep r (now (stored .exit)) (now (flags .exit)) (now («log_sizes» .exit)) (now («log_vars» .exit)) (now («log_values» .exit)) ≡ kept (recordIn session) (logIn (now («log_sizes» .entry)) (now («log_vars» .entry)) (now («log_values» .entry))) (toModel n m e (now (kinds .entry)) (now (makes .entry)) (now (params .entry)) (now (firsts .entry)) (now (counts .entry)) (now (vars .entry)) (now (coefs .entry)) (now (lows .entry)) (now (highs .entry)) (now (numbers .entry)) (now (order .entry)) (now (stored .entry)) (now («reader_starts» .entry)) (now («reader_places» .entry))) (toKeep pairs (now («move_vars» .entry)) (now («move_values» .entry)) (now (flags .entry))) ⌝ }
+{
+    let judged = judge_keep(
+        session.kept,
+        session.blanks,
+        n,
+        m,
+        e,
+        kinds,
+        makes,
+        params,
+        firsts,
+        counts,
+        vars,
+        coefs,
+        lows,
+        highs,
+        numbers,
+        order,
+        stored,
+        reader_starts,
+        reader_places,
+        pairs,
+        move_vars,
+        move_values,
+        flags,
+        log_sizes,
+        log_vars,
+        log_values,
+    );
+    let Answer::Accepted { .. } = judged else {
+        return Done {
+            answer: judged,
+            session: session,
+        };
+    };
+    note_move(stored, pairs, move_vars, log_sizes, log_vars, log_values);
+    let evaluations = fill_keep(
+        n,
+        m,
+        e,
+        kinds,
+        makes,
+        params,
+        firsts,
+        counts,
+        vars,
+        coefs,
+        numbers,
+        order,
+        stored,
+        reader_starts,
+        reader_places,
+        pairs,
+        move_vars,
+        move_values,
+        flags,
+    );
+    let blanks = blanks_among(n, stored);
+    Done {
+        answer: Answer::Accepted { evaluations },
+        session: Session {
+            kept: kept_once_more(session.kept),
+            evaluations,
+            blanks,
+        },
+    }
+}

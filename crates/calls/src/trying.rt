@@ -1,0 +1,113 @@
+// Trial: judged first, and written only once it is accepted.
+ghost use mathlib.Core.Path.{_≡_};
+ghost use Rattle.paper.specs.Calls.{trial as tried};
+ghost use Rattle.verdicts.specs.Lent.{toModel, toTry};
+ghost use Rattle.records.specs.Left.{recordIn, leftByTrial};
+use fills::fill_trial;
+use records::Done;
+use records::Session;
+use tables::Answer;
+use verdicts::judges::judge_trial;
+
+// Trial, with the session record taken and given back by value.
+pub fn trial_core(
+    session: Session,
+    n: usize,
+    m: usize,
+    e: usize,
+    kinds: &[u16],
+    makes: &[u16],
+    params: &[i32],
+    firsts: &[u16],
+    counts: &[u16],
+    vars: &[u16],
+    coefs: &[i16],
+    lows: &[i32],
+    highs: &[i32],
+    numbers: &[u16],
+    order: &[u16],
+    stored: &[i32],
+    reader_starts: &[u16],
+    reader_places: &[u16],
+    pairs: usize,
+    move_vars: &[u16],
+    move_values: &[i32],
+    asked: usize,
+    asked_vars: &[u16],
+    route: u32,
+    results: &mut [i32],
+    trial: &mut [i32],
+    flags: &mut [u8],
+) -> Done
+    ensures { λ r. ⌜ leftByTrial r (now (results .exit)) (now (trial .exit)) (now (flags .exit)) ≡ tried (recordIn session) (toModel n m e (now (kinds .entry)) (now (makes .entry)) (now (params .entry)) (now (firsts .entry)) (now (counts .entry)) (now (vars .entry)) (now (coefs .entry)) (now (lows .entry)) (now (highs .entry)) (now (numbers .entry)) (now (order .entry)) (now (stored .entry)) (now («reader_starts» .entry)) (now («reader_places» .entry))) (toTry pairs (now («move_vars» .entry)) (now («move_values» .entry)) asked (now («asked_vars» .entry)) route (now (results .entry)) (now (trial .entry)) (now (flags .entry))) ⌝ }
+{
+    let judged = judge_trial(
+        session.blanks,
+        n,
+        m,
+        e,
+        kinds,
+        makes,
+        params,
+        firsts,
+        counts,
+        vars,
+        coefs,
+        lows,
+        highs,
+        numbers,
+        order,
+        stored,
+        reader_starts,
+        reader_places,
+        pairs,
+        move_vars,
+        move_values,
+        asked,
+        asked_vars,
+        route,
+        results,
+        trial,
+        flags,
+    );
+    let Answer::Accepted { .. } = judged else {
+        return Done {
+            answer: judged,
+            session: session,
+        };
+    };
+    let evaluations = fill_trial(
+        n,
+        m,
+        e,
+        kinds,
+        makes,
+        params,
+        firsts,
+        counts,
+        vars,
+        coefs,
+        numbers,
+        order,
+        stored,
+        reader_starts,
+        reader_places,
+        pairs,
+        move_vars,
+        move_values,
+        asked,
+        asked_vars,
+        route,
+        results,
+        trial,
+        flags,
+    );
+    Done {
+        answer: Answer::Accepted { evaluations },
+        session: Session {
+            kept: session.kept,
+            evaluations,
+            blanks: session.blanks,
+        },
+    }
+}

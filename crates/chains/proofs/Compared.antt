@@ -1,0 +1,78 @@
+-- Check 8: where the numbers show that every chain ends they are those of the groups, since each variable is then a group of its own; elsewhere the lent numbers
+-- and order are compared with those found. Assumes nothing.
+use Prim.Native.Nat.{ℕ, _<_}
+use native.Mathlib.Omega.{arith}
+use mathlib.Core.Bool.{Bool, true, false, _&&_}
+use mathlib.Core.List.{List, _++_}
+use mathlib.Core.Path.{_≡_, refl, ap, ap₂, sym, _∙_}
+use lib.Dec.{eqb}
+use lib.ListN.{drop}
+use lib.ListN.{List·getD-append}
+use borrow.Author.Tests.{eq-eqb}
+use Rattle.paper.specs.Lists.{every, nat, firstFail, allBelow}
+use Rattle.paper.specs.Net.{able}
+use Rattle.paper.specs.Tables.{Tables, net, inputsOf, order}
+use Rattle.paper.specs.Checks.{numbered}
+use Rattle.paper.specs.Chains.{permitted, groupNumber, groupOrder, groupsNumbered}
+use Rattle.paper.proofs.Lists.{each, all-yes}
+use Rattle.paper.proofs.Least.{allBelow-at, below-all}
+use Rattle.paper.proofs.Scan.{firstFail-same}
+use Rattle.paper.proofs.Lawful.{lawful}
+use Rattle.paper.proofs.Circle.{ends-everywhere}
+use Rattle.paper.proofs.Eight.{numbered-ends, numbered-numbers}
+use Rattle.paper.proofs.Closes.{group-order-length}
+use Rattle.paper.proofs.Open.{open-permitted, open-number, open-order}
+use Rattle.order.specs.Formed.{Formed}
+use Rattle.order.proofs.Bare.{bareOf, numbered-bare}
+use Rattle.chains.specs.Links.{Shared}
+
+module _ (t : Tables) (F : Formed t) (numbers ord : List ℕ) where
+  -- ── no chain closes ──
+  module _ (ok : numbered t numbers ord ≡ true) where
+    chains-end : (v : ℕ) → able (inputsOf t) (t .n) v ≡ true
+    chains-end = ends-everywhere (net t) (lawful t) (t .n) (F .inputs-below) (F .made-below) (F .some) (numbered-ends t numbers ord ok)
+
+    number-right : (v : ℕ) → v < t .n → eqb (nat numbers v) (groupNumber t v) ≡ true
+    number-right v l = eq-eqb (nat numbers v) (groupNumber t v) (numbered-numbers t numbers ord ok v l ∙ sym (open-number t (F .inputs-below) chains-end (F .made-below) v))
+
+    place-right : (i : ℕ) → i < t .m → eqb (nat ord i) (nat (groupOrder t) i) ≡ true
+    place-right i l =
+        ap (λ (o : List ℕ). eqb (nat ord i) (nat o i)) (open-order t (F .inputs-below) chains-end (F .made-below))
+        ∙ allBelow-at (λ j. eqb (nat ord j) (nat (order t) j)) (t .m) (each _ ok .1 .1 .0) i l
+
+    open-groups : groupsNumbered t numbers ord ≡ true
+    open-groups = all-yes _ (
+      below-all (permitted t) (t .n) (λ v l. open-permitted t (F .inputs-below) chains-end v),
+      (
+        below-all (λ v. eqb (nat numbers v) (groupNumber t v)) (t .n) number-right,
+        (below-all (λ i. eqb (nat ord i) (nat (groupOrder t) i)) (t .m) place-right, tt),
+      ),
+    )
+
+  pub right-open : {b : Bool} → b ≡ numbered (bareOf t) numbers ord → b ≡ true → true ≡ groupsNumbered t numbers ord
+  right-open e q = sym (open-groups (sym (numbered-bare t numbers ord) ∙ sym e ∙ q))
+
+  -- ── the numbers and the order found anew ──
+  pub right-found : {barred : ℕ} {shared rows : List ℕ} (before : List ℕ) {b c : Bool} → barred ≡ firstFail (permitted t) (t .n) → Shared t shared
+      → rows ≡ groupOrder t ++ drop (t .m) before → b ≡ allBelow (λ i. eqb (nat numbers i) (nat shared i)) (t .n) → c ≡ allBelow (λ i. eqb (nat ord i) (nat rows i)) (t .m)
+      → (eqb barred (t .n) && (b && c)) ≡ groupsNumbered t numbers ord
+  unfolding every
+  right-found {barred} {shared} {rows} before {b} {c} e S w p q =
+      ap₂ _&&_ (ap (λ k. eqb k (t .n)) e) (ap₂ _&&_ (p ∙ same-numbers) (q ∙ same-rows ∙ sym (end (allBelow (λ i. eqb (nat ord i) (nat (groupOrder t) i)) (t .m)))))
+    where
+      end : (x : Bool) → (x && true) ≡ x
+      end true = refl
+      end false = refl
+
+      same-numbers : allBelow (λ i. eqb (nat numbers i) (nat shared i)) (t .n) ≡ allBelow (λ v. eqb (nat numbers v) (groupNumber t v)) (t .n)
+      same-numbers =
+          ap (λ k. eqb k (t .n))
+          (firstFail-same (λ i. eqb (nat numbers i) (nat shared i)) (λ v. eqb (nat numbers v) (groupNumber t v)) (t .n) (λ v l. ap (eqb (nat numbers v)) (S .at v l)))
+
+      row-at : (i : ℕ) → i < t .m → nat rows i ≡ nat (groupOrder t) i
+      row-at i l = ap (λ (o : List ℕ). nat o i) w ∙ List·getD-append (groupOrder t) (drop (t .m) before) 0 i (let h = group-order-length t in omega arith)
+
+      same-rows : allBelow (λ i. eqb (nat ord i) (nat rows i)) (t .m) ≡ allBelow (λ i. eqb (nat ord i) (nat (groupOrder t) i)) (t .m)
+      same-rows =
+          ap (λ k. eqb k (t .m))
+          (firstFail-same (λ i. eqb (nat ord i) (nat rows i)) (λ i. eqb (nat ord i) (nat (groupOrder t) i)) (t .m) (λ i l. ap (eqb (nat ord i)) (row-at i l)))

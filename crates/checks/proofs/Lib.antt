@@ -1,0 +1,9 @@
+pub mod Seen
+pub mod Range
+pub mod Good
+pub mod SoundJudged
+pub mod Once
+pub mod ValuesOverMakers
+pub mod ValuesJudged
+pub mod MovesOverMakers
+pub mod MovesJudged

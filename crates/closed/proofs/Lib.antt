@@ -1,3 +1,0 @@
-pub mod Candidates
-pub mod Closing
-pub mod Elements

@@ -1,0 +1,5 @@
+pub mod Flags
+pub mod Starts
+pub mod Saved
+pub mod Scratch
+pub mod Keeping

@@ -1,0 +1,59 @@
+-- 20 and 21 link by link, as 6 is said: exactly which calls give them, and at which variable. Assumes nothing.
+use Prim.Native.Nat.{ℕ, _<_}
+use mathlib.Core.List.{List, [], _∷_}
+use mathlib.Core.Logic.{_⊎_}
+use mathlib.Core.Path.{_≡_}
+use Rattle.paper.specs.Net.{Values, Depends, moved}
+use Rattle.paper.specs.Tables.{Tables, inputsOf}
+use Rattle.paper.specs.Chains.{worth, needs}
+use Rattle.paper.specs.Checks.{movePairs}
+use Rattle.paper.specs.Log.{Log}
+use Rattle.paper.specs.Calls.{Session, Answer, numberOf, placeOf, BuildLent, startValues, Model, storedValues, Tried, Kept, latest}
+use Rattle.demands.specs.Stated.{BuildOutcome, leftBuilt, TrialOutcome, leftTried, KeepOutcome, leftKept, TakeOutcome, leftTaken}
+use Rattle.demands.specs.Refusals.{Line, Passes, buildTable, trialTable, keepTable, takeTable}
+use Rattle.demands.specs.Sentences.{ComesTo}
+
+-- the least variable of which something holds
+pub record LeastOf (n : ℕ) (holds : ℕ → Type 0) (place : ℕ) : Type 0 where
+  pub low : place < n
+  pub here : holds place
+  pub before : (v : ℕ) → v < place → holds v → ⊥
+
+-- the lines of a table but the last
+abbrev pub beforeLast : List Line → List Line
+beforeLast [] = []
+beforeLast (line ∷ []) = []
+beforeLast (line ∷ next ∷ rest) = line ∷ beforeLast (next ∷ rest)
+
+-- ── 20: working v out comes to a variable that needs itself ──
+abbrev pub Undetermined : Tables → Values → ℕ → Type 0
+Undetermined t s v = (u : ℕ) × ComesTo t s v u × Depends (needs t s) u u
+
+-- it is the last line of its table; s are the values that the search variables have after the call
+pub record UndeterminedExactly (table : List Line) (t : Tables) (s : Values) (a : Answer) : Type 0 where
+  pub given : Passes (beforeLast table) → (v : ℕ) → v < t .n → Undetermined t s v → numberOf a ≡ 20
+  pub only : numberOf a ≡ 20 → Passes (beforeLast table)
+  pub place : numberOf a ≡ 20 → LeastOf (t .n) (Undetermined t s) (placeOf a)
+  pub none : numberOf a ≡ 0 → (v : ℕ) → v < t .n → Undetermined t s v → ⊥
+
+-- ── 21: some chain of inputs closes, and v is not determined by the stored values, or its stored value is not the fresh one ──
+abbrev pub Stale : Tables → Values → ℕ → Type 0
+Stale t old v = ((u : ℕ) × Depends (inputsOf t) u u) × (Undetermined t old v ⊎ (old v ≡ worth t old v → ⊥))
+
+-- it is the last line but one
+pub record StaleExactly (table : List Line) (t : Tables) (old : Values) (a : Answer) : Type 0 where
+  pub given : Passes (beforeLast (beforeLast table)) → (v : ℕ) → v < t .n → Stale t old v → numberOf a ≡ 21
+  pub only : numberOf a ≡ 21 → Passes (beforeLast (beforeLast table))
+  pub place : numberOf a ≡ 21 → LeastOf (t .n) (Stale t old) (placeOf a)
+  pub none : numberOf a ≡ 0 → (v : ℕ) → v < t .n → Stale t old v → ⊥
+
+-- ── each call ──
+pub record ChoicesExactly : Type 0 where
+  pub build : (l : BuildLent) (o : BuildOutcome l) → UndeterminedExactly (buildTable l) (l .tables) (startValues l) (leftBuilt o .answer)
+  pub trial : (s : Session) (w : Model) (c : Tried) (o : TrialOutcome s w c) → let old = storedValues w in
+      UndeterminedExactly (trialTable s w c) (w .tables) (moved (movePairs (c .move)) old) (leftTried o .answer) × StaleExactly (trialTable s w c) (w .tables) old (leftTried o .answer)
+  pub keep : (s : Session) (g : Log) (w : Model) (c : Kept) (o : KeepOutcome s g w c) → let old = storedValues w in
+      UndeterminedExactly (keepTable s g w c) (w .tables) (moved (movePairs (c .move)) old) (leftKept o .answer) × StaleExactly (keepTable s g w c) (w .tables) old (leftKept o .answer)
+  pub take-back : (s : Session) (g : Log) (w : Model) (flags : List ℕ) (o : TakeOutcome s g w flags) → let old = storedValues w in
+      UndeterminedExactly (takeTable s g w flags) (w .tables) (moved (movePairs (latest g flags .move)) old) (leftTaken o .answer)
+      × StaleExactly (takeTable s g w flags) (w .tables) old (leftTaken o .answer)

@@ -1,3 +1,0 @@
-pub mod Plans
-pub mod Flags
-pub mod Marks

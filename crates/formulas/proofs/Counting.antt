@@ -1,0 +1,47 @@
+-- How many places pass a test, one step along the list, as the loops go. Assumes nothing.
+use Prim.Native.Nat.{ℕ, _+_, _≤_, _<_}
+use native.Mathlib.Omega.{arith}
+use mathlib.Core.Bool.{Bool, true, false, cond, _||_}
+use mathlib.Core.List.{List, [], _∷_}
+use mathlib.Core.Path.{_≡_, refl, ap, sym}
+use borrow.Author.Tests.{lt-ltb}
+use lib.Dec.{ltb}
+use lib.IntN.{ℤ}
+use lib.ListN.{length, getD, drop, drop-of-length-le}
+use Rattle.paper.specs.Lists.{any, tally}
+use Rattle.paper.proofs.Formulas.{tally-le}
+use Rattle.paper.proofs.Scan.{next}
+use Rattle.formulas.specs.Inputs.{inputs}
+use Rattle.formulas.proofs.Reading.{inputs-length}
+
+-- at most all
+pub tally-most : (p : ℤ → Bool) (vars : List ℕ) (values : List ℤ) → tally p (inputs vars values) ≤ length vars
+tally-most p vars values = rw (inputs-length vars values) at (tally-le p (inputs vars values))
+
+-- n of the places before i do
+pub record Passed (p : ℤ → Bool) (xs : List ℤ) (i n : ℕ) : Type 0 where
+  pub so-far : n + tally p (drop i xs) ≡ tally p xs
+
+module _ {p : ℤ → Bool} {xs : List ℤ} where
+  pub passed-none : Passed p xs 0 0
+  passed-none = record { so-far = omega arith }
+
+  pub passed-next : (d : ℤ) {i n k : ℕ} → Passed p xs i n → i < length xs → k ≡ cond (p (getD xs i d)) 1 0 → Passed p xs (i + 1) (n + k)
+  passed-next d {i} {n} {k} s h e =
+      let step : tally p (drop i xs) ≡ cond (p (getD xs i d)) 1 0 + tally p (drop (i + 1) xs) = ap (tally p) (next xs i d h) in
+      record { so-far = omega (arith, s .so-far) }
+
+  pub passed-all : {i n : ℕ} → Passed p xs i n → length xs ≤ i → n ≡ tally p xs
+  passed-all {i} s h = let none : tally p (drop i xs) ≡ 0 = ap (tally p) (drop-of-length-le xs h) in omega (arith, s .so-far)
+
+  pub passed-most : {i n : ℕ} → Passed p xs i n → n ≤ length xs
+  passed-most s = omega (arith, s .so-far, tally-le p xs)
+
+-- some place passes exactly if their number is above 0
+pub any-tally : (p : ℤ → Bool) (xs : List ℤ) → any p xs ≡ ltb 0 (tally p xs)
+any-tally p [] = refl
+any-tally p (x ∷ xs) = go (p x) (any-tally p xs)
+  where
+    go : (b : Bool) → any p xs ≡ ltb 0 (tally p xs) → (b || any p xs) ≡ ltb 0 (cond b 1 0 + tally p xs)
+    go true e = sym (lt-ltb 0 (1 + tally p xs) (omega arith))
+    go false e = let same : 0 + tally p xs ≡ tally p xs = omega arith in rw same e

@@ -1,2 +1,0 @@
-pub mod JudgingMoves
-pub mod Latest

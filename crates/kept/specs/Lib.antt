@@ -1,3 +1,0 @@
-pub mod Saved
-pub mod Scratch
-pub mod Keeping

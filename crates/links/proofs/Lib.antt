@@ -1,3 +1,0 @@
-pub mod Kinded
-pub mod Linked
-pub mod Seeking

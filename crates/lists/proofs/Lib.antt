@@ -1,4 +1,0 @@
-pub mod Taking
-pub mod Timing
-pub mod Following
-pub mod Writing

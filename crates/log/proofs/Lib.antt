@@ -1,0 +1,5 @@
+mod Slid
+mod Laid
+pub mod Room
+mod Noted
+pub mod Good

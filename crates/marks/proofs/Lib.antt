@@ -1,4 +1,0 @@
-pub mod Members
-pub mod Reach
-pub mod Readers
-pub mod Passing

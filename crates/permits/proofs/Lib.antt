@@ -1,4 +1,0 @@
-pub mod Rounds
-pub mod Index
-pub mod Permits
-pub mod Compared

@@ -1,6 +1,0 @@
-pub mod Parts
-pub mod Few
-pub mod ByEntry
-pub mod Naming
-pub mod Known
-pub mod Walk

@@ -1,3 +1,0 @@
-mod Slid
-mod Laid
-pub mod Room

@@ -1,0 +1,4 @@
+pub mod Lent
+pub mod ModelJudged
+pub mod Chains
+pub mod Latest

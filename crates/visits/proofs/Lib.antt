@@ -1,3 +1,0 @@
-pub mod Chained
-pub mod Visits
-pub mod InTurn

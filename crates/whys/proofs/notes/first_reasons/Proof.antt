@@ -1,0 +1,35 @@
+-- With every flag 1, each variable has the reason of its value (`all-shown`). Assumes nothing.
+use borrow.Author.Needs.{needs}
+use Rattle.paper.specs.Tables.{Tables, lent}
+use Rattle.paper.proofs.Sizes.{sized-facts}
+use Rattle.rows.specs.Changes.{valuesOf}
+use Rattle.whys.proofs.Noted.{all-shown}
+use Rattle.whys.proofs.notes.first_reasons.Statement.{statement}
+use Rattle.whys.proofs.notes.first_reasons.Tie as tie
+
+-- the tables that the arguments lend
+abbrev tables : tie.Start → Tables
+tables s =
+    lent (s .args .n) (s .args .m) (s .args .e) (s .args .kinds .now) (s .args .makes .now) (s .args .params .now) (s .args .firsts .now) (s .args .counts .now) (s .args .vars .now)
+    (s .args .coefs .now)
+
+slice-aggregate-note-reasons : tie.Need-slice-aggregate-note-reasons
+slice-aggregate-note-reasons c = search needs
+
+note-reasons-requires : tie.Need-note-reasons-requires
+note-reasons-requires c κs =
+    let s = c .before .before .before .before .before .before .before .before in
+    (s .pre .0, (s .pre .1 .0, sized-facts (tables s) (s .pre .0 .sized) .n-most, s .pre .1 .1))
+
+same-length : tie.Need-same-length
+same-length c = search needs
+
+returns : tie.Need-returns
+returns c =
+    let s = c .before .before .before .before .before .before .before .before .before .before .before in
+    all-shown (tables s) (s .pre .0) (valuesOf (s .args .values .now)) (s .args .reasons .now) _ (c .before .before .note-reasons .ensures)
+
+pub first-reasons-spec : {M : Type 1} → statement M
+first-reasons-spec =
+    tie.close
+    (tie.spec slice-aggregate-note-reasons note-reasons-requires same-length returns)

@@ -1,0 +1,3 @@
+//! The proved engine, linked, on the vectors.
+
+compare::vectors_of!(live::Proved);
