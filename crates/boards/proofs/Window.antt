@@ -42,6 +42,7 @@ module _ (s e h : ℤ) where
     order = replicate 1 0;
     stored = replicate 4 blank;
     index = indexIn (replicate 5 0) (replicate 3 0);
+    reasons = replicate 4 0;
     logSizes = replicate 65 0;
   }
 

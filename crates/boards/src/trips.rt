@@ -21,6 +21,7 @@ fn departures_of(start: i32, end: i32, headway: i32) -> i32
     let mut stored = [BLANK; 4];
     let mut reader_starts = [0u16; 5];
     let mut reader_places = [0u16; 3];
+    let mut reasons = [0u8; 4];
     build_new(
         4,
         1,
@@ -38,6 +39,7 @@ fn departures_of(start: i32, end: i32, headway: i32) -> i32
         &mut stored,
         &mut reader_starts,
         &mut reader_places,
+        &mut reasons,
     );
     stored[3]
 }

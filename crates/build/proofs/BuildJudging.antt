@@ -42,7 +42,7 @@ module _ (l : BuildLent) where
   fromSix = check 6 (t .n) (permitted t) fromSeven
 
   -- the record plays no part
-  pub any-session : (s : Session) → buildVerdict l ≡ buildVerdict (record { session = s; tables = t; bounds = l .bounds; starts = l .starts; numbers = l .numbers; order = l .order; stored = l .stored; index = l .index; logSizes = l .logSizes })
+  pub any-session : (s : Session) → buildVerdict l ≡ buildVerdict (record { session = s; tables = t; bounds = l .bounds; starts = l .starts; numbers = l .numbers; order = l .order; stored = l .stored; index = l .index; reasons = l .reasons; logSizes = l .logSizes })
   unfolding buildVerdict
   any-session s = refl
 
@@ -61,6 +61,7 @@ module _ (l : BuildLent) where
     pub log : 65 ≤ length (l .logSizes)
     pub lows : t .n ≤ length (l .bounds .lows)
     pub highs : t .n ≤ length (l .bounds .highs)
+    pub reasons : t .n ≤ length (l .reasons)
 
   pub fitting : buildFits l ≡ true → Fitting
   fitting h =
@@ -76,6 +77,7 @@ module _ (l : BuildLent) where
         log = leb-true _ _ (long .1 .1 .1 .1 .1 .0);
         lows = bounds-long t (l .bounds) (long .1 .1 .1 .1 .1 .1 .0) .0;
         highs = bounds-long t (l .bounds) (long .1 .1 .1 .1 .1 .1 .0) .1;
+        reasons = leb-true _ _ (long .1 .1 .1 .1 .1 .1 .1 .0);
       }
 
   pub stops-1 : buildFits l ≡ false → buildVerdict l ≡ refused 1 0

@@ -21,4 +21,5 @@ pub record Buildable (l : BuildLent) (state : List ℕ) : Type 0 where
   pub in-stored : l .tables .n ≤ length (l .stored)
   pub index-starts : suc (l .tables .n) ≤ length (l .index .starts)
   pub index-places : l .tables .e ≤ length (l .index .places)
+  pub in-reasons : l .tables .n ≤ length (l .reasons)
   pub in-log : 65 ≤ length (l .logSizes)

@@ -35,9 +35,10 @@ pub fn build_core(
     stored: &mut [i32],
     reader_starts: &mut [u16],
     reader_places: &mut [u16],
+    reasons: &mut [u8],
     log_sizes: &mut [u16],
 ) -> Done
-    ensures { λ r. ⌜ leftByBuild r (now (numbers .exit)) (now (order .exit)) (now (stored .exit)) (now («reader_starts» .exit)) (now («reader_places» .exit)) (now («log_sizes» .exit)) ≡ build (toBuild (recordIn session) n m e (now (kinds .entry)) (now (makes .entry)) (now (params .entry)) (now (firsts .entry)) (now (counts .entry)) (now (vars .entry)) (now (coefs .entry)) (now (lows .entry)) (now (highs .entry)) (now (starts .entry)) (now (numbers .entry)) (now (order .entry)) (now (stored .entry)) (now («reader_starts» .entry)) (now («reader_places» .entry)) (now («log_sizes» .entry))) ⌝ }
+    ensures { λ r. ⌜ leftByBuild r (now (numbers .exit)) (now (order .exit)) (now (stored .exit)) (now («reader_starts» .exit)) (now («reader_places» .exit)) (now (reasons .exit)) (now («log_sizes» .exit)) ≡ build (toBuild (recordIn session) n m e (now (kinds .entry)) (now (makes .entry)) (now (params .entry)) (now (firsts .entry)) (now (counts .entry)) (now (vars .entry)) (now (coefs .entry)) (now (lows .entry)) (now (highs .entry)) (now (starts .entry)) (now (numbers .entry)) (now (order .entry)) (now (stored .entry)) (now («reader_starts» .entry)) (now («reader_places» .entry)) (now (reasons .entry)) (now («log_sizes» .entry))) ⌝ }
 {
     let mut state = [0u16; 4096];
     let judged = judge_build(
@@ -59,6 +60,7 @@ pub fn build_core(
         stored,
         reader_starts,
         reader_places,
+        reasons,
         log_sizes,
         &mut state,
     );
@@ -86,6 +88,7 @@ pub fn build_core(
         stored,
         reader_starts,
         reader_places,
+        reasons,
         log_sizes,
     );
     let evaluations = m as u32;
@@ -118,8 +121,9 @@ pub fn build_new(
     stored: &mut [i32],
     reader_starts: &mut [u16],
     reader_places: &mut [u16],
+    reasons: &mut [u8],
 ) -> Done
-    ensures { λ r. ⌜ leftByBuild r (now (numbers .exit)) (now (order .exit)) (now (stored .exit)) (now («reader_starts» .exit)) (now («reader_places» .exit)) (replicate 65 0) ≡ build (toBuild noRecord n m e (now (kinds .entry)) (now (makes .entry)) (now (params .entry)) (now (firsts .entry)) (now (counts .entry)) (now (vars .entry)) (now (coefs .entry)) (replicate 4096 lowest) (replicate 4096 highest) (now (starts .entry)) (now (numbers .entry)) (now (order .entry)) (now (stored .entry)) (now («reader_starts» .entry)) (now («reader_places» .entry)) (replicate 65 0)) ⌝ }
+    ensures { λ r. ⌜ leftByBuild r (now (numbers .exit)) (now (order .exit)) (now (stored .exit)) (now («reader_starts» .exit)) (now («reader_places» .exit)) (now (reasons .exit)) (replicate 65 0) ≡ build (toBuild noRecord n m e (now (kinds .entry)) (now (makes .entry)) (now (params .entry)) (now (firsts .entry)) (now (counts .entry)) (now (vars .entry)) (now (coefs .entry)) (replicate 4096 lowest) (replicate 4096 highest) (now (starts .entry)) (now (numbers .entry)) (now (order .entry)) (now (stored .entry)) (now («reader_starts» .entry)) (now («reader_places» .entry)) (now (reasons .entry)) (replicate 65 0)) ⌝ }
 {
     let lows = [LOWEST; 4096];
     let highs = [HIGHEST; 4096];
@@ -148,6 +152,7 @@ pub fn build_new(
         stored,
         reader_starts,
         reader_places,
+        reasons,
         &mut log_sizes,
     )
 }

@@ -34,11 +34,12 @@ pub fn judge_build(
     stored: &[i32],
     reader_starts: &[u16],
     reader_places: &[u16],
+    reasons: &[u8],
     log_sizes: &[u16],
     state: &mut [u16; 4096],
 ) -> Answer
     ghost { BuildLent }
-    requires lent { λ w. ⌜ toBuild noRecord n m e (now kinds) (now makes) (now params) (now firsts) (now counts) (now vars) (now coefs) (now lows) (now highs) (now starts) (now numbers) (now order) (now stored) (now «reader_starts») (now «reader_places») (now «log_sizes») ≡ w ⌝ }
+    requires lent { λ w. ⌜ toBuild noRecord n m e (now kinds) (now makes) (now params) (now firsts) (now counts) (now vars) (now coefs) (now lows) (now highs) (now starts) (now numbers) (now order) (now stored) (now «reader_starts») (now «reader_places») (now reasons) (now «log_sizes») ≡ w ⌝ }
     requires clean { λ _. ⌜ Clean 4096 (now state) ⌝ }
     ensures { λ build r. ⌜ BuildJudged build (now (state .exit)) r ⌝ }
 {
@@ -61,6 +62,7 @@ pub fn judge_build(
         stored,
         reader_starts,
         reader_places,
+        reasons,
         log_sizes,
     ) {
         return refused(1, 0);

@@ -11,8 +11,9 @@ use chains::ranks::write_shared_order;
 use choices::worths::work_all;
 use index::readers::write_readers;
 use rows::copies::copy_values;
+use whys::notes::first_reasons;
 
-// Writes the numbers, the order, the index of readers and every value, and empties the log.
+// Writes the numbers, the order, the index of readers, every value and its reason, and empties the log.
 pub fn fill_model(
     n: usize,
     m: usize,
@@ -31,15 +32,17 @@ pub fn fill_model(
     stored: &mut [i32],
     reader_starts: &mut [u16],
     reader_places: &mut [u16],
+    reasons: &mut [u8],
     log_sizes: &mut [u16],
 )
     ghost { BuildLent }
-    requires lent { λ w. ⌜ toBuild noRecord n m e (now kinds) (now makes) (now params) (now firsts) (now counts) (now vars) (now coefs) [] [] (now starts) (now numbers) (now order) (now stored) (now «reader_starts») (now «reader_places») (now «log_sizes») ≡ w ⌝ }
+    requires lent { λ w. ⌜ toBuild noRecord n m e (now kinds) (now makes) (now params) (now firsts) (now counts) (now vars) (now coefs) [] [] (now starts) (now numbers) (now order) (now stored) (now «reader_starts») (now «reader_places») (now reasons) (now «log_sizes») ≡ w ⌝ }
     requires buildable { λ build. ⌜ Buildable build (now state) ⌝ }
     ensures { λ build _. ⌜ now (numbers .exit) ≡ buildLeaves build accepted .numbers ⌝ }
     ensures { λ build _. ⌜ now (order .exit) ≡ buildLeaves build accepted .order ⌝ }
     ensures { λ build _. ⌜ now (stored .exit) ≡ buildLeaves build accepted .stored ⌝ }
     ensures { λ build _. ⌜ indexIn (now («reader_starts» .exit)) (now («reader_places» .exit)) ≡ buildLeaves build accepted .index ⌝ }
+    ensures { λ build _. ⌜ now (reasons .exit) ≡ buildLeaves build accepted .reasons ⌝ }
     ensures { λ build _. ⌜ now («log_sizes» .exit) ≡ buildLeaves build accepted .logSizes ⌝ }
 {
     copy_numbers(n, state, numbers);
@@ -60,6 +63,20 @@ pub fn fill_model(
         state,
         order,
         stored,
+    );
+    first_reasons(
+        n,
+        m,
+        e,
+        kinds,
+        makes,
+        params,
+        firsts,
+        counts,
+        vars,
+        coefs,
+        stored,
+        reasons,
     );
     log_sizes[0] = 0;
 }

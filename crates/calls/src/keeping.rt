@@ -12,8 +12,9 @@ use records::Done;
 use records::Session;
 use tables::Answer;
 use verdicts::judges::judge_keep;
+use whys::notes::note_reasons;
 
-// Keep, with the session record taken and given back by value.
+// Keep, with the session record taken and given back by value. The reason of every variable evaluated is noted.
 pub fn keep_core(
     session: Session,
     n: usize,
@@ -33,6 +34,7 @@ pub fn keep_core(
     stored: &mut [i32],
     reader_starts: &[u16],
     reader_places: &[u16],
+    reasons: &mut [u8],
     pairs: usize,
     move_vars: &[u16],
     move_values: &[i32],
@@ -41,7 +43,7 @@ pub fn keep_core(
     log_vars: &mut [u16],
     log_values: &mut [i32],
 ) -> Done
-    ensures { λ r. ⌜ leftByKeep r (now (stored .exit)) (now (flags .exit)) (now («log_sizes» .exit)) (now («log_vars» .exit)) (now («log_values» .exit)) ≡ kept (recordIn session) (logIn (now («log_sizes» .entry)) (now («log_vars» .entry)) (now («log_values» .entry))) (toModel n m e (now (kinds .entry)) (now (makes .entry)) (now (params .entry)) (now (firsts .entry)) (now (counts .entry)) (now (vars .entry)) (now (coefs .entry)) (now (lows .entry)) (now (highs .entry)) (now (numbers .entry)) (now (order .entry)) (now (stored .entry)) (now («reader_starts» .entry)) (now («reader_places» .entry))) (toKeep pairs (now («move_vars» .entry)) (now («move_values» .entry)) (now (flags .entry))) ⌝ }
+    ensures { λ r. ⌜ leftByKeep r (now (stored .exit)) (now (reasons .exit)) (now (flags .exit)) (now («log_sizes» .exit)) (now («log_vars» .exit)) (now («log_values» .exit)) ≡ kept (recordIn session) (logIn (now («log_sizes» .entry)) (now («log_vars» .entry)) (now («log_values» .entry))) (toModel n m e (now (kinds .entry)) (now (makes .entry)) (now (params .entry)) (now (firsts .entry)) (now (counts .entry)) (now (vars .entry)) (now (coefs .entry)) (now (lows .entry)) (now (highs .entry)) (now (numbers .entry)) (now (order .entry)) (now (stored .entry)) (now («reader_starts» .entry)) (now («reader_places» .entry)) (now (reasons .entry))) (toKeep pairs (now («move_vars» .entry)) (now («move_values» .entry)) (now (flags .entry))) ⌝ }
 {
     let judged = judge_keep(
         session.kept,
@@ -63,6 +65,7 @@ pub fn keep_core(
         stored,
         reader_starts,
         reader_places,
+        reasons,
         pairs,
         move_vars,
         move_values,
@@ -98,6 +101,21 @@ pub fn keep_core(
         move_vars,
         move_values,
         flags,
+    );
+    note_reasons(
+        n,
+        m,
+        e,
+        kinds,
+        makes,
+        params,
+        firsts,
+        counts,
+        vars,
+        coefs,
+        stored,
+        flags,
+        reasons,
     );
     let blanks = blanks_among(n, stored);
     Done {

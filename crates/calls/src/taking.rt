@@ -2,7 +2,7 @@
 ghost use mathlib.Core.Path.{_≡_};
 ghost use Rattle.paper.specs.Log.{logIn};
 ghost use Rattle.paper.specs.Calls.{takeBack};
-ghost use Rattle.verdicts.specs.Lent.{toModel};
+ghost use Rattle.verdicts.specs.Lent.{toModel, toTake};
 ghost use Rattle.records.specs.Left.{recordIn, leftByKeep};
 use fills::fill_keep;
 use formulas::blanks::blanks_among;
@@ -14,8 +14,9 @@ use records::Done;
 use records::Session;
 use tables::Answer;
 use verdicts::judges::judge_take_back;
+use whys::notes::note_reasons;
 
-// Taking back the latest kept move, with the session record taken and given back by value.
+// Taking back the latest kept move, with the session record taken and given back by value. The reason of every variable evaluated is noted.
 pub fn take_back_core(
     session: Session,
     n: usize,
@@ -35,12 +36,13 @@ pub fn take_back_core(
     stored: &mut [i32],
     reader_starts: &[u16],
     reader_places: &[u16],
+    reasons: &mut [u8],
     flags: &mut [u8],
     log_sizes: &mut [u16],
     log_vars: &[u16],
     log_values: &[i32],
 ) -> Done
-    ensures { λ r. ⌜ leftByKeep r (now (stored .exit)) (now (flags .exit)) (now («log_sizes» .exit)) (now («log_vars» .entry)) (now («log_values» .entry)) ≡ takeBack (recordIn session) (logIn (now («log_sizes» .entry)) (now («log_vars» .entry)) (now («log_values» .entry))) (toModel n m e (now (kinds .entry)) (now (makes .entry)) (now (params .entry)) (now (firsts .entry)) (now (counts .entry)) (now (vars .entry)) (now (coefs .entry)) (now (lows .entry)) (now (highs .entry)) (now (numbers .entry)) (now (order .entry)) (now (stored .entry)) (now («reader_starts» .entry)) (now («reader_places» .entry))) (now (flags .entry)) ⌝ }
+    ensures { λ r. ⌜ leftByKeep r (now (stored .exit)) (now (reasons .exit)) (now (flags .exit)) (now («log_sizes» .exit)) (now («log_vars» .entry)) (now («log_values» .entry)) ≡ takeBack (recordIn session) (logIn (now («log_sizes» .entry)) (now («log_vars» .entry)) (now («log_values» .entry))) (toModel n m e (now (kinds .entry)) (now (makes .entry)) (now (params .entry)) (now (firsts .entry)) (now (counts .entry)) (now (vars .entry)) (now (coefs .entry)) (now (lows .entry)) (now (highs .entry)) (now (numbers .entry)) (now (order .entry)) (now (stored .entry)) (now («reader_starts» .entry)) (now («reader_places» .entry)) (now (reasons .entry))) (toTake (now (flags .entry))) ⌝ }
 {
     let judged = judge_take_back(
         session.kept,
@@ -62,6 +64,7 @@ pub fn take_back_core(
         stored,
         reader_starts,
         reader_places,
+        reasons,
         flags,
         log_sizes,
         log_vars,
@@ -94,6 +97,21 @@ pub fn take_back_core(
         &log_vars[64 * at..],
         &log_values[64 * at..],
         flags,
+    );
+    note_reasons(
+        n,
+        m,
+        e,
+        kinds,
+        makes,
+        params,
+        firsts,
+        counts,
+        vars,
+        coefs,
+        stored,
+        flags,
+        reasons,
     );
     drop_move(log_sizes);
     let blanks = blanks_among(n, stored);

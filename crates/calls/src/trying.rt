@@ -8,8 +8,9 @@ use records::Done;
 use records::Session;
 use tables::Answer;
 use verdicts::judges::judge_trial;
+use whys::notes::asked_reasons;
 
-// Trial, with the session record taken and given back by value.
+// Trial, with the session record taken and given back by value. Of every variable asked it gives the reason too: the stored one if the variable is not evaluated.
 pub fn trial_core(
     session: Session,
     n: usize,
@@ -29,6 +30,7 @@ pub fn trial_core(
     stored: &[i32],
     reader_starts: &[u16],
     reader_places: &[u16],
+    reasons: &[u8],
     pairs: usize,
     move_vars: &[u16],
     move_values: &[i32],
@@ -38,8 +40,9 @@ pub fn trial_core(
     results: &mut [i32],
     trial: &mut [i32],
     flags: &mut [u8],
+    why: &mut [u8],
 ) -> Done
-    ensures { λ r. ⌜ leftByTrial r (now (results .exit)) (now (trial .exit)) (now (flags .exit)) ≡ tried (recordIn session) (toModel n m e (now (kinds .entry)) (now (makes .entry)) (now (params .entry)) (now (firsts .entry)) (now (counts .entry)) (now (vars .entry)) (now (coefs .entry)) (now (lows .entry)) (now (highs .entry)) (now (numbers .entry)) (now (order .entry)) (now (stored .entry)) (now («reader_starts» .entry)) (now («reader_places» .entry))) (toTry pairs (now («move_vars» .entry)) (now («move_values» .entry)) asked (now («asked_vars» .entry)) route (now (results .entry)) (now (trial .entry)) (now (flags .entry))) ⌝ }
+    ensures { λ r. ⌜ leftByTrial r (now (results .exit)) (now (trial .exit)) (now (flags .exit)) (now (why .exit)) ≡ tried (recordIn session) (toModel n m e (now (kinds .entry)) (now (makes .entry)) (now (params .entry)) (now (firsts .entry)) (now (counts .entry)) (now (vars .entry)) (now (coefs .entry)) (now (lows .entry)) (now (highs .entry)) (now (numbers .entry)) (now (order .entry)) (now (stored .entry)) (now («reader_starts» .entry)) (now («reader_places» .entry)) (now (reasons .entry))) (toTry pairs (now («move_vars» .entry)) (now («move_values» .entry)) asked (now («asked_vars» .entry)) route (now (results .entry)) (now (trial .entry)) (now (flags .entry)) (now (why .entry))) ⌝ }
 {
     let judged = judge_trial(
         session.blanks,
@@ -60,6 +63,7 @@ pub fn trial_core(
         stored,
         reader_starts,
         reader_places,
+        reasons,
         pairs,
         move_vars,
         move_values,
@@ -69,6 +73,7 @@ pub fn trial_core(
         results,
         trial,
         flags,
+        why,
     );
     let Answer::Accepted { .. } = judged else {
         return Done {
@@ -101,6 +106,23 @@ pub fn trial_core(
         results,
         trial,
         flags,
+    );
+    asked_reasons(
+        n,
+        m,
+        e,
+        kinds,
+        makes,
+        params,
+        firsts,
+        counts,
+        vars,
+        coefs,
+        trial,
+        flags,
+        reasons,
+        &asked_vars[0..asked],
+        why,
     );
     Done {
         answer: Answer::Accepted { evaluations },

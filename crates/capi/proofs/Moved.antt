@@ -7,7 +7,7 @@ use Rattle.files.specs.MoveAnswers.{hasConverted}
 use Rattle.files.specs.declared.conversions.Converted.{Converted}
 use Rattle.files.specs.declared.conversions.Converted.the-variants.{Accepted, Refused}
 use Rattle.capi.specs.declared.MoveOutcome.{MoveOutcome}
-use Rattle.capi.specs.Versions.{moveInNumbers, movedOut}
+use Rattle.capi.specs.Outcomes.{moveInNumbers, movedOut}
 
 pub moved-out : {r : MoveOutcome} (told : Converted) (file : List ℕ) {left : Verdict × (ℕ × List ℕ)} → r ≡ moveInNumbers told → hasConverted told file ≡ left → (r, file) ≡ movedOut left
 moved-out told file e f = ap (λ (x : MoveOutcome). (x, file)) e ∙ same told ∙ ap movedOut f

@@ -1,5 +1,6 @@
 // A batch of moves in figures across the C boundary.
 ghost use mathlib.Core.Path.{_≡_};
+ghost use lib.ListN.{replicate};
 ghost use Rattle.verdicts.specs.Lent.{toModel};
 ghost use Rattle.records.specs.Left.{recordIn};
 ghost use Rattle.figures.specs.Figures.{batchOf, figures as counted};
@@ -68,7 +69,7 @@ pub extern "C" fn lukhandro_figures(
     asked: u16,
     by_number: &mut [u32],
 ) -> FiguresOutcome
-    ensures { λ r. ⌜ (r, now («by_number» .exit)) ≡ figuresOut (counted (recordIn (now (session .entry))) (toModel n m e (now (kinds .entry)) (now (makes .entry)) (now (params .entry)) (now (firsts .entry)) (now (counts .entry)) (now (vars .entry)) (now (coefs .entry)) (now (lows .entry)) (now (highs .entry)) (now (numbers .entry)) (now (order .entry)) (now (stored .entry)) (now («reader_starts» .entry)) (now («reader_places» .entry))) asked (batchOf moves (now («move_pairs» .entry)) (now («move_vars» .entry)) (now («move_values» .entry))) (now («by_number» .entry))) ⌝ }
+    ensures { λ r. ⌜ (r, now («by_number» .exit)) ≡ figuresOut (counted (recordIn (now (session .entry))) (toModel n m e (now (kinds .entry)) (now (makes .entry)) (now (params .entry)) (now (firsts .entry)) (now (counts .entry)) (now (vars .entry)) (now (coefs .entry)) (now (lows .entry)) (now (highs .entry)) (now (numbers .entry)) (now (order .entry)) (now (stored .entry)) (now («reader_starts» .entry)) (now («reader_places» .entry)) (replicate 4096 0)) asked (batchOf moves (now («move_pairs» .entry)) (now («move_vars» .entry)) (now («move_values» .entry))) (now («by_number» .entry))) ⌝ }
 {
     let told = figures(
         *session,

@@ -2,8 +2,7 @@
 ghost use mathlib.Core.Path.{_≡_};
 ghost use Rattle.paper.specs.Tables.{lent};
 ghost use Rattle.paper.specs.File as File;
-ghost use Rattle.capi.specs.Outcomes.{writtenOut};
-ghost use Rattle.capi.specs.Versions.{leftByReadBounded, readBoundedOut};
+ghost use Rattle.capi.specs.Outcomes.{leftByRead, writtenOut, readOut};
 use crate::ReadOutcome;
 use crate::file::read_numbers;
 use crate::file::written_numbers;
@@ -31,7 +30,7 @@ pub extern "C" fn lukhandro_write_bounded(
 ) -> Outcome
     ensures { λ r. ⌜
         (r, now (bytes .exit))
-        ≡ writtenOut (File.writeBounded (File.contents
+        ≡ writtenOut (File.write File.version2 (File.contents
         (lent n m e (now (kinds .entry)) (now (makes .entry)) (now (params .entry)) (now (firsts .entry)) (now (counts .entry)) (now (vars .entry)) (now (coefs .entry)))
         (now (starts .entry)) (now (lows .entry)) (now (highs .entry))) (now (bytes .entry)))
         ⌝ }
@@ -71,10 +70,10 @@ pub extern "C" fn lukhandro_read_bounded(
     highs: &mut [i32],
 ) -> ReadOutcome
     ensures { λ r. ⌜
-        leftByReadBounded r (File.contents
+        leftByRead r (File.contents
         (lent 0 0 0 (now (kinds .exit)) (now (makes .exit)) (now (params .exit)) (now (firsts .exit)) (now (counts .exit)) (now (vars .exit)) (now (coefs .exit)))
         (now (starts .exit)) (now (lows .exit)) (now (highs .exit)))
-        ≡ readBoundedOut (File.readBounded (now (bytes .entry)) (File.contents
+        ≡ readOut (File.read File.version2 (now (bytes .entry)) (File.contents
         (lent 0 0 0 (now (kinds .entry)) (now (makes .entry)) (now (params .entry)) (now (firsts .entry)) (now (counts .entry)) (now (vars .entry)) (now (coefs .entry)))
         (now (starts .entry)) (now (lows .entry)) (now (highs .entry))))
         ⌝ }

@@ -2,7 +2,7 @@
 ghost use mathlib.Core.Path.{_≡_};
 ghost use Rattle.verdicts.specs.Lent.{toBuild};
 ghost use Rattle.records.specs.Left.{recordIn};
-ghost use Rattle.paper.specs.Reasoned.{buildReasoned};
+ghost use Rattle.paper.specs.Calls.{build as built};
 ghost use Rattle.capi.specs.Outcomes.{hadByBuild, builtOut};
 use records::Session;
 use records::answers::Outcome;
@@ -33,7 +33,7 @@ pub extern "C" fn lukhandro_build(
     reasons: &mut [u8],
     log_sizes: &mut [u16],
 ) -> Outcome
-    ensures { λ r. ⌜ hadByBuild r (now (session .exit)) (now (numbers .exit)) (now (order .exit)) (now (stored .exit)) (now («reader_starts» .exit)) (now («reader_places» .exit)) (now («log_sizes» .exit)) (now (reasons .exit)) ≡ builtOut (buildReasoned (toBuild (recordIn (now (session .entry))) n m e (now (kinds .entry)) (now (makes .entry)) (now (params .entry)) (now (firsts .entry)) (now (counts .entry)) (now (vars .entry)) (now (coefs .entry)) (now (lows .entry)) (now (highs .entry)) (now (starts .entry)) (now (numbers .entry)) (now (order .entry)) (now (stored .entry)) (now («reader_starts» .entry)) (now («reader_places» .entry)) (now («log_sizes» .entry))) (now (reasons .entry))) ⌝ }
+    ensures { λ r. ⌜ hadByBuild r (now (session .exit)) (now (numbers .exit)) (now (order .exit)) (now (stored .exit)) (now («reader_starts» .exit)) (now («reader_places» .exit)) (now (reasons .exit)) (now («log_sizes» .exit)) ≡ builtOut (built (toBuild (recordIn (now (session .entry))) n m e (now (kinds .entry)) (now (makes .entry)) (now (params .entry)) (now (firsts .entry)) (now (counts .entry)) (now (vars .entry)) (now (coefs .entry)) (now (lows .entry)) (now (highs .entry)) (now (starts .entry)) (now (numbers .entry)) (now (order .entry)) (now (stored .entry)) (now («reader_starts» .entry)) (now («reader_places» .entry)) (now (reasons .entry)) (now («log_sizes» .entry)))) ⌝ }
 {
     let answer = engine::build(
         session,

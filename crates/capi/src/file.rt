@@ -72,9 +72,9 @@ pub extern "C" fn lukhandro_write(
 ) -> Outcome
     ensures { λ r. ⌜
         (r, now (bytes .exit))
-        ≡ writtenOut (File.write
+        ≡ writtenOut (File.write File.version1 (File.unboundedContents
         (lent n m e (now (kinds .entry)) (now (makes .entry)) (now (params .entry)) (now (firsts .entry)) (now (counts .entry)) (now (vars .entry)) (now (coefs .entry)))
-        (now (starts .entry)) (now (bytes .entry)))
+        (now (starts .entry))) (now (bytes .entry)))
         ⌝ }
 {
     let told = write(
@@ -108,12 +108,12 @@ pub extern "C" fn lukhandro_read(
     coefs: &mut [i16],
 ) -> ReadOutcome
     ensures { λ r. ⌜
-        leftByRead r
+        leftByRead r (File.unboundedContents
         (lent 0 0 0 (now (kinds .exit)) (now (makes .exit)) (now (params .exit)) (now (firsts .exit)) (now (counts .exit)) (now (vars .exit)) (now (coefs .exit)))
-        (now (starts .exit))
-        ≡ readOut (File.read (now (bytes .entry))
+        (now (starts .exit)))
+        ≡ readOut (File.read File.version1 (now (bytes .entry)) (File.unboundedContents
         (lent 0 0 0 (now (kinds .entry)) (now (makes .entry)) (now (params .entry)) (now (firsts .entry)) (now (counts .entry)) (now (vars .entry)) (now (coefs .entry)))
-        (now (starts .entry)))
+        (now (starts .entry))))
         ⌝ }
 {
     let told = read(

@@ -3,7 +3,7 @@ ghost use mathlib.Core.Path.{_≡_};
 ghost use Rattle.paper.specs.Log.{logIn};
 ghost use Rattle.verdicts.specs.Lent.{toModel, toKeep};
 ghost use Rattle.records.specs.Left.{recordIn};
-ghost use Rattle.paper.specs.Reasoned.{keepReasoned};
+ghost use Rattle.paper.specs.Calls.{keep as kept};
 ghost use Rattle.capi.specs.Outcomes.{hadByKeep, keptOut};
 use records::Session;
 use records::answers::Outcome;
@@ -39,7 +39,7 @@ pub extern "C" fn lukhandro_keep(
     log_vars: &mut [u16],
     log_values: &mut [i32],
 ) -> Outcome
-    ensures { λ r. ⌜ hadByKeep r (now (session .exit)) (now (stored .exit)) (now (flags .exit)) (now («log_sizes» .exit)) (now («log_vars» .exit)) (now («log_values» .exit)) (now (reasons .exit)) ≡ keptOut (keepReasoned (recordIn (now (session .entry))) (logIn (now («log_sizes» .entry)) (now («log_vars» .entry)) (now («log_values» .entry))) (toModel n m e (now (kinds .entry)) (now (makes .entry)) (now (params .entry)) (now (firsts .entry)) (now (counts .entry)) (now (vars .entry)) (now (coefs .entry)) (now (lows .entry)) (now (highs .entry)) (now (numbers .entry)) (now (order .entry)) (now (stored .entry)) (now («reader_starts» .entry)) (now («reader_places» .entry))) (now (reasons .entry)) (toKeep pairs (now («move_vars» .entry)) (now («move_values» .entry)) (now (flags .entry)))) ⌝ }
+    ensures { λ r. ⌜ hadByKeep r (now (session .exit)) (now (stored .exit)) (now (reasons .exit)) (now (flags .exit)) (now («log_sizes» .exit)) (now («log_vars» .exit)) (now («log_values» .exit)) ≡ keptOut (kept (recordIn (now (session .entry))) (logIn (now («log_sizes» .entry)) (now («log_vars» .entry)) (now («log_values» .entry))) (toModel n m e (now (kinds .entry)) (now (makes .entry)) (now (params .entry)) (now (firsts .entry)) (now (counts .entry)) (now (vars .entry)) (now (coefs .entry)) (now (lows .entry)) (now (highs .entry)) (now (numbers .entry)) (now (order .entry)) (now (stored .entry)) (now («reader_starts» .entry)) (now («reader_places» .entry)) (now (reasons .entry))) (toKeep pairs (now («move_vars» .entry)) (now («move_values» .entry)) (now (flags .entry)))) ⌝ }
 {
     let answer = engine::keep(
         session,

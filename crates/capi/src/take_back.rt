@@ -1,9 +1,9 @@
 // Taking back across the C boundary.
 ghost use mathlib.Core.Path.{_≡_};
 ghost use Rattle.paper.specs.Log.{logIn};
-ghost use Rattle.verdicts.specs.Lent.{toModel};
+ghost use Rattle.verdicts.specs.Lent.{toModel, toTake};
 ghost use Rattle.records.specs.Left.{recordIn};
-ghost use Rattle.paper.specs.Reasoned.{takeReasoned};
+ghost use Rattle.paper.specs.Calls.{takeBack};
 ghost use Rattle.capi.specs.Outcomes.{hadByKeep, keptOut};
 use records::Session;
 use records::answers::Outcome;
@@ -36,7 +36,7 @@ pub extern "C" fn lukhandro_take_back(
     log_vars: &[u16],
     log_values: &[i32],
 ) -> Outcome
-    ensures { λ r. ⌜ hadByKeep r (now (session .exit)) (now (stored .exit)) (now (flags .exit)) (now («log_sizes» .exit)) (now («log_vars» .entry)) (now («log_values» .entry)) (now (reasons .exit)) ≡ keptOut (takeReasoned (recordIn (now (session .entry))) (logIn (now («log_sizes» .entry)) (now («log_vars» .entry)) (now («log_values» .entry))) (toModel n m e (now (kinds .entry)) (now (makes .entry)) (now (params .entry)) (now (firsts .entry)) (now (counts .entry)) (now (vars .entry)) (now (coefs .entry)) (now (lows .entry)) (now (highs .entry)) (now (numbers .entry)) (now (order .entry)) (now (stored .entry)) (now («reader_starts» .entry)) (now («reader_places» .entry))) (now (reasons .entry)) (now (flags .entry))) ⌝ }
+    ensures { λ r. ⌜ hadByKeep r (now (session .exit)) (now (stored .exit)) (now (reasons .exit)) (now (flags .exit)) (now («log_sizes» .exit)) (now («log_vars» .entry)) (now («log_values» .entry)) ≡ keptOut (takeBack (recordIn (now (session .entry))) (logIn (now («log_sizes» .entry)) (now («log_vars» .entry)) (now («log_values» .entry))) (toModel n m e (now (kinds .entry)) (now (makes .entry)) (now (params .entry)) (now (firsts .entry)) (now (counts .entry)) (now (vars .entry)) (now (coefs .entry)) (now (lows .entry)) (now (highs .entry)) (now (numbers .entry)) (now (order .entry)) (now (stored .entry)) (now («reader_starts» .entry)) (now («reader_places» .entry)) (now (reasons .entry))) (toTake (now (flags .entry)))) ⌝ }
 {
     let answer = engine::take_back(
         session,

@@ -2,7 +2,7 @@
 ghost use mathlib.Core.Path.{_≡_};
 ghost use Rattle.verdicts.specs.Lent.{toModel, toTry};
 ghost use Rattle.records.specs.Left.{recordIn};
-ghost use Rattle.paper.specs.Reasoned.{trialReasoned};
+ghost use Rattle.paper.specs.Calls.{trial as tried};
 ghost use Rattle.capi.specs.Outcomes.{hadByTrial, triedOut};
 use records::Session;
 use records::answers::Outcome;
@@ -41,7 +41,7 @@ pub extern "C" fn lukhandro_trial(
     flags: &mut [u8],
     why: &mut [u8],
 ) -> Outcome
-    ensures { λ r. ⌜ hadByTrial r (now (session .exit)) (now (results .exit)) (now (trial .exit)) (now (flags .exit)) (now (why .exit)) ≡ triedOut (trialReasoned (recordIn (now (session .entry))) (toModel n m e (now (kinds .entry)) (now (makes .entry)) (now (params .entry)) (now (firsts .entry)) (now (counts .entry)) (now (vars .entry)) (now (coefs .entry)) (now (lows .entry)) (now (highs .entry)) (now (numbers .entry)) (now (order .entry)) (now (stored .entry)) (now («reader_starts» .entry)) (now («reader_places» .entry))) (now (reasons .entry)) (toTry pairs (now («move_vars» .entry)) (now («move_values» .entry)) asked (now («asked_vars» .entry)) route (now (results .entry)) (now (trial .entry)) (now (flags .entry))) (now (why .entry))) ⌝ }
+    ensures { λ r. ⌜ hadByTrial r (now (session .exit)) (now (results .exit)) (now (trial .exit)) (now (flags .exit)) (now (why .exit)) ≡ triedOut (tried (recordIn (now (session .entry))) (toModel n m e (now (kinds .entry)) (now (makes .entry)) (now (params .entry)) (now (firsts .entry)) (now (counts .entry)) (now (vars .entry)) (now (coefs .entry)) (now (lows .entry)) (now (highs .entry)) (now (numbers .entry)) (now (order .entry)) (now (stored .entry)) (now («reader_starts» .entry)) (now («reader_places» .entry)) (now (reasons .entry))) (toTry pairs (now («move_vars» .entry)) (now («move_values» .entry)) asked (now («asked_vars» .entry)) route (now (results .entry)) (now (trial .entry)) (now (flags .entry)) (now (why .entry)))) ⌝ }
 {
     let answer = engine::trial(
         session,

@@ -1,7 +1,7 @@
 // Moves of a file from one version to the other, across the C boundary.
 ghost use mathlib.Core.Path.{_≡_};
 ghost use Rattle.paper.specs.File as File;
-ghost use Rattle.capi.specs.Versions.{moveInNumbers, movedOut};
+ghost use Rattle.capi.specs.Outcomes.{moveInNumbers, movedOut};
 use crate::MoveOutcome;
 use files::conversions::Converted;
 use files::conversions::to_version_1;
@@ -28,7 +28,7 @@ fn move_numbers(told: Converted) -> MoveOutcome
 // `files::conversions::to_version_2` for C.
 #[no_mangle]
 pub extern "C" fn lukhandro_to_version_2(bytes: &[u8], file: &mut [u8]) -> MoveOutcome
-    ensures { λ r. ⌜ (r, now (file .exit)) ≡ movedOut (File.toVersion2 (now (bytes .entry)) (now (file .entry))) ⌝ }
+    ensures { λ r. ⌜ (r, now (file .exit)) ≡ movedOut (File.convert File.version1 File.version2 (now (bytes .entry)) (now (file .entry))) ⌝ }
 {
     let told = to_version_2(bytes, file);
     move_numbers(told)
@@ -37,7 +37,7 @@ pub extern "C" fn lukhandro_to_version_2(bytes: &[u8], file: &mut [u8]) -> MoveO
 // `files::conversions::to_version_1` for C.
 #[no_mangle]
 pub extern "C" fn lukhandro_to_version_1(bytes: &[u8], file: &mut [u8]) -> MoveOutcome
-    ensures { λ r. ⌜ (r, now (file .exit)) ≡ movedOut (File.toVersion1 (now (bytes .entry)) (now (file .entry))) ⌝ }
+    ensures { λ r. ⌜ (r, now (file .exit)) ≡ movedOut (File.convert File.version2 File.version1 (now (bytes .entry)) (now (file .entry))) ⌝ }
 {
     let told = to_version_1(bytes, file);
     move_numbers(told)

@@ -11,8 +11,8 @@ use lib.ListN.{List·getD-append}
 use borrow.Author.Tests.{eq-eqb}
 use Rattle.paper.specs.Lists.{every, nat, firstFail, allBelow}
 use Rattle.paper.specs.Net.{able}
-use Rattle.paper.specs.Tables.{Tables, net, inputsOf, order}
-use Rattle.paper.specs.Checks.{numbered}
+use Rattle.paper.specs.Tables.{Tables, net, inputsOf}
+use Rattle.paper.specs.Straight.{order, numbered}
 use Rattle.paper.specs.Chains.{permitted, groupNumber, groupOrder, groupsNumbered}
 use Rattle.paper.proofs.Lists.{each, all-yes}
 use Rattle.paper.proofs.Least.{allBelow-at, below-all}

@@ -40,7 +40,8 @@ cutOut t r first count =
 
 alone-cut : (t : Tables) → Sized t → (r : ℕ) → r < t .m → (first count : ℕ) → first ≡ nat (t .firsts) r → count ≡ nat (t .counts) r → cutOut t r first count ≡ packed t (r ∷ [])
 alone-cut t s r low first count f c =
-    same-tables (let z : nat (t .counts) r + 0 ≡ nat (t .counts) r = omega arith in c ∙ sym z)
+    let none : nat (t .counts) r + 0 ≡ nat (t .counts) r = omega arith in
+    same-tables (c ∙ sym none)
     (one-place (t .kinds) r 0 (let h = s .kinds in omega arith)) (one-place (t .makes) r 0 (let h = s .makes in omega arith))
     (one-place (t .params) r (pos 0) (let h = s .params in omega arith)) (one-place (t .counts) r 0 (let h = s .counts in omega arith))
     (part-same (t .vars) first count _ _ f c) (part-same (t .coefs) first count _ _ f c)

@@ -1,6 +1,7 @@
 -- What a file gives by its counts: rows exactly as long as the counts, each number one of its field, and the same as reading lays over any lent
 -- rows. Assumes nothing.
 use Prim.Native.Nat.{ℕ, _+_, _*_, _^_, _≤_, _<_}
+use native.Mathlib.Nat.{not-suc-le-zero}
 use mathlib.Core.List.{List, [], _++_, append-nil}
 use mathlib.Core.Path.{_≡_, refl, ap, _∙_}
 use lib.Dec.{eqb, leb}
@@ -14,8 +15,7 @@ use mir.Facts.{sfits-toZ}
 use Rattle.paper.specs.Lists.{between, nat, below, over}
 use Rattle.paper.specs.Tables.{Tables}
 use Rattle.paper.specs.Checks.{accepted}
-use Rattle.paper.specs.File.{field, rowsAt, entriesAt, nIn, mIn, eIn, headed, column, laid}
-use Rattle.paper.specs.Demands.{Fitting, cut}
+use Rattle.paper.specs.File.{field, version1, rowsFrom, entriesFrom, unboundedContents, nIn, mIn, eIn, headed, column, laid, Fitting, cut}
 use Rattle.paper.proofs.Lists.{and-left, and-right}
 use Rattle.paper.proofs.Buffers.{length-below, over-at, over-front}
 use Rattle.paper.proofs.Verdicts.{require-held, require-rest}
@@ -40,7 +40,7 @@ module _ (bytes : List ℕ) where
   starts-long = over-long (nIn bytes) _
 
   -- what reading lays over lent rows, without what they hold beyond the counts
-  pub laid-given : (t : Tables) (starts : List ℤ) → cut (laid bytes (nIn bytes) (mIn bytes) (eIn bytes) t starts) ≡ (given bytes, startGiven bytes)
+  pub laid-given : (t : Tables) (starts : List ℤ) → cut version1 (laid version1 bytes (nIn bytes) (mIn bytes) (eIn bytes) (unboundedContents t starts)) ≡ unboundedContents (given bytes) (startGiven bytes)
   laid-given t starts = simp (over-front, over-nothing)
 
   -- how many variables a header that is right states
@@ -48,7 +48,7 @@ module _ (bytes : List ℕ) where
     pub some : 1 ≤ nIn bytes
     pub most : nIn bytes ≤ 4096
 
-  pub variables : headed bytes accepted ≡ accepted → Variables
+  pub variables : headed version1 bytes accepted ≡ accepted → Variables
   variables h =
       let n = nIn bytes in
       let far = require-rest 14 0 (eqb (field 2 0 bytes) 1) _ (require-rest 14 (length bytes) (leb 24 (length bytes)) _ h) in
@@ -66,15 +66,16 @@ module _ (bytes : List ℕ) (small : (i : ℕ) → nat bytes i < 256) where
       let f = field-small bytes small w (at + step * i) in
       rw (over-at (λ j. toZ width (column bytes w at step j)) n [] i (pos 0) l) (sfits-toZ {w = width} (record { fits = rw same at f }))
 
-  pub given-fits : Fitting (given bytes) (startGiven bytes)
+  pub given-fits : Fitting version1 (unboundedContents (given bytes) (startGiven bytes))
   given-fits = let n = nIn bytes in let m = mIn bytes in let e = eIn bytes in record {
     starts = signed w32 4 refl n 24 4;
     rows = λ r l. (
-      number m (rowsAt n) 12 r l,
-      number m (rowsAt n + 2) 12 r l,
-      signed w32 4 refl m (rowsAt n + 4) 12 r l,
-      number m (rowsAt n + 8) 12 r l,
-      number m (rowsAt n + 10) 12 r l,
+      number m (rowsFrom 24 n) 12 r l,
+      number m (rowsFrom 24 n + 2) 12 r l,
+      signed w32 4 refl m (rowsFrom 24 n + 4) 12 r l,
+      number m (rowsFrom 24 n + 8) 12 r l,
+      number m (rowsFrom 24 n + 10) 12 r l,
     );
-    entries = λ i l. (number e (entriesAt n m) 4 i l, signed w16 2 refl e (entriesAt n m + 2) 4 i l);
+    entries = λ i l. (number e (entriesFrom 24 n m) 4 i l, signed w16 2 refl e (entriesFrom 24 n m + 2) 4 i l);
+    bounds = λ i l. absurd (not-suc-le-zero l);
   }

@@ -11,7 +11,7 @@ use lib.ListN.{length, getD, set, replicate, length-set, length-replicate, getD-
 use lib.Seq.{getD-set-same, getD-set-other}
 use borrow.Author.Tests.{leb-true, eqb-true, eqb-false}
 use Rattle.paper.specs.Lists.{any, total, nat, over}
-use Rattle.paper.specs.Tables.{Tables, lent}
+use Rattle.paper.specs.Tables.{Tables}
 use Rattle.paper.specs.File.{version1, endsAt, mIn, eIn}
 use Rattle.paper.proofs.Lists.{and-left, and-right}
 use Rattle.paper.proofs.Buffers.{Filled, filled-end, over-at}
@@ -47,11 +47,11 @@ gives-sized {bytes} g = let h = counted-facts version1 bytes (g .head) in rw (g 
 -- ── the test of a row ──
 -- the row and its entries are whole, in the words of the tables
 abbrev pub whole : List ℕ → Tables → ℕ → Bool
-whole bytes t r = let end = nat (t .firsts) r + nat (t .counts) r in rowWhole bytes r && (leb end (t .e) && leb (endsAt (t .n) (t .m) end) (length bytes))
+whole bytes t r = let end = nat (t .firsts) r + nat (t .counts) r in rowWhole bytes r && (leb end (t .e) && leb (endsAt version1 (t .n) (t .m) end) (length bytes))
 
 pub whole-inside : (bytes : List ℕ) (t : Tables) (r : ℕ) → whole bytes t r ≡ true → nat (t .firsts) r + nat (t .counts) r ≤ t .e
 whole-inside bytes t r h =
-    let end = nat (t .firsts) r + nat (t .counts) r in let there = leb (endsAt (t .n) (t .m) end) (length bytes) in
+    let end = nat (t .firsts) r + nat (t .counts) r in let there = leb (endsAt version1 (t .n) (t .m) end) (length bytes) in
     leb-true end (t .e) (and-left (leb end (t .e)) there (and-right (rowWhole bytes r) (leb end (t .e) && there) h))
 
 module _ (bytes : List ℕ) (t : Tables) (r : ℕ) (earlier : List ℕ) where

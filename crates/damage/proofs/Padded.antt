@@ -12,10 +12,9 @@ use mir.Val.{toZ}
 use Rattle.paper.specs.Lists.{nat, below}
 use Rattle.paper.specs.Tables.{Tables}
 use Rattle.paper.specs.Checks.{accepted}
-use Rattle.paper.specs.File.{field, rowsAt, entriesAt, endsAt, headed, nIn, mIn, eIn, laid}
-use Rattle.paper.specs.Demands.{cut}
+use Rattle.paper.specs.File.{field, version1, rowsFrom, entriesFrom, endsAt, unboundedContents, headed, nIn, mIn, eIn, laid, cut}
 use Rattle.paper.proofs.Buffers.{Filled, getD-below, over-same}
-use Rattle.paper.proofs.Reading.{same-rows}
+use Rattle.paper.proofs.Reading.{same-contents}
 use Rattle.damage.specs.Scratch.{Laid}
 use Rattle.damage.proofs.Given.{laid-given}
 
@@ -32,21 +31,26 @@ module _ (bytes : List ℕ) {file : List ℕ} (p : file ≡ below (nat bytes) (l
   field-same (suc w) k h = ap₂ (λ a b. a + 256 * b) (byte-same k (omega arith)) (field-same w (suc k) (omega arith))
 
   -- what is laid from the buffer over lent rows
-  laid-same : (n m e : ℕ) → endsAt n m e ≤ length file → (t : Tables) (starts : List ℤ) → laid file n m e t starts ≡ laid bytes n m e t starts
+  laid-same : (n m e : ℕ) → endsAt version1 n m e ≤ length file → (t : Tables) (starts : List ℤ) → laid version1 file n m e (unboundedContents t starts) ≡ laid version1 bytes n m e (unboundedContents t starts)
   laid-same n m e long t starts =
-      same-rows
+      same-contents
       (over-same _ n starts _ (λ v l. ap (toZ w32) (field-same 4 (24 + 4 * v) (omega arith))))
-      (over-same _ m (t .kinds) _ (λ r l. field-same 2 (rowsAt n + 12 * r) (omega arith)))
-      (over-same _ m (t .makes) _ (λ r l. field-same 2 (rowsAt n + 2 + 12 * r) (omega arith)))
-      (over-same _ m (t .params) _ (λ r l. ap (toZ w32) (field-same 4 (rowsAt n + 4 + 12 * r) (omega arith))))
-      (over-same _ m (t .firsts) _ (λ r l. field-same 2 (rowsAt n + 8 + 12 * r) (omega arith)))
-      (over-same _ m (t .counts) _ (λ r l. field-same 2 (rowsAt n + 10 + 12 * r) (omega arith)))
-      (over-same _ e (t .vars) _ (λ i l. field-same 2 (entriesAt n m + 4 * i) (omega arith)))
-      (over-same _ e (t .coefs) _ (λ i l. ap (toZ w16) (field-same 2 (entriesAt n m + 2 + 4 * i) (omega arith))))
+      (over-same _ m (t .kinds) _ (λ r l. field-same 2 (rowsFrom 24 n + 12 * r) (omega arith)))
+      (over-same _ m (t .makes) _ (λ r l. field-same 2 (rowsFrom 24 n + 2 + 12 * r) (omega arith)))
+      (over-same _ m (t .params) _ (λ r l. ap (toZ w32) (field-same 4 (rowsFrom 24 n + 4 + 12 * r) (omega arith))))
+      (over-same _ m (t .firsts) _ (λ r l. field-same 2 (rowsFrom 24 n + 8 + 12 * r) (omega arith)))
+      (over-same _ m (t .counts) _ (λ r l. field-same 2 (rowsFrom 24 n + 10 + 12 * r) (omega arith)))
+      (over-same _ e (t .vars) _ (λ i l. field-same 2 (entriesFrom 24 n m + 4 * i) (omega arith)))
+      (over-same _ e (t .coefs) _ (λ i l. ap (toZ w16) (field-same 2 (entriesFrom 24 n m + 2 + 4 * i) (omega arith))))
+      refl
+      refl
 
-  pub laid-padded : (n m e : ℕ) → endsAt n m e ≤ length file → headed bytes accepted ≡ accepted → (n ≡ nIn bytes) × (m ≡ mIn bytes) × (e ≡ eIn bytes)
-      → (t : Tables) (starts : List ℤ) {after : Tables} {values : List ℤ} → _≡_ {A = Tables × List ℤ} (after, values) (laid file n m e t starts) → Laid bytes after values
+  pub laid-padded : (n m e : ℕ) → endsAt version1 n m e ≤ length file → headed version1 bytes accepted ≡ accepted → (n ≡ nIn bytes) × (m ≡ mIn bytes) × (e ≡ eIn bytes)
+      → (t : Tables) (starts : List ℤ) {after : Tables} {values : List ℤ} → unboundedContents after values ≡ laid version1 file n m e (unboundedContents t starts) → Laid bytes after values
   laid-padded n m e long head (i, j, k) t starts q = record {
     head = head;
-    is = ap cut (q ∙ laid-same n m e long t starts ∙ rw (i, j, k)) ∙ laid-given bytes t starts;
+    is =
+        let c = unboundedContents t starts in
+        let stated : laid version1 bytes n m e c ≡ laid version1 bytes (nIn bytes) (mIn bytes) (eIn bytes) c = rw (i, j, k) in
+        ap (cut version1) (q ∙ laid-same n m e long t starts ∙ stated) ∙ laid-given bytes t starts;
   }

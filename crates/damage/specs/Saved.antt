@@ -1,4 +1,4 @@
--- What is saved of a damaged model file: its rows that are whole and good and that can be numbered, the start values that build takes, and the
+-- What is saved of a damaged model file of version 1: its rows that are whole and good and that can be numbered, the start values that build takes, and the
 -- list of what was not saved. Of the header only the counts are looked at, and everything is placed by these counts. Assumes nothing.
 use Prim.Native.Nat.{ℕ, zero, suc, _+_}
 use mathlib.Core.Bool.{Bool, cond, not, _&&_}
@@ -9,7 +9,7 @@ use lib.ListN.{length, getD, take}
 use Rattle.paper.specs.Lists.{any, every, total, nat, those, joined, below}
 use Rattle.paper.specs.Tables.{Tables, lent, part, ends, valuesIn}
 use Rattle.paper.specs.Checks.{kindGood, shapeGood, numberGood, startGood}
-use Rattle.paper.specs.File.{rowsAt, entriesAt, endsAt, fileBytes, nIn, mIn, eIn, startsIn, tablesIn}
+use Rattle.paper.specs.File.{version1, rowsFrom, entriesFrom, endsAt, unboundedContents, fileBytes, nIn, mIn, eIn, startsFrom, tablesFrom}
 
 -- ── packing ──
 -- the tables of these rows alone, in this order, with their parts one after another
@@ -32,20 +32,20 @@ aloneGood t r = let alone = packed t (r ∷ []) in every (kindGood alone 0 ∷ s
 module _ (bytes : List ℕ) where
   -- ── what the file gives: its tables and start values, a missing byte being 0 ──
   abbrev pub given : Tables
-  given = tablesIn bytes (nIn bytes) (mIn bytes) (eIn bytes) (lent 0 0 0 [] [] [] [] [] [] [])
+  given = tablesFrom bytes 24 (nIn bytes) (mIn bytes) (eIn bytes) (lent 0 0 0 [] [] [] [] [] [] [])
 
   abbrev pub startGiven : List ℤ
-  startGiven = startsIn bytes (nIn bytes) (mIn bytes) (eIn bytes) []
+  startGiven = startsFrom bytes 24 (nIn bytes) (mIn bytes) (eIn bytes) []
 
   -- a start value, a row, and the entries of a row are whole in the file
   abbrev pub startWhole : ℕ → Bool
-  startWhole v = leb (rowsAt (suc v)) (length bytes)
+  startWhole v = leb (rowsFrom 24 (suc v)) (length bytes)
 
   abbrev pub rowWhole : ℕ → Bool
-  rowWhole r = leb (entriesAt (nIn bytes) (suc r)) (length bytes)
+  rowWhole r = leb (entriesFrom 24 (nIn bytes) (suc r)) (length bytes)
 
   abbrev pub entriesWhole : ℕ → Bool
-  entriesWhole r = let end = nat (given .firsts) r + nat (given .counts) r in leb end (eIn bytes) && leb (endsAt (nIn bytes) (mIn bytes) end) (length bytes)
+  entriesWhole r = let end = nat (given .firsts) r + nat (given .counts) r in leb end (eIn bytes) && leb (endsAt version1 (nIn bytes) (mIn bytes) end) (length bytes)
 
   -- ── the rows kept ──
   -- a row can be kept after these: it is whole and good, none of them makes its variable, and the entries stay within 16,384
@@ -74,7 +74,7 @@ module _ (bytes : List ℕ) where
   savedStarts = below (λ v. cond (startKept v) (getD startGiven v (pos 0)) (pos 0)) (nIn bytes)
 
   unfoldable pub savedFile : List ℕ
-  savedFile = fileBytes savedTables savedStarts
+  savedFile = fileBytes version1 (unboundedContents savedTables savedStarts)
 
   -- ── the list: rows dropped, by row; then start values missing or reset, by variable ──
   abbrev pub droppedRows : List ℕ

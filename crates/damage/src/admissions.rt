@@ -5,7 +5,7 @@ ghost use mathlib.Core.Path.{_≡_};
 ghost use Prim.Native.Nat.{_+_, _≤_, _<_};
 ghost use lib.Dec.{leb};
 ghost use lib.ListN.{length, getD};
-ghost use Rattle.paper.specs.File.{endsAt};
+ghost use Rattle.paper.specs.File.{version1, endsAt};
 ghost use Rattle.order.specs.Numbering.{ended};
 ghost use Rattle.damage.specs.Starts.{startTest};
 use fields::places::ends_at;
@@ -14,7 +14,7 @@ use integers::wide;
 // The entries of a row with this part are whole: they end within e and within the file.
 pub fn entries_whole(bytes: &[u8], n: usize, m: usize, e: usize, first: u16, count: u16) -> bool
     requires { ⌜ (n ≤ 4096) × (m ≤ n) × (e ≤ 16384) ⌝ }
-    ensures { λ r. ⌜ r ≡ leb (first + count) e && leb (endsAt n m (first + count)) (length (now (bytes .entry))) ⌝ }
+    ensures { λ r. ⌜ r ≡ leb (first + count) e && leb (endsAt version1 n m (first + count)) (length (now (bytes .entry))) ⌝ }
 {
     let end = wide(first) + wide(count);
     if e < end {

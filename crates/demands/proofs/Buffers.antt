@@ -1,19 +1,21 @@
 -- What stands in the buffers is what the definitions give, by each contract's equation, so the theorems over the definitions are theorems about what the
 -- caller has. Assumes nothing.
-use Prim.Native.Nat.{ℕ, _+_, _<_}
+use Prim.Native.Nat.{ℕ, _+_, _≤_, _<_}
 use native.Mathlib.Omega.{arith}
 use mathlib.Core.Bool.{Bool, true, false, _&&_, true≢false}
 use mathlib.Core.List.{List, _++_}
 use mathlib.Core.Path.{_≡_, refl, ap, sym, _∙_}
 use lib.Dec.{leb}
-use lib.ListN.{length, take, drop, length-append}
+use lib.IntN.{ℤ, pos}
+use lib.ListN.{length, getD, take, drop, replicate, length-append, length-replicate}
 use lib.Seq.{take-at, drop-at}
 use Rattle.paper.specs.Lists.{nat}
 use Rattle.paper.specs.Formula.{places}
-use Rattle.paper.specs.Checks.{Verdict, accepted, refused}
-use Rattle.paper.specs.Calls.{numberOf, BuildLeft}
-use Rattle.paper.specs.Demands.{cut}
-use Rattle.paper.specs.File.{counted, headed, read}
+use Rattle.paper.specs.Checks.{Verdict, accepted, refused, Move}
+use Rattle.paper.specs.Moves.{Moves}
+use Rattle.paper.specs.Calls.{numberOf, BuildLent, BuildLeft}
+use Rattle.paper.specs.File.{version1, unboundedContents, counted, headed, read, cut}
+use Rattle.paper.proofs.Sizes.{sized-facts}
 use Rattle.paper.proofs.Outcomes.{build-judged}
 use Rattle.damage.specs.Saved.{savedFile, savedList, droppedRows, resetValues}
 use Rattle.salvage.specs.Salvage.{SalvageLent, SalvageLeft, salvage}
@@ -24,14 +26,21 @@ use Rattle.salvage.proofs.Builds.{salvage-builds}
 use Rattle.salvage.proofs.Same.{undamaged-same}
 use Rattle.times.specs.Windows.{Board, list}
 use Rattle.times.specs.Order.{ascends}
-use Rattle.times.proofs.Listing.{list-ascends, list-gives}
+use Rattle.times.proofs.Listing.{list-ascends, list-gives, list-only, as-many, none-at-end, none-later, last-there}
 use Rattle.boards.specs.Board.{lengthOf}
 use Rattle.boards.specs.Outcome.{Outcome, refuses, accepts}
 use Rattle.boards.proofs.Outcome.{outcome}
 use Rattle.boards.specs.declared.Listed.{Listed}
 use Rattle.boards.specs.declared.Listed.the-variants as listed
+use Rattle.figures.specs.Outcomes.{asOneTrial, triedOnce}
 use Rattle.figures.proofs.Order.{order-changes-nothing}
-use Rattle.demands.specs.Stated.{leftRead}
+use Rattle.figures.proofs.Routes.{any-reasons}
+use Rattle.demands.specs.Stated.{BuildOutcome, leftBuilt}
+use Rattle.demands.specs.Runs.{State, mine, Run}
+use Rattle.demands.specs.Demands.{renewed}
+use Rattle.demands.proofs.Standing.{known}
+use Rattle.demands.proofs.Three.{built-ok, own-trial-fresh, reasons-long}
+use Rattle.demands.specs.Files.{leftRead}
 use Rattle.demands.specs.Buffers.{SalvageHad, SavedRight, ComesBack, BoardHad, ListedRight, BuffersRight}
 
 -- ── salvage: an accepted one has the saved file, and how many rows and values are listed ──
@@ -44,19 +53,19 @@ numbersOf (salvaged.Accepted size rows values) = (size, rows, values)
 numbersOf (salvaged.Refused number place) = (0, 0, 0)
 
 record Saved {l : SalvageLent} (o : SalvageHad l) (size rows values : ℕ) : Type 0 where
-  head : headed (l .bytes) accepted ≡ accepted
+  head : headed version1 (l .bytes) accepted ≡ accepted
   file : o .file ≡ savedFile (l .bytes) ++ drop (length (savedFile (l .bytes))) (l .file)
   sizes : _≡_ {A = ℕ × ℕ × ℕ} (length (savedFile (l .bytes)), length (droppedRows (l .bytes)), length (resetValues (l .bytes))) (size, rows, values)
 
 saved-is : (l : SalvageLent) (o : SalvageHad l) (size rows values : ℕ) → o .answer ≡ salvaged.Accepted size rows values → Saved o size rows values
-saved-is l o size rows values e = go (headed (l .bytes) accepted) refl
+saved-is l o size rows values e = go (headed version1 (l .bytes) accepted) refl
   where
     -- a refusal is none
     wrong : (number place : ℕ) (file list : List ℕ) → record { answer = salvaged.Refused number place; file = file; list = list } ≡ salvage l → Saved o size rows values
     wrong number place file list q =
         absurd (true≢false (sym (ap isSaved e) ∙ ap (λ (x : SalvageLeft). isSaved (x .answer)) (o .stated ∙ sym q)))
 
-    go : (v : Verdict) → headed (l .bytes) accepted ≡ v → Saved o size rows values
+    go : (v : Verdict) → headed version1 (l .bytes) accepted ≡ v → Saved o size rows values
     go (refused number place) h = wrong number place (l .file) (l .list) (salvage-headed (l .bytes) (l .file) (l .list) h)
     go accepted h = fit (leb (length (savedFile (l .bytes))) (length (l .file)) && leb (length (savedList (l .bytes))) (length (l .list))) refl
       where
@@ -77,12 +86,12 @@ module _ (l : SalvageLent) (small : (i : ℕ) → nat (l .bytes) i < 256) (o : S
 
   saved-right : SavedRight o size
   saved-right = record {
-    reads = λ t starts room r.
+    reads = λ c room r.
         let promise = salvage-builds (l .bytes) (record { small = small; head = saved .head }) in
-        let is : leftRead r ≡ read (savedFile (l .bytes)) (counted 0 0 0 t) starts = r .stated ∙ ap (λ f. read f (counted 0 0 0 t) starts) front in
-        let has = promise .reads (counted 0 0 0 t) starts room in (
+        let is : leftRead r ≡ read version1 (savedFile (l .bytes)) (counted 0 0 0 c) = r .stated ∙ ap (λ f. read version1 f (counted 0 0 0 c)) front in
+        let has = promise .reads (counted 0 0 0 c) room in (
           ap (λ x. x .0) is ∙ has .0,
-          λ b q same full fits. ap (λ (x : BuildLeft). numberOf (x .answer)) (q .stated) ∙ build-judged b .zero (promise .builds b (same ∙ ap (λ x. cut (x .1)) is ∙ has .1) full fits),
+          λ b q same full fits. ap (λ (x : BuildLeft). numberOf (x .answer)) (q .stated) ∙ build-judged b .zero (promise .builds b (same ∙ ap (λ x. cut version1 (x .1)) is ∙ has .1) full fits),
         );
     rest = ap (drop size) (saved .file) ∙ drop-at (savedFile (l .bytes)) (drop (length (savedFile (l .bytes))) (l .file)) size (ap (λ x. x .0) (saved .sizes))
         ∙ ap (λ k. drop k (l .file)) (ap (λ x. x .0) (saved .sizes));
@@ -93,7 +102,7 @@ unfolding savedList
 undamaged l small t starts r ok b q is unclosed zero o size rows values e =
     let has = saved-is l o size rows values e in
     let good = build-judged b .good (sym (ap (λ (x : BuildLeft). numberOf (x .answer)) (q .stated)) ∙ zero) in
-    let same = undamaged-same (l .bytes) small (counted 0 0 0 t) starts (sym (ap (λ x. x .0) (r .stated)) ∙ ok) b (is ∙ ap (λ x. x .1) (r .stated)) unclosed good in
+    let same = undamaged-same (l .bytes) small (counted 0 0 0 (unboundedContents t starts) .tables) starts (sym (ap (λ x. x .0) (r .stated)) ∙ ok) b (is ∙ ap (λ x. x .1) (r .stated)) unclosed good in
     let none : length (droppedRows (l .bytes)) + length (resetValues (l .bytes)) ≡ 0 = sym (length-append (droppedRows (l .bytes)) (resetValues (l .bytes))) ∙ ap length (same .none) in
     let dropped = ap (λ x. x .1) (has .sizes) in let reset = ap (λ x. x .2) (has .sizes) in
     (front l small o size rows values e ∙ same .file, omega arith, omega arith)
@@ -114,14 +123,33 @@ listed-right b o size e = go (outcome b (record { answer = o .answer; row = o .r
         record {
           ascending = ap ascends top ∙ list-ascends b;
           times = λ z. ap (places z) top ∙ list-gives b z;
+          only = λ xs up each. list-only b xs up each ∙ sym top;
           rest = ap (λ k. drop k (o .row)) (sym is) ∙ a .rest ∙ ap (λ k. drop k (b .row)) is;
         }
+
+-- ── a batch after a run: its own row of reasons changes neither the answer nor the results ──
+batch-results : {b : BuildLent} (start : BuildOutcome b) (room : List ℕ × List ℤ) → numberOf (leftBuilt start .answer) ≡ 0
+    → (calls : ℕ) (moves : Moves) (now : State) → Run start room calls moves now → (asked : ℕ) (mv : Move) (route : ℕ)
+    → let w = mine start room (record { session = now .session; stored = now .stored; reasons = replicate 4096 0; log = now .log }) in
+    triedOnce (now .session) w asked route mv .number ≡ 0 → triedOnce (now .session) w asked route mv .result ≡ renewed start room moves now mv asked
+unfolding triedOnce
+batch-results {b} start room ok calls moves now r asked mv route z =
+    let own = mine start room now in let c = asOneTrial (now .session) own asked route mv in
+    let long : b .tables .n ≤ 4096 = sized-facts (b .tables) (known b (built-ok start room ok) .sound .sized) .n-most in
+    let same = any-reasons (now .session) own c (replicate 4096 0) (rw (length-replicate {A = ℕ} 4096 0) long) (reasons-long start room ok calls moves now r) in
+    ap (λ (l : List ℤ). getD l 0 (pos 0)) (same .1 ∙ own-trial-fresh start room ok calls moves now r c (sym (ap numberOf (same .0)) ∙ z) .results)
 
 pub buffers-right : BuffersRight
 buffers-right = record {
   saved = saved-right;
   undamaged = undamaged;
   board = listed-right;
+  window = λ start end headway above. record {
+    as-many = as-many start end headway above;
+    none-at-end = none-at-end start end headway above;
+    last = λ some. (last-there start end headway above some, none-later start end headway above some);
+  };
   batch = λ s w asked moves moves′ r lent o o′.
       let e = o .stated ∙ order-changes-nothing s w asked moves moves′ r lent ∙ sym (o′ .stated) in (ap (λ x. x .0) e, ap (λ x. x .1) e);
+  results = batch-results;
 }

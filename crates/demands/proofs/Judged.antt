@@ -13,7 +13,7 @@ use Rattle.paper.proofs.Lists.{and-left, and-right}
 use Rattle.paper.proofs.Least.{firstFail-fails, firstFail-before, firstFail-is}
 use Rattle.paper.proofs.Outcomes as outcomes
 use Rattle.paper.proofs.Verdicts.{andThen, then-then, check-then, check-next, check-stops, require-next, require-stops}
-use Rattle.demands.specs.Refusals.{Line, places, whole, Passed, Passes, none, next, Gives, here, later, Says}
+use Rattle.demands.specs.Refusals.{Line, places, whole, lineNumber, Passed, Passes, none, next, Gives, here, later, Says}
 use Rattle.demands.specs.Demands.{Exactly, Works}
 
 -- a list of lines as a chain of checks
@@ -61,10 +61,6 @@ says-judged (places number bound good ∷ rest) (refused k q) (later p s) = chec
 says-judged (whole number place good ∷ rest) (refused k q) (later p s) = require-next number place good _ p ∙ says-judged rest (refused k q) s
 
 -- ── an answer by a table whose numbers are not 0 ──
-abbrev pub lineNumber : Line → ℕ
-lineNumber (places number bound good) = number
-lineNumber (whole number place good) = number
-
 abbrev pub numbersSome : List Line → Bool
 numbersSome = all (λ line. ltb 0 (lineNumber line))
 

@@ -1,7 +1,7 @@
 -- Two planners: after a run the stored values are the fresh ones of the moves kept, and moves with no variable in common give the same search
 -- values in either order and as one; what a keep leaves passes the checks of the model and of the log and is fresh, so the other move is accepted
 -- exactly if with both moves put in every variable is determined. Assumes nothing.
-use Prim.Native.Nat.{ℕ, _<_}
+use Prim.Native.Nat.{ℕ, suc, _<_}
 use mathlib.Core.Bool.{Bool, true, false}
 use mathlib.Core.List.{List, _∷_}
 use mathlib.Core.Path.{_≡_, refl, ap, sym, _∙_, subst⁻¹}
@@ -12,25 +12,24 @@ use Rattle.paper.specs.Tables.{net, valuesIn}
 use Rattle.paper.specs.Chains.{determined, closes, storedFresh}
 use Rattle.paper.specs.Checks.{accepted, Move, movePairs}
 use Rattle.paper.specs.Log.{logFits, logGood, noted}
-use Rattle.paper.specs.Calls.{blanksAmong, numberOf, BuildLent, startValues, Model, storedValues, Kept, KeepLeft, keepVerdict, keepLeaves}
-use Rattle.paper.specs.Demands.{own, Call, keeps, State, modelOf, applied, history}
+use Rattle.paper.specs.Calls.{blanksAmong, numberOf, BuildLent, startValues, Model, storedValues, KeepLent, KeepLeft, keepVerdict, keepLeaves}
 use Rattle.paper.proofs.Known.{ModelKnown, BlanksKnown, MoveKnown, model-open, fits-long, long-fits, KeepKnown, keep-known}
 use Rattle.paper.proofs.Outcomes.{keep-judged}
-use Rattle.paper.specs.Moves.{Apart, AllPairs}
+use Rattle.paper.specs.Moves.{Moves, applied, Apart, AllPairs}
 use Rattle.demands.specs.Stated.{BuildOutcome, leftBuilt, leftKept}
-use Rattle.demands.specs.Runs.{ownOf, Run, then-keep}
+use Rattle.demands.specs.Runs.{State, own, Lends, mine, afterAnswer, Run, then-keep}
 use Rattle.demands.specs.Demands.{RunRight}
 use Rattle.demands.specs.Planners.{Accepts, handsOn, Keeping, Room, EitherOrder, TwoPlanners}
 use Rattle.paper.proofs.Moves.{either-order, as-one, one-known, joined-all, keep-accepts, kept-blanks, keep-leaves-known}
 use Rattle.paper.proofs.Either.{kept-determined, either-determined, one-determined}
-use Rattle.demands.proofs.Three.{own-is, demand3}
+use Rattle.demands.proofs.Three.{demand3}
 use Rattle.demands.proofs.Logs.{noted-long}
 
 module _ {b : BuildLent} (start : BuildOutcome b) (room : List ℕ × List ℤ) where
   abbrev lentTo : State → Model
-  lentTo now = modelOf now (ownOf start room)
+  lentTo now = mine start room now
 
-  abbrev callOf : Move → List ℕ → Kept
+  abbrev callOf : Move → List ℕ → KeepLent
   callOf mv flags = record { move = mv; flags = flags }
 
   -- ── acceptance, as facts and back ──
@@ -55,7 +54,7 @@ module _ {b : BuildLent} (start : BuildOutcome b) (room : List ℕ × List ℤ) 
 
     next-known : Accepts o → ModelKnown (lentTo (handsOn start room now o))
     next-known z =
-        subst⁻¹ (λ (x : KeepLeft). ModelKnown (record { tables = b .tables; bounds = b .bounds; numbers = start .numbers; order = start .order; stored = x .stored; index = start .index })) (left-is z)
+        subst⁻¹ (λ (x : KeepLeft). ModelKnown (record { tables = b .tables; bounds = b .bounds; numbers = start .numbers; order = start .order; stored = x .stored; index = start .index; reasons = x .reasons })) (left-is z)
         (keep-leaves-known (lentTo now) (callOf mv flags) (known z .model) (known z .move))
 
     next-blanks : Accepts o → BlanksKnown (handsOn start room now o .session .blanks) (lentTo (handsOn start room now o))
@@ -77,25 +76,33 @@ module _ {b : BuildLent} (start : BuildOutcome b) (room : List ℕ × List ℤ) 
         ∙ kept-determined (now .session) (now .log) (lentTo now) (callOf mv flags) (known z) (movePairs mv′)
 
   -- ── after a run ──
-  module _ (ok : numberOf (leftBuilt start .answer) ≡ 0) (cs : List Call) (now : State) (run : Run start room cs now) where
+  module _ (ok : numberOf (leftBuilt start .answer) ≡ 0) (calls : ℕ) (moves : Moves) (now : State) (run : Run start room calls moves now) where
     abbrev searched : Values
-    searched = applied (startValues b) (history b room cs)
+    searched = applied (startValues b) moves
 
     -- the row with the fresh values of these search values
     abbrev rowFrom : Values → List ℤ
     rowFrom s = over (b .tables .n) (afresh (net (b .tables)) s (b .tables .n)) (b .stored)
 
-    right : RunRight start room cs now
-    right = demand3 b start room ok cs now run
+    right : RunRight start room moves now calls
+    right = demand3 .run b start room ok calls moves now run
+
+    -- what a keep is lent
+    abbrev ownRows : Lends
+    ownRows = record { tables = b .tables; bounds = b .bounds; numbers = start .numbers; order = start .order; stored = own; index = start .index; reasons = own }
 
     -- and after a keep too
-    next-right : (mv : Move) (flags : List ℕ) (o : Keeping start room now mv flags) → RunRight start room (keeps (ownOf start room) own (callOf mv flags) ∷ cs) (handsOn start room now o)
+    next-right : (mv : Move) (flags : List ℕ) (o : Keeping start room now mv flags)
+        → RunRight start room (afterAnswer (leftKept o .answer) (movePairs mv ∷ moves) moves) (handsOn start room now o) (suc calls)
     next-right mv flags o =
-        demand3 b start room ok (keeps (ownOf start room) own (callOf mv flags) ∷ cs) (handsOn start room now o)
-        (then-keep run (ownOf start room) own (callOf mv flags) o (λ e. (refl, refl)))
+        demand3 .run b start room ok (suc calls) (afterAnswer (leftKept o .answer) (movePairs mv ∷ moves) moves) (handsOn start room now o)
+        (then-keep run ownRows own (callOf mv flags) o (λ e. (record { model = refl; stored = refl; reasons = refl }, refl)))
+
+    moves-after : (mv : Move) (flags : List ℕ) (o : Keeping start room now mv flags) → Accepts o → afterAnswer (leftKept o .answer) (movePairs mv ∷ moves) moves ≡ movePairs mv ∷ moves
+    moves-after mv flags o z = ap (λ (x : KeepLeft). afterAnswer (x .answer) (movePairs mv ∷ moves) moves) (left-is now mv flags o z)
 
     once-kept : (mv : Move) (flags : List ℕ) (o : Keeping start room now mv flags) → Accepts o → o .stored ≡ rowFrom (moved (movePairs mv) searched)
-    once-kept mv flags o z = right .keep-accepted (callOf mv flags) o z .stored
+    once-kept mv flags o z = right .keep-accepted (mine start room now) refl (callOf mv flags) o z .stored
 
     module _ (mv mv′ : Move) (flags flags′ : List ℕ) (o : Keeping start room now mv flags) (q : Keeping start room (handsOn start room now o) mv′ flags′) (z : Accepts o) where
       -- the keep that comes next is accepted exactly if with both moves put in every variable is determined, and its move passes the checks of a move
@@ -110,9 +117,8 @@ module _ {b : BuildLent} (start : BuildOutcome b) (room : List ℕ × List ℤ) 
 
       twice-kept : Accepts q → q .stored ≡ rowFrom (moved (movePairs mv′) (moved (movePairs mv) searched))
       twice-kept y =
-          next-right mv flags o .keep-accepted (callOf mv′ flags′) q y .stored
-          ∙ ap (λ (h : List (List (ℕ × ℤ))). rowFrom (moved (movePairs mv′) (applied (startValues b) h)))
-          (ap (λ l. history b room (keeps l own (callOf mv flags) ∷ cs)) (own-is start room) ∙ right .keep-accepted (callOf mv flags) o z .right .move)
+          next-right mv flags o .keep-accepted (mine start room (handsOn start room now o)) refl (callOf mv′ flags′) q y .stored
+          ∙ ap (λ (h : Moves). rowFrom (moved (movePairs mv′) (applied (startValues b) h))) (moves-after mv flags o z)
 
     -- ── both ──
     module _ (first second : Move) (apart : Apart first second) (f g : List ℕ) (o : Keeping start room now first f) (p : Keeping start room now second g) (z : Accepts o) (y : Accepts p) where
@@ -183,4 +189,4 @@ module _ {b : BuildLent} (start : BuildOutcome b) (room : List ℕ × List ℤ) 
 
 -- ── it does not matter who keeps first ──
 pub two-planners : TwoPlanners
-two-planners b start room ok cs now run first second apart f g o p z y = both-orders start room ok cs now run first second apart f g o p z y
+two-planners b start room ok calls moves now run first second apart f g o p z y = both-orders start room ok calls moves now run first second apart f g o p z y

@@ -23,9 +23,9 @@ use Rattle.paper.proofs.Lawful.{lawful}
 use Rattle.paper.proofs.Needs.{comes-undetermined, undetermined-comes, worth-meets}
 use Rattle.paper.proofs.Extreme.{Extreme}
 use Rattle.paper.proofs.Windows as window
-use Rattle.paper.proofs.Formulas.{blank-law, linear-law, min-law, max-law, min-blank, max-blank, element-law, shared-law, count-law, over-law, departures-law, last-law}
-use Rattle.paper.proofs.Reason.{exactly}
-use Rattle.demands.specs.Sentences.{WindowRight, FarthestValue, FormulasRight, RowInputs, ReasonRight, DeterminedExactly, SentencesRight}
+use Rattle.paper.proofs.Formulas.{blank-law, linear-law, min-law, max-law, min-blank, max-blank, element-law, shared-law, count-law, over-law, departures-law, last-law, partial-sum-leaves}
+use Rattle.paper.proofs.Reason.{reason-right}
+use Rattle.demands.specs.Sentences.{WindowRight, FarthestValue, FormulasRight, DeterminedExactly, SentencesRight}
 
 -- ── values and blank ──
 has-value : (z : ℤ) → inRange z ≡ true → eqZ z blank ≡ false
@@ -99,17 +99,6 @@ formulas-right param coefs = record {
       (departures-law param coefs start end headway full ∙ none .0, last-law param coefs start end headway full ∙ none .1);
 }
 
--- ── reasons ──
-reason-right : (kind : ℕ) (param : ℤ) (coefs xs : List ℤ) → RowInputs kind xs → ReasonRight kind param coefs xs
-reason-right kind param coefs xs r = let e = exactly kind param coefs xs (record { known = r .known; many = r .many; each = r .each }) in record {
-  has-value = e .has-value;
-  blank-input = e .blank-input;
-  headway = e .headway;
-  index = e .index;
-  departures = e .departures;
-  range = e .range;
-}
-
 -- ── determined ──
 module _ (t : Tables) (s start : Values) where
   -- k uses of the rule are enough where chains of what is needed end within k
@@ -132,4 +121,4 @@ determined-right t below s v low = record {
 }
 
 pub sentences-right : SentencesRight
-sentences-right = record { formulas = formulas-right; reasons = reason-right; determined = determined-right }
+sentences-right = record { formulas = formulas-right; partial-sum = partial-sum-leaves; reasons = reason-right; determined = determined-right }

@@ -24,11 +24,11 @@ use Rattle.paper.proofs.Ends.{comes-unable}
 use Rattle.paper.proofs.Depends.{depends-low}
 use Rattle.paper.proofs.Closes.{closes-not}
 use Rattle.demands.specs.Stated.{leftBuilt, leftTried, leftKept, leftTaken}
-use Rattle.demands.specs.Refusals.{Line, places, whole, tableLines, Passed, Passes, none, next, Fails, Least, Gives, here, later, buildTable, trialTable, keepTable, takeTable}
+use Rattle.demands.specs.Refusals.{Line, places, whole, lineNumber, tableLines, Passed, Passes, none, next, Fails, Least, Gives, here, later, buildTable, trialTable, keepTable, takeTable}
+use Rattle.paper.specs.Permitted.{LeastOf}
 use Rattle.demands.specs.Demands.{Exactly}
 use Rattle.demands.specs.Sentences.{DeterminedExactly}
-use Rattle.demands.specs.Undetermined.{LeastOf, beforeLast, Undetermined, UndeterminedExactly, Stale, StaleExactly, ChoicesExactly}
-use Rattle.demands.proofs.Judged.{lineNumber}
+use Rattle.demands.specs.Undetermined.{beforeLast, Undetermined, UndeterminedExactly, Stale, StaleExactly, ChoicesExactly}
 use Rattle.demands.proofs.One.{build-works, trial-works, keep-works, take-works}
 use Rattle.demands.proofs.Sentences.{sentences-right}
 
@@ -204,8 +204,8 @@ choices-exactly = record {
     undetermined-by t table (beforeLast table) _ (leftKept o .answer) (sound-by t (w .bounds) (keepFits g w c) _ has) (moved (movePairs (c .move)) old) (keep-works s g w c o .exactly) refl refl,
     stale-by t table (beforeLast (beforeLast table)) _ (leftKept o .answer) (sound-by t (w .bounds) (keepFits g w c) _ has) old _ (keep-works s g w c o .exactly) refl refl refl,
   );
-  take-back = λ s g w flags o. let t = w .tables in let table = takeTable s g w flags in let old = storedValues w in let has : takeFits g w flags ≡ true → sized t ≡ true = λ e. and-left (sized t) _ (each _ e .0) in (
-    undetermined-by t table (beforeLast table) _ (leftTaken o .answer) (sound-by t (w .bounds) (takeFits g w flags) _ has) (moved (movePairs (latest g flags .move)) old) (take-works s g w flags o .exactly) refl refl,
-    stale-by t table (beforeLast (beforeLast table)) _ (leftTaken o .answer) (sound-by t (w .bounds) (takeFits g w flags) _ has) old _ (take-works s g w flags o .exactly) refl refl refl,
+  take-back = λ s g w c o. let t = w .tables in let table = takeTable s g w c in let old = storedValues w in let has : takeFits g w c ≡ true → sized t ≡ true = λ e. and-left (sized t) _ (each _ e .0) in (
+    undetermined-by t table (beforeLast table) _ (leftTaken o .answer) (sound-by t (w .bounds) (takeFits g w c) _ has) (moved (movePairs (latest g c .move)) old) (take-works s g w c o .exactly) refl refl,
+    stale-by t table (beforeLast (beforeLast table)) _ (leftTaken o .answer) (sound-by t (w .bounds) (takeFits g w c) _ has) old _ (take-works s g w c o .exactly) refl refl refl,
   );
 }

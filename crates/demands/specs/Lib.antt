@@ -1,12 +1,11 @@
 pub mod Stated
 pub mod Refusals
-pub mod Versions
+pub mod Files
 pub mod Sentences
 pub mod Runs
 pub mod Planners
-pub mod Taking
 pub mod Undetermined
 pub mod Demands
-pub mod Reasons
 pub mod OneOutcome
 pub mod Buffers
+pub mod All

@@ -1,6 +1,6 @@
 -- Any two outcomes that the statement of a public call allows are equal, part by part: its answer, the record, and every row to its end. The four calls and
--- files without reasons have this in demand 1; here are the calls with reasons, the calls for C, salvage, the departure board, a batch in figures, the inputs
--- of a row, the walker, and what the programs print. Assumes nothing.
+-- those over files have this in demand 1; here are the calls for C, salvage, the departure board, a batch in figures, the inputs of a row, the walker, and
+-- what the programs print. Assumes nothing.
 use Prim.Native.Nat.{ℕ}
 use mathlib.Core.Bool.{Bool}
 use mathlib.Core.List.{List, _++_}
@@ -8,11 +8,8 @@ use mathlib.Core.Path.{_≡_}
 use lib.IntN.{ℤ}
 use lib.ListN.{length, drop}
 use denote.Ref.{RefT, ptr, now}
-use Rattle.paper.specs.Tables.{Tables}
-use Rattle.paper.specs.Log.{Log}
-use Rattle.paper.specs.Calls.{Session, BuildLent, BuildLeft, Model, Tried, TrialLeft, Kept, KeepLeft}
-use Rattle.paper.specs.Reasoned.{Reasoned}
-use Rattle.paper.specs.File.{Contents, counted, countedAs}
+use Rattle.paper.specs.Calls.{Session, BuildLeft, Model, TrialLeft, KeepLeft}
+use Rattle.paper.specs.File.{Contents, counted}
 use Rattle.paper.specs.Checks.{Verdict}
 use Rattle.records.specs.declared.Session as code-session
 use Rattle.records.specs.declared.answers.Outcome.{Outcome}
@@ -29,50 +26,32 @@ use Rattle.tables.specs.Entries.{wentOn}
 use Rattle.tables.specs.declared.walker.Walker.{Walker}
 use Rattle.tables.specs.declared.walker.Found.{Found}
 use Rattle.report.specs.Printed.{printed}
-use Rattle.capi.specs.Outcomes.{hadByBuild, builtOut, hadByTrial, triedOut, hadByKeep, keptOut, leftByRead, readOut, writtenOut, salvagedOut}
-use Rattle.capi.specs.Versions.{leftByReadBounded, readBoundedOut, movedOut}
+use Rattle.capi.specs.Outcomes.{hadByBuild, builtOut, hadByTrial, triedOut, hadByKeep, keptOut, leftByRead, readOut, writtenOut, movedOut, salvagedOut}
 use Rattle.capi.specs.Products.{figuresOut, listedOut}
 use Rattle.capi.specs.declared.ReadOutcome.{ReadOutcome}
 use Rattle.capi.specs.declared.MoveOutcome.{MoveOutcome}
 use Rattle.capi.specs.declared.SalvageOutcome.{SalvageOutcome}
 use Rattle.capi.specs.declared.FiguresOutcome.{FiguresOutcome}
 use Rattle.capi.specs.declared.ListOutcome.{ListOutcome}
-use Rattle.demands.specs.Reasons.{BuildTold, TrialTold, KeepTold, TakeTold}
-
--- ── the calls with reasons ──
-pub record OneTold : Type 0 where
-  pub build : (l : BuildLent) (lent : List ℕ) (o o′ : BuildTold l lent)
-      → (o .done ≡ o′ .done) × (o .numbers ≡ o′ .numbers) × (o .order ≡ o′ .order) × (o .stored ≡ o′ .stored) × (o .index ≡ o′ .index) × (o .logSizes ≡ o′ .logSizes) × (o .reasons ≡ o′ .reasons)
-  pub trial : (s : Session) (w : Model) (lent : List ℕ) (c : Tried) (why : List ℕ) (o o′ : TrialTold s w lent c why)
-      → (o .done ≡ o′ .done) × (o .results ≡ o′ .results) × (o .trial ≡ o′ .trial) × (o .flags ≡ o′ .flags) × (o .why ≡ o′ .why)
-  pub keep : (s : Session) (g : Log) (w : Model) (lent : List ℕ) (c : Kept) (o o′ : KeepTold s g w lent c)
-      → (o .done ≡ o′ .done) × (o .stored ≡ o′ .stored) × (o .flags ≡ o′ .flags) × (o .log ≡ o′ .log) × (o .reasons ≡ o′ .reasons)
-  pub take-back : (s : Session) (g : Log) (w : Model) (lent flags : List ℕ) (o o′ : TakeTold s g w lent flags)
-      → (o .done ≡ o′ .done) × (o .stored ≡ o′ .stored) × (o .flags ≡ o′ .flags) × (o .logSizes ≡ o′ .logSizes) × (o .reasons ≡ o′ .reasons)
 
 -- ── across the C boundary: what each call leaves, whatever it is, is met by one answer, one record and one of each row ──
-abbrev pub Same₇ : {A B C D E F G : Type 0} → A → A → B → B → C → C → D → D → E → E → F → F → G → G → Type 0
-Same₇ a a′ b b′ c c′ d d′ e e′ f f′ g g′ = (a ≡ a′) × (b ≡ b′) × (c ≡ c′) × (d ≡ d′) × (e ≡ e′) × (f ≡ f′) × (g ≡ g′)
-
 pub record OneForC : Type 0 where
-  pub build : (x : Reasoned BuildLeft) (r r′ : Outcome) (s s′ : code-session.Session) (numbers numbers′ order order′ : List ℕ) (stored stored′ : List ℤ)
-      (starts starts′ places places′ sizes sizes′ reasons reasons′ : List ℕ)
-      → hadByBuild r s numbers order stored starts places sizes reasons ≡ builtOut x → hadByBuild r′ s′ numbers′ order′ stored′ starts′ places′ sizes′ reasons′ ≡ builtOut x
-      → ((r ≡ r′) × (s ≡ s′)) × Same₇ numbers numbers′ order order′ stored stored′ starts starts′ places places′ sizes sizes′ reasons reasons′
-  pub trial : (x : Reasoned TrialLeft) (r r′ : Outcome) (s s′ : code-session.Session) (results results′ trial trial′ : List ℤ) (flags flags′ why why′ : List ℕ)
+  pub build : (x : BuildLeft) (r r′ : Outcome) (s s′ : code-session.Session) (numbers numbers′ order order′ : List ℕ) (stored stored′ : List ℤ)
+      (starts starts′ places places′ reasons reasons′ sizes sizes′ : List ℕ)
+      → hadByBuild r s numbers order stored starts places reasons sizes ≡ builtOut x → hadByBuild r′ s′ numbers′ order′ stored′ starts′ places′ reasons′ sizes′ ≡ builtOut x
+      → _≡_ {A = Outcome × code-session.Session × List ℕ × List ℕ × List ℤ × List ℕ × List ℕ × List ℕ × List ℕ}
+      (r, s, numbers, order, stored, starts, places, reasons, sizes) (r′, s′, numbers′, order′, stored′, starts′, places′, reasons′, sizes′)
+  pub trial : (x : TrialLeft) (r r′ : Outcome) (s s′ : code-session.Session) (results results′ trial trial′ : List ℤ) (flags flags′ why why′ : List ℕ)
       → hadByTrial r s results trial flags why ≡ triedOut x → hadByTrial r′ s′ results′ trial′ flags′ why′ ≡ triedOut x
-      → (r ≡ r′) × (s ≡ s′) × (results ≡ results′) × (trial ≡ trial′) × (flags ≡ flags′) × (why ≡ why′)
+      → _≡_ {A = Outcome × code-session.Session × List ℤ × List ℤ × List ℕ × List ℕ} (r, s, results, trial, flags, why) (r′, s′, results′, trial′, flags′, why′)
   -- keep and taking back
-  pub keep : (x : Reasoned KeepLeft) (r r′ : Outcome) (s s′ : code-session.Session) (stored stored′ : List ℤ) (flags flags′ sizes sizes′ vars vars′ : List ℕ) (values values′ : List ℤ)
-      (reasons reasons′ : List ℕ)
-      → hadByKeep r s stored flags sizes vars values reasons ≡ keptOut x → hadByKeep r′ s′ stored′ flags′ sizes′ vars′ values′ reasons′ ≡ keptOut x
-      → ((r ≡ r′) × (s ≡ s′)) × (stored ≡ stored′) × (flags ≡ flags′) × (sizes ≡ sizes′) × (vars ≡ vars′) × (values ≡ values′) × (reasons ≡ reasons′)
-  -- reading: lent rows have no counts, the answer gives them
-  pub read : (x : Verdict × (Tables × List ℤ)) (r r′ : ReadOutcome) (t t′ : Tables) (starts starts′ : List ℤ)
-      → leftByRead r t starts ≡ readOut x → leftByRead r′ t′ starts′ ≡ readOut x → (r ≡ r′) × (counted 0 0 0 t ≡ counted 0 0 0 t′) × (starts ≡ starts′)
-  pub read-bounded : (x : Verdict × Contents) (r r′ : ReadOutcome) (c c′ : Contents)
-      → leftByReadBounded r c ≡ readBoundedOut x → leftByReadBounded r′ c′ ≡ readBoundedOut x → (r ≡ r′) × (countedAs 0 0 0 c ≡ countedAs 0 0 0 c′)
-  -- writing, in both versions
+  pub keep : (x : KeepLeft) (r r′ : Outcome) (s s′ : code-session.Session) (stored stored′ : List ℤ) (reasons reasons′ flags flags′ sizes sizes′ vars vars′ : List ℕ) (values values′ : List ℤ)
+      → hadByKeep r s stored reasons flags sizes vars values ≡ keptOut x → hadByKeep r′ s′ stored′ reasons′ flags′ sizes′ vars′ values′ ≡ keptOut x
+      → _≡_ {A = Outcome × code-session.Session × List ℤ × List ℕ × List ℕ × List ℕ × List ℕ × List ℤ}
+      (r, s, stored, reasons, flags, sizes, vars, values) (r′, s′, stored′, reasons′, flags′, sizes′, vars′, values′)
+  -- files of either version; lent rows have no counts, the answer gives them
+  pub read : (x : Verdict × Contents) (r r′ : ReadOutcome) (c c′ : Contents)
+      → leftByRead r c ≡ readOut x → leftByRead r′ c′ ≡ readOut x → (r ≡ r′) × (counted 0 0 0 c ≡ counted 0 0 0 c′)
   pub write : (x : Verdict × List ℕ) (r r′ : Outcome) (bytes bytes′ : List ℕ) → (r, bytes) ≡ writtenOut x → (r′, bytes′) ≡ writtenOut x → (r ≡ r′) × (bytes ≡ bytes′)
   -- from one version to the other
   pub move : (x : Verdict × (ℕ × List ℕ)) (r r′ : MoveOutcome) (file file′ : List ℕ) → (r, file) ≡ movedOut x → (r′, file′) ≡ movedOut x → (r ≡ r′) × (file ≡ file′)
@@ -98,6 +77,5 @@ pub record OneProduct : Type 0 where
       → (r ≡ r′) × (after ≡ after′)
 
 pub record OneOutcome : Type 0 where
-  pub told : OneTold
   pub for-c : OneForC
   pub product : OneProduct

@@ -11,23 +11,22 @@ use Rattle.paper.specs.Chains.{closes}
 use Rattle.paper.specs.Checks.{Move}
 use lib.IntN.{ℤ}
 use Rattle.paper.specs.Log.{Log}
-use Rattle.paper.specs.Calls.{Session, numberOf, BuildLent, Model, Kept}
-use Rattle.paper.specs.Demands.{own, Call, State, modelOf, passedOn}
-use Rattle.paper.specs.Moves.{Apart, AllPairs, bothMoves}
+use Rattle.paper.specs.Calls.{Session, numberOf, BuildLent, Model, KeepLent}
+use Rattle.paper.specs.Moves.{Moves, Apart, AllPairs, bothMoves}
 use Rattle.demands.specs.Stated.{BuildOutcome, leftBuilt, KeepOutcome, leftKept}
-use Rattle.demands.specs.Runs.{ownOf, Run}
+use Rattle.demands.specs.Runs.{State, mine, Run}
 
 -- the call was accepted
-abbrev pub Accepts : {s : Session} {g : Log} {w : Model} {c : Kept} → KeepOutcome s g w c → Type 0
+abbrev pub Accepts : {s : Session} {g : Log} {w : Model} {c : KeepLent} → KeepOutcome s g w c → Type 0
 Accepts o = numberOf (leftKept o .answer) ≡ 0
 
 module _ {b : BuildLent} (start : BuildOutcome b) (room : List ℕ × List ℤ) where
   -- a keep of a move, lent the model's own, the session's log and a row of flags, and what it hands on
   abbrev pub Keeping : State → Move → List ℕ → Type 0
-  Keeping now mv flags = KeepOutcome (now .session) (now .log) (modelOf now (ownOf start room)) (record { move = mv; flags = flags })
+  Keeping now mv flags = KeepOutcome (now .session) (now .log) (mine start room now) (record { move = mv; flags = flags })
 
   abbrev pub handsOn : (now : State) {mv : Move} {flags : List ℕ} → Keeping now mv flags → State
-  handsOn now o = passedOn now (ownOf start room) own (leftKept o)
+  handsOn now o = record { session = leftKept o .session; stored = o .stored; reasons = o .reasons; log = o .log }
 
   -- a row of flags that is long enough
   abbrev pub Room : List ℕ → Type 0
@@ -60,7 +59,7 @@ module _ {b : BuildLent} (start : BuildOutcome b) (room : List ℕ × List ℤ) 
 
 abbrev pub TwoPlanners : Type 0
 TwoPlanners =
-    (b : BuildLent) (start : BuildOutcome b) (room : List ℕ × List ℤ) → numberOf (leftBuilt start .answer) ≡ 0 → (cs : List Call) (now : State) → Run start room cs now
+    (b : BuildLent) (start : BuildOutcome b) (room : List ℕ × List ℤ) → numberOf (leftBuilt start .answer) ≡ 0 → (calls : ℕ) (moves : Moves) (now : State) → Run start room calls moves now
     → (first second : Move)
     → Apart first second
     → (f g : List ℕ) (o : Keeping start room now first f) (p : Keeping start room now second g) → Accepts o → Accepts p

@@ -13,13 +13,16 @@ use Rattle.paper.specs.Tables.{Tables}
 use Rattle.paper.specs.Chains.{permitted, determined, groupsNumbered, storedFresh}
 use Rattle.paper.specs.Checks.{Bounds, Verdict, accepted, refused, kindGood, shapeGood, numberGood, madeOnce, indexed, Move, movePairs, movable, namedOnce, hasValue, boundsGood, startAllowed, storedAllowed, pairWithin}
 use Rattle.paper.specs.Log.{Log, logged, logGood}
-use Rattle.paper.specs.Calls.{Session, blanksAmong, BuildLent, buildFits, startValues, Model, storedValues, Tried, trialFits, Kept, keepFits, latest, takeFits}
-use Rattle.paper.specs.File.{field, rowsAt, entriesAt, endsAt, held, counted, nIn, mIn, eIn}
+use Rattle.paper.specs.Calls.{Session, blanksAmong, BuildLent, buildFits, startValues, Model, storedValues, TrialLent, trialFits, KeepLent, keepFits, latest, TakeLent, takeFits}
 
 -- a number with a test of each place below a bound, or with one test and a fixed place
 pub data Line : Type 0 where
   places : (number bound : ℕ) (good : ℕ → Bool) → Line
   whole : (number place : ℕ) (good : Bool) → Line
+
+abbrev pub lineNumber : Line → ℕ
+lineNumber (places number bound good) = number
+lineNumber (whole number place good) = number
 
 -- ── the lines of each call ──
 -- 2 to 5, of the tables
@@ -62,10 +65,14 @@ startLines l = let t = l .tables in
     ∷ places 20 (t .n) (determined t (startValues l))
     ∷ []
 
-abbrev pub buildTable : BuildLent → List Line
-buildTable l = whole 1 0 (buildFits l) ∷ (tableLines (l .tables) (l .bounds) ++ startLines l)
+-- 1 to 5 of build
+abbrev pub fiveLines : BuildLent → List Line
+fiveLines l = whole 1 0 (buildFits l) ∷ tableLines (l .tables) (l .bounds)
 
-abbrev pub trialTable : Session → Model → Tried → List Line
+abbrev pub buildTable : BuildLent → List Line
+buildTable l = fiveLines l ++ startLines l
+
+abbrev pub trialTable : Session → Model → TrialLent → List Line
 trialTable s w c = let t = w .tables in
     whole 1 0 (trialFits w c) ∷ (tableLines t (w .bounds) ++ modelLines s w ++ (whole 9 0 (between 1 (c .route) 3) ∷ [])
     ++ moveLines w (c .move) ++ (places 13 (c .asked) (λ i. ltb (nat (c .askedVars) i) (t .n)) ∷ []) ++ freshLines w (c .move))
@@ -74,38 +81,14 @@ trialTable s w c = let t = w .tables in
 abbrev pub logLines : Session → Log → Model → List Line
 logLines s g w = whole 16 0 (logGood g (w .tables) (w .bounds) (s .kept)) ∷ []
 
-abbrev pub keepTable : Session → Log → Model → Kept → List Line
+abbrev pub keepTable : Session → Log → Model → KeepLent → List Line
 keepTable s g w c = whole 1 0 (keepFits g w c) ∷ (tableLines (w .tables) (w .bounds) ++ modelLines s w ++ moveLines w (c .move) ++ logLines s g w ++ freshLines w (c .move))
 
 -- 15, of a log with no move, and then those of the move that takes the latest back
-abbrev pub takeTable : Session → Log → Model → List ℕ → List Line
-takeTable s g w flags =
-    whole 1 0 (takeFits g w flags)
-    ∷ (tableLines (w .tables) (w .bounds) ++ modelLines s w ++ logLines s g w ++ (whole 15 0 (ltb 0 (logged g)) ∷ []) ++ freshLines w (latest g flags .move))
-
-abbrev pub writeTable : Tables → List ℤ → List ℕ → List Line
-writeTable t starts bytes = whole 1 0 (held t starts && leb (endsAt (t .n) (t .m) (t .e)) (length bytes)) ∷ []
-
--- 14, of the file's header: the place is the wrong field's, or the length of a file under 24 bytes
-abbrev pub headerLines : List ℕ → List Line
-headerLines bytes = let n = nIn bytes in let m = mIn bytes in let e = eIn bytes in
-    whole 14 (length bytes) (leb 24 (length bytes))
-    ∷ whole 14 0 (eqb (field 2 0 bytes) 1)
-    ∷ whole 14 2 (between 1 n 4096)
-    ∷ whole 14 4 (leb m n)
-    ∷ whole 14 6 (leb e 16384)
-    ∷ whole 14 8 (eqb (field 4 8 bytes) 24)
-    ∷ whole 14 12 (eqb (field 4 12 bytes) (rowsAt n))
-    ∷ whole 14 16 (eqb (field 4 16 bytes) (entriesAt n m))
-    ∷ whole 14 20 (eqb (field 4 20 bytes) (endsAt n m e) && eqb (length bytes) (endsAt n m e))
-    ∷ []
-
--- then 1, of the lent rows
-abbrev pub roomLines : List ℕ → Tables → List ℤ → List Line
-roomLines bytes t starts = whole 1 0 (held (counted (nIn bytes) (mIn bytes) (eIn bytes) t) starts) ∷ []
-
-abbrev pub readTable : List ℕ → Tables → List ℤ → List Line
-readTable bytes t starts = headerLines bytes ++ roomLines bytes t starts
+abbrev pub takeTable : Session → Log → Model → TakeLent → List Line
+takeTable s g w c =
+    whole 1 0 (takeFits g w c)
+    ∷ (tableLines (w .tables) (w .bounds) ++ modelLines s w ++ logLines s g w ++ (whole 15 0 (ltb 0 (logged g)) ∷ []) ++ freshLines w (latest g c .move))
 
 -- ── what a list says ──
 abbrev pub Passed : Line → Type 0

@@ -6,7 +6,7 @@ use mathlib.Core.List.{List, [], _∷_, List·Memᴰ}
 use mathlib.Core.Logic.{_⊎_, _↔_}
 use mathlib.Core.Path.{_≡_}
 use lib.Dec.{eqb, ltb}
-use lib.IntN.{ℤ, pos, natAbs, _+ℤ_, _-ℤ_, _*ℤ_}
+use lib.IntN.{ℤ, pos, negsuc, natAbs, _+ℤ_, _-ℤ_, _*ℤ_}
 use lib.ListN.{length}
 use lib.Signed.{ltZ, leZ}
 use Rattle.integers.specs.Integers.{eqZ}
@@ -15,8 +15,7 @@ use Rattle.paper.specs.Formula.{blank, inRange, fit, someBlank, sum, trips, inp
 use Rattle.paper.specs.Net.{Values, Depends, runs, valuation}
 use Rattle.paper.specs.Tables.{Tables, net, inputsOf}
 use Rattle.paper.specs.Chains.{worth, needs, determined}
-use Rattle.paper.specs.Checks.{arity}
-use Rattle.paper.specs.Reason.{stopped, headwayBad, indexOutside, noDepartures, reason}
+use Rattle.paper.specs.Reason.{RowInputs, ReasonRight}
 
 -- ── DEPARTURES and LAST, by the GTFS Schedule Reference ──
 -- time k of a window: k headways after its start
@@ -79,32 +78,6 @@ pub record FormulasRight (param : ℤ) (coefs : List ℤ) : Type 0 where
   pub no-headway : (start end headway : ℤ) → let xs = start ∷ end ∷ headway ∷ [] in someBlank xs ≡ false → leZ headway (pos 0) ≡ true
       → (formula 8 param coefs xs ≡ blank) × (formula 9 param coefs xs ≡ blank)
 
--- ── the reasons ──
--- inputs as a row has them: of a known kind, as many as it takes, each a value or blank
-pub record RowInputs (kind : ℕ) (xs : List ℤ) : Type 0 where
-  pub known : between 1 kind 9 ≡ true
-  pub many : arity kind (length xs) ≡ true
-  pub each : all (λ x. inRange x || eqZ x blank) xs ≡ true
-
--- the exact result of LINEAR, OVER and DEPARTURES, which alone are judged against the range
-abbrev pub exactResult : ℕ → ℤ → List ℤ → List ℤ → ℤ
-exactResult kind param coefs xs =
-    let a = inputAt xs 0 in let b = inputAt xs 1 in
-    cond (eqb kind 1) (param +ℤ sum coefs xs) (cond (eqb kind 7) (cond (ltZ b a) (a -ℤ b) (pos 0)) (pos (trips a b (inputAt xs 2))))
-
-abbrev pub leavesRange : ℕ → ℤ → List ℤ → List ℤ → Bool
-leavesRange kind param coefs xs = any (eqb kind) (1 ∷ 7 ∷ 8 ∷ []) && not (inRange (exactResult kind param coefs xs))
-
--- each reason is given exactly if its sentence holds, and none of those that come before it: 4, 3, 2, 5, 1
-pub record ReasonRight (kind : ℕ) (param : ℤ) (coefs xs : List ℤ) : Type 0 where
-  pub has-value : eqb (reason kind param coefs xs) 0 ≡ not (eqZ (formula kind param coefs xs) blank)
-  pub blank-input : eqb (reason kind param coefs xs) 4 ≡ stopped kind xs
-  pub headway : eqb (reason kind param coefs xs) 3 ≡ (not (stopped kind xs) && headwayBad kind xs)
-  pub index : eqb (reason kind param coefs xs) 2 ≡ (not (stopped kind xs) && (not (headwayBad kind xs) && indexOutside kind xs))
-  pub departures : eqb (reason kind param coefs xs) 5 ≡ (not (stopped kind xs) && (not (headwayBad kind xs) && (not (indexOutside kind xs) && noDepartures kind xs)))
-  pub range : eqb (reason kind param coefs xs) 1
-      ≡ (not (stopped kind xs) && (not (headwayBad kind xs) && (not (indexOutside kind xs) && (not (noDepartures kind xs) && leavesRange kind param coefs xs))))
-
 -- ── determined ──
 -- working v out comes to u: it is v, or v needs it, link by link
 abbrev pub ComesTo : Tables → Values → ℕ → ℕ → Type 0
@@ -118,6 +91,8 @@ pub record DeterminedExactly (t : Tables) (s : Values) (v : ℕ) : Type 0 where
 
 pub record SentencesRight : Type 0 where
   pub formulas : (param : ℤ) (coefs : List ℤ) → FormulasRight param coefs
+  -- a partial sum may leave the range, here by 2 × 2,147,483,647, where the whole sum does not
+  pub partial-sum : formula 1 (pos 0) (pos 2 ∷ negsuc 1 ∷ []) (pos 2147483647 ∷ pos 2147483647 ∷ []) ≡ pos 0
   pub reasons : (kind : ℕ) (param : ℤ) (coefs xs : List ℤ) → RowInputs kind xs → ReasonRight kind param coefs xs
   -- of tables whose inputs are variables, as check 3 leaves them
   pub determined : (t : Tables) → ((v i : ℕ) → List·Memᴰ i (inputsOf t v) → i < t .n) → (s : Values) (v : ℕ) → v < t .n → DeterminedExactly t s v

@@ -6,18 +6,13 @@ use mathlib.Core.Path.{_≡_}
 use Rattle.paper.specs.Net.{Values, Depends, moved}
 use Rattle.paper.specs.Tables.{Tables, inputsOf}
 use Rattle.paper.specs.Chains.{worth, needs}
+use Rattle.paper.specs.Permitted.{LeastOf}
 use Rattle.paper.specs.Checks.{movePairs}
 use Rattle.paper.specs.Log.{Log}
-use Rattle.paper.specs.Calls.{Session, Answer, numberOf, placeOf, BuildLent, startValues, Model, storedValues, Tried, Kept, latest}
+use Rattle.paper.specs.Calls.{Session, Answer, numberOf, placeOf, BuildLent, startValues, Model, storedValues, TrialLent, KeepLent, TakeLent, latest}
 use Rattle.demands.specs.Stated.{BuildOutcome, leftBuilt, TrialOutcome, leftTried, KeepOutcome, leftKept, TakeOutcome, leftTaken}
 use Rattle.demands.specs.Refusals.{Line, Passes, buildTable, trialTable, keepTable, takeTable}
 use Rattle.demands.specs.Sentences.{ComesTo}
-
--- the least variable of which something holds
-pub record LeastOf (n : ℕ) (holds : ℕ → Type 0) (place : ℕ) : Type 0 where
-  pub low : place < n
-  pub here : holds place
-  pub before : (v : ℕ) → v < place → holds v → ⊥
 
 -- the lines of a table but the last
 abbrev pub beforeLast : List Line → List Line
@@ -50,10 +45,10 @@ pub record StaleExactly (table : List Line) (t : Tables) (old : Values) (a : Ans
 -- ── each call ──
 pub record ChoicesExactly : Type 0 where
   pub build : (l : BuildLent) (o : BuildOutcome l) → UndeterminedExactly (buildTable l) (l .tables) (startValues l) (leftBuilt o .answer)
-  pub trial : (s : Session) (w : Model) (c : Tried) (o : TrialOutcome s w c) → let old = storedValues w in
+  pub trial : (s : Session) (w : Model) (c : TrialLent) (o : TrialOutcome s w c) → let old = storedValues w in
       UndeterminedExactly (trialTable s w c) (w .tables) (moved (movePairs (c .move)) old) (leftTried o .answer) × StaleExactly (trialTable s w c) (w .tables) old (leftTried o .answer)
-  pub keep : (s : Session) (g : Log) (w : Model) (c : Kept) (o : KeepOutcome s g w c) → let old = storedValues w in
+  pub keep : (s : Session) (g : Log) (w : Model) (c : KeepLent) (o : KeepOutcome s g w c) → let old = storedValues w in
       UndeterminedExactly (keepTable s g w c) (w .tables) (moved (movePairs (c .move)) old) (leftKept o .answer) × StaleExactly (keepTable s g w c) (w .tables) old (leftKept o .answer)
-  pub take-back : (s : Session) (g : Log) (w : Model) (flags : List ℕ) (o : TakeOutcome s g w flags) → let old = storedValues w in
-      UndeterminedExactly (takeTable s g w flags) (w .tables) (moved (movePairs (latest g flags .move)) old) (leftTaken o .answer)
-      × StaleExactly (takeTable s g w flags) (w .tables) old (leftTaken o .answer)
+  pub take-back : (s : Session) (g : Log) (w : Model) (c : TakeLent) (o : TakeOutcome s g w c) → let old = storedValues w in
+      UndeterminedExactly (takeTable s g w c) (w .tables) (moved (movePairs (latest g c .move)) old) (leftTaken o .answer)
+      × StaleExactly (takeTable s g w c) (w .tables) old (leftTaken o .answer)

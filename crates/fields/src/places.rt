@@ -1,11 +1,11 @@
-// What the versions differ in, and where the parts of a file with these counts begin and end. A version is whether its files have bounds.
+// What the versions differ in, and where the parts of a file with these counts begin and end. The code says a version as whether its files have bounds.
 ghost use mathlib.Core.Path.{_≡_};
 ghost use Prim.Native.Nat.{_≤_, _<_};
-ghost use Rattle.paper.specs.File.{versionNumber, headOf, bounded, rowsFrom, entriesFrom, boundsFrom, endsAs};
+ghost use Rattle.paper.specs.File.{versionOf, versionNumber, headOf, bounded, rowsFrom, entriesFrom, boundsFrom, endsAt};
 
 // The number in the header.
 pub fn version_number(bounds: bool) -> usize
-    ensures { λ r. ⌜ r ≡ versionNumber bounds ⌝ }
+    ensures { λ r. ⌜ r ≡ versionNumber (versionOf bounds) ⌝ }
 {
     if bounds {
         return 2;
@@ -15,7 +15,7 @@ pub fn version_number(bounds: bool) -> usize
 
 // The length of the header.
 pub fn head_length(bounds: bool) -> usize
-    ensures { λ r. ⌜ (r ≡ headOf bounds) × (24 ≤ r) × (r ≤ 28) ⌝ }
+    ensures { λ r. ⌜ (r ≡ headOf (versionOf bounds)) × (24 ≤ r) × (r ≤ 28) ⌝ }
 {
     if bounds {
         return 28;
@@ -25,7 +25,7 @@ pub fn head_length(bounds: bool) -> usize
 
 // Of n variables, how many have bounds in the file.
 pub fn bounded_count(bounds: bool, n: usize) -> usize
-    ensures { λ r. ⌜ (r ≡ bounded bounds n) × (r ≤ n) ⌝ }
+    ensures { λ r. ⌜ (r ≡ bounded (versionOf bounds) n) × (r ≤ n) ⌝ }
 {
     if bounds {
         return n;
@@ -60,7 +60,7 @@ pub fn bounds_at(head: usize, n: usize, m: usize, e: usize) -> usize
 // Where the file ends.
 pub fn ends_at(bounds: bool, n: usize, m: usize, e: usize) -> usize
     requires { ⌜ (n < 65536) × (m < 65536) × (e < 65536) ⌝ }
-    ensures { λ r. ⌜ r ≡ endsAs bounds n m e ⌝ }
+    ensures { λ r. ⌜ r ≡ endsAt (versionOf bounds) n m e ⌝ }
 {
     bounds_at(head_length(bounds), n, m, e) + 8 * bounded_count(bounds, n)
 }

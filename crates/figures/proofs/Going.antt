@@ -128,7 +128,8 @@ module _ (s : Session) (w : Model) (asked : ℕ) (b : Batch) where
         → (t ≡ totals (outcomes s w asked b)) × (row ≡ tallies (outcomes s w asked b) first)
     going-end first cleared room h l = (
       sym (plus-none t) ∙ ap (λ os. plus t (totals os)) (sym none) ∙ g .adding,
-      counting-end (outcomes s w asked b) i before row (let long = cleared-long first before room cleared in omega arith) (rw none at (g .counting))
+      let long = cleared-long first before room cleared in
+          counting-end (outcomes s w asked b) i before row (omega arith) (rw none at (g .counting))
           ∙ ap (tallies (outcomes s w asked b)) cleared ∙ over-over (λ k. having k (outcomes s w asked b)) 22 first (λ k. 0),
     )
       where

@@ -9,7 +9,7 @@ use lib.Dec.{eqb, leb}
 use borrow.Author.Tests.{leb-true, eqb-true}
 use Rattle.paper.specs.Lists.{between}
 use Rattle.paper.specs.Checks.{Verdict, accepted, refused, Move, movePairs}
-use Rattle.paper.specs.Calls.{Session, numberOf, evaluationsOf, evaluates, Model, storedValues, Tried, askedList, routeOf, TrialLeft, trialVerdict, trial}
+use Rattle.paper.specs.Calls.{Session, numberOf, evaluationsOf, evaluates, Model, storedValues, TrialLent, askedList, routeOf, TrialLeft, trialVerdict, trial}
 use Rattle.paper.proofs.Lists.{and-left, and-right}
 use Rattle.paper.proofs.Count.{size-le}
 use Rattle.paper.proofs.Sizes.{sized-facts}
@@ -19,7 +19,7 @@ use Rattle.figures.specs.Outcomes.{leftByTry, triedOnce, outcome}
 use Rattle.figures.specs.declared.outcomes.Tried as code
 
 -- ── any trial ──
-module _ (s : Session) (w : Model) (c : Tried) where
+module _ (s : Session) (w : Model) (c : TrialLent) where
   number-low : numberOf (trial s w c .answer) < 22
   number-low = go (leb (numberOf (trial s w c .answer)) 13 && not (eqb (numberOf (trial s w c .answer)) 6)) (eqb (numberOf (trial s w c .answer)) 17) refl refl (trial-judged s w c .given)
     where

@@ -1,4 +1,4 @@
--- What holds of the figures: the order of the moves changes nothing, and over stored values that the calls left each route gives the same result.
+-- What holds of the figures: the order of the moves changes nothing, and each route gives a move the same number.
 -- `proofs/Order` and `proofs/Routes` prove it. Assumes nothing.
 use Prim.Native.Nat.{ℕ}
 use mathlib.Core.Bool.{true}
@@ -8,8 +8,7 @@ use lib.IntN.{ℤ}
 use lib.ListN.{length}
 use Rattle.paper.specs.Lists.{between}
 use Rattle.paper.specs.Checks.{Move}
-use Rattle.paper.specs.Calls.{Session, numberOf, BuildLent, build, Model}
-use Rattle.paper.specs.Demands.{Call, modelOf, ownModel, after, Proper, renewed}
+use Rattle.paper.specs.Calls.{Session, Model}
 use Rattle.figures.specs.Outcomes.{triedOnce}
 use Rattle.figures.specs.Figures.{Batch, figures}
 
@@ -38,10 +37,3 @@ OrderChangesNothing =
 -- each route gives a move the same number, whatever is lent
 abbrev pub SameNumber : Type 0
 SameNumber = (s : Session) (w : Model) (asked : ℕ) (mv : Move) (r : ℕ) → between 1 r 3 ≡ true → triedOnce s w asked r mv .number ≡ triedOnce s w asked 1 mv .number
-
--- and over stored values that the calls left the same result: the fresh value of the asked variable. `room` are the rows for the pairs of the log
-abbrev pub SameResult : Type 0
-SameResult =
-    (b : BuildLent) → numberOf (build b .answer) ≡ 0 → (room : List ℕ × List ℤ) (cs : List Call) → Proper b room cs
-    → (asked : ℕ) (mv : Move) (r : ℕ) → let now = after b room cs in triedOnce (now .session) (modelOf now (ownModel b room)) asked r mv .number ≡ 0
-    → triedOnce (now .session) (modelOf now (ownModel b room)) asked r mv .result ≡ renewed b room cs mv asked

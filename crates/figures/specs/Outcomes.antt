@@ -12,7 +12,7 @@ use Rattle.figures.specs.declared.outcomes.Outcome.{Outcome}
 
 module _ (s : Session) (w : Model) (asked : ℕ) where
   -- as it is asked of the engine: one variable, a route, and rows of its own
-  abbrev pub asOneTrial : ℕ → Move → calls.Tried
+  abbrev pub asOneTrial : ℕ → Move → calls.TrialLent
   asOneTrial route mv = record {
     move = mv;
     asked = 1;
@@ -21,6 +21,7 @@ module _ (s : Session) (w : Model) (asked : ℕ) where
     results = pos 0 ∷ [];
     trial = replicate 4096 (pos 0);
     flags = replicate 4096 0;
+    why = 0 ∷ [];
   }
 
   -- what the engine then leaves, over a copy of the record

@@ -2,7 +2,7 @@
 ghost use mathlib.Core.List.{List, []};
 ghost use mathlib.Core.Path.{_≡_};
 ghost use Prim.Native.Nat.{suc, _+_, min, _≤_, _<_};
-ghost use lib.ListN.{length, take, drop, set};
+ghost use lib.ListN.{length, take, drop, set, replicate};
 ghost use Rattle.paper.specs.Lists.{nat, over};
 ghost use Rattle.verdicts.specs.Lent.{toModel};
 ghost use Rattle.records.specs.Left.{recordIn};
@@ -110,7 +110,7 @@ fn try_all(
 ) -> Totals
     ghost { List Outcome }
     requires fits { λ os. ⌜ (moves ≤ 1000) × (moves ≤ length (now «move_pairs»)) × (22 ≤ length (now «by_number»)) ⌝ }
-    requires tried { λ os. ⌜ outcomes (recordIn session) (toModel n m e (now kinds) (now makes) (now params) (now firsts) (now counts) (now vars) (now coefs) (now lows) (now highs) (now numbers) (now order) (now stored) (now «reader_starts») (now «reader_places»)) asked (batchOf moves (now «move_pairs») (now «move_vars») (now «move_values»)) ≡ os ⌝ }
+    requires tried { λ os. ⌜ outcomes (recordIn session) (toModel n m e (now kinds) (now makes) (now params) (now firsts) (now counts) (now vars) (now coefs) (now lows) (now highs) (now numbers) (now order) (now stored) (now «reader_starts») (now «reader_places») (replicate 4096 0)) asked (batchOf moves (now «move_pairs») (now «move_vars») (now «move_values»)) ≡ os ⌝ }
     ensures { λ os r. ⌜ (r ≡ totals os) × (now («by_number» .exit) ≡ tallies os (now («by_number» .entry))) ⌝ }
 {
     let mut totals = none();
@@ -177,7 +177,7 @@ pub fn figures(
     asked: u16,
     by_number: &mut [u32],
 ) -> Counted
-    ensures { λ r. ⌜ (r, now («by_number» .exit)) ≡ counted (recordIn session) (toModel n m e (now (kinds .entry)) (now (makes .entry)) (now (params .entry)) (now (firsts .entry)) (now (counts .entry)) (now (vars .entry)) (now (coefs .entry)) (now (lows .entry)) (now (highs .entry)) (now (numbers .entry)) (now (order .entry)) (now (stored .entry)) (now («reader_starts» .entry)) (now («reader_places» .entry))) asked (batchOf moves (now («move_pairs» .entry)) (now («move_vars» .entry)) (now («move_values» .entry))) (now («by_number» .entry)) ⌝ }
+    ensures { λ r. ⌜ (r, now («by_number» .exit)) ≡ counted (recordIn session) (toModel n m e (now (kinds .entry)) (now (makes .entry)) (now (params .entry)) (now (firsts .entry)) (now (counts .entry)) (now (vars .entry)) (now (coefs .entry)) (now (lows .entry)) (now (highs .entry)) (now (numbers .entry)) (now (order .entry)) (now (stored .entry)) (now («reader_starts» .entry)) (now («reader_places» .entry)) (replicate 4096 0)) asked (batchOf moves (now («move_pairs» .entry)) (now («move_vars» .entry)) (now («move_values» .entry))) (now («by_number» .entry)) ⌝ }
 {
     let fits = (moves <= 1000) & (moves <= move_pairs.len()) & (22 <= by_number.len());
     if !fits {

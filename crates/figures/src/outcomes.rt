@@ -1,6 +1,7 @@
 // What comes of one move: it is tried on the stored values by each of the three routes, and not kept.
 ghost use mathlib.Core.Path.{_≡_};
 ghost use Prim.Native.Nat.{_≤_, _<_};
+ghost use lib.ListN.{replicate};
 ghost use Rattle.integers.specs.Integers.{away};
 ghost use Rattle.paper.specs.Calls.{Model};
 ghost use Rattle.verdicts.specs.Lent.{toModel};
@@ -54,13 +55,15 @@ fn try_by(
     route: u32,
 ) -> Tried
     ghost { Model }
-    requires lent { λ w. ⌜ toModel n m e (now kinds) (now makes) (now params) (now firsts) (now counts) (now vars) (now coefs) (now lows) (now highs) (now numbers) (now order) (now stored) (now «reader_starts») (now «reader_places») ≡ w ⌝ }
+    requires lent { λ w. ⌜ toModel n m e (now kinds) (now makes) (now params) (now firsts) (now counts) (now vars) (now coefs) (now lows) (now highs) (now numbers) (now order) (now stored) (now «reader_starts») (now «reader_places») (replicate 4096 0) ≡ w ⌝ }
     ensures { λ w r. ⌜ (r ≡ triedOnce (recordIn session) w asked route (moveOf pairs (now («move_vars» .entry)) (now («move_values» .entry)))) × (r .number < 22) × (r .evaluations ≤ 4096) × (away (r .result) ≤ 2147483648) ⌝ }
 {
+    let reasons = [0u8; 4096];
     let asked_vars = [asked; 1];
     let mut results = [0i32; 1];
     let mut trial = [0i32; 4096];
     let mut flags = [0u8; 4096];
+    let mut why = [0u8; 1];
     let done = calls::trying::trial_core(
         session,
         n,
@@ -80,6 +83,7 @@ fn try_by(
         stored,
         reader_starts,
         reader_places,
+        &reasons,
         pairs,
         move_vars,
         move_values,
@@ -89,6 +93,7 @@ fn try_by(
         &mut results,
         &mut trial,
         &mut flags,
+        &mut why,
     );
     let answer = done.answer;
     Tried {
@@ -124,7 +129,7 @@ pub(crate) fn try_move(
     asked: u16,
 ) -> Outcome
     ghost { Model }
-    requires lent { λ w. ⌜ toModel n m e (now kinds) (now makes) (now params) (now firsts) (now counts) (now vars) (now coefs) (now lows) (now highs) (now numbers) (now order) (now stored) (now «reader_starts») (now «reader_places») ≡ w ⌝ }
+    requires lent { λ w. ⌜ toModel n m e (now kinds) (now makes) (now params) (now firsts) (now counts) (now vars) (now coefs) (now lows) (now highs) (now numbers) (now order) (now stored) (now «reader_starts») (now «reader_places») (replicate 4096 0) ≡ w ⌝ }
     ensures { λ w r. ⌜ (r ≡ outcome (recordIn session) w asked (moveOf pairs (now («move_vars» .entry)) (now («move_values» .entry)))) × SmallOutcome r ⌝ }
 {
     let first = try_by(

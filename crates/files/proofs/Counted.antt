@@ -8,7 +8,7 @@ use lib.ListN.{length}
 use borrow.Author.Tests.{leb-true, eqb-true}
 use Rattle.paper.specs.Lists.{between}
 use Rattle.paper.specs.Checks.{Verdict, accepted, refused, require}
-use Rattle.paper.specs.File.{field, Version, versionNumber, headOf, nIn, mIn, eIn, headedAs}
+use Rattle.paper.specs.File.{field, Version, versionNumber, headOf, nIn, mIn, eIn, headed}
 use Rattle.paper.proofs.Lists.{and-left, and-right, Each}
 use Rattle.paper.proofs.Verdicts.{andThen, Chain, chain-after, require-then, require-held, require-rest}
 
@@ -32,7 +32,7 @@ module _ (v : Version) (bytes : List ℕ) where
       (length bytes, leb (headOf v) (length bytes)) ∷ (0, eqb (field 2 0 bytes) (versionNumber v))
       ∷ (2, between 1 (nIn bytes) 4096) ∷ (4, leb (mIn bytes) (nIn bytes)) ∷ (6, leb (eIn bytes) 16384) ∷ []
 
-  headed-then : Chain (headedAs bytes v)
+  headed-then : Chain (headed v bytes)
   headed-then = judged-then tests
 
   -- what they say
@@ -44,12 +44,12 @@ module _ (v : Version) (bytes : List ℕ) where
     pub m-most : mIn bytes ≤ nIn bytes
     pub e-most : eIn bytes ≤ 16384
 
-  pub counted-facts : headedAs bytes v accepted ≡ accepted → Counted
+  pub counted-facts : headed v bytes accepted ≡ accepted → Counted
   counted-facts h = let passed = judged-each tests h in search (leb-true, eqb-true, and-left, and-right)
 
   -- what comes next decides
-  pub counted-next : headedAs bytes v accepted ≡ accepted → (next : Verdict) → headedAs bytes v next ≡ next
+  pub counted-next : headed v bytes accepted ≡ accepted → (next : Verdict) → headed v bytes next ≡ next
   counted-next h next = headed-then next ∙ ap (λ w. andThen w next) h
 
-  pub counted-stops : {number place : ℕ} → headedAs bytes v accepted ≡ refused number place → (next : Verdict) → headedAs bytes v next ≡ refused number place
+  pub counted-stops : {number place : ℕ} → headed v bytes accepted ≡ refused number place → (next : Verdict) → headed v bytes next ≡ refused number place
   counted-stops h next = headed-then next ∙ ap (λ w. andThen w next) h

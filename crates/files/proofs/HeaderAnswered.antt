@@ -6,7 +6,7 @@ use mathlib.Core.List.{List}
 use mathlib.Core.Path.{_≡_, refl, ap, sym, _∙_}
 use lib.ListN.{length}
 use Rattle.paper.specs.Checks.{Verdict, accepted, refused, require}
-use Rattle.paper.specs.File.{Version, headedAs, headerAs, nIn, mIn, eIn, endsAs}
+use Rattle.paper.specs.File.{Version, headed, header, endsAt}
 use Rattle.paper.proofs.Reading as reading
 use Rattle.files.specs.HeaderAnswers.{answer, Stated}
 use Rattle.files.specs.declared.headers.Reading.{Reading}
@@ -29,20 +29,20 @@ turned bytes accepted q = let z : _≡_ {A = ℕ} 0 1 = cc in absurd (omega arit
 turned bytes (refused number place) q = cc
 
 -- ── the answer to the counts, and the rest of the header ──
-module _ (v : Version) (bytes : List ℕ) {r : Reading} (q : r ≡ answer bytes (headedAs bytes v accepted)) where
-  pub refused-counts : {number place : ℕ} → r ≡ Refused number place → r ≡ answer bytes (headerAs bytes v)
-  unfolding headerAs
-  refused-counts h = h ∙ sym (ap (answer bytes) (counted-stops v bytes (turned bytes (headedAs bytes v accepted) (sym h ∙ q)) _))
+module _ (v : Version) (bytes : List ℕ) {r : Reading} (q : r ≡ answer bytes (headed v bytes accepted)) where
+  pub refused-counts : {number place : ℕ} → r ≡ Refused number place → r ≡ answer bytes (header v bytes)
+  unfolding header
+  refused-counts h = h ∙ sym (ap (answer bytes) (counted-stops v bytes (turned bytes (headed v bytes accepted) (sym h ∙ q)) _))
 
-  pub given-counts : {n m e : ℕ} → r ≡ Accepted n m e → Stated bytes (headedAs bytes v accepted) n m e × Counted v bytes
-  given-counts h = let s = stated bytes (headedAs bytes v accepted) (sym h ∙ q) in (s, counted-facts v bytes (s .good))
+  pub given-counts : {n m e : ℕ} → r ≡ Accepted n m e → Stated bytes (headed v bytes accepted) n m e × Counted v bytes
+  given-counts h = let s = stated bytes (headed v bytes accepted) (sym h ∙ q) in (s, counted-facts v bytes (s .good))
 
 -- ── what an accepted header states ──
-module _ (v : Version) (bytes : List ℕ) {r : Reading} (q : r ≡ answer bytes (headerAs bytes v)) where
+module _ (v : Version) (bytes : List ℕ) {r : Reading} (q : r ≡ answer bytes (header v bytes)) where
   module _ {n m e : ℕ} (h : r ≡ Accepted n m e) where
-    pub told : Stated bytes (headerAs bytes v) n m e
-    told = stated bytes (headerAs bytes v) (sym h ∙ q)
+    pub told : Stated bytes (header v bytes) n m e
+    told = stated bytes (header v bytes) (sym h ∙ q)
 
     -- the file ends where its counts say
-    pub ends : length bytes ≡ endsAs v n m e
+    pub ends : length bytes ≡ endsAt v n m e
     ends = rw (told .n-is, told .m-is, told .e-is) (reading.headed v bytes (told .good) .whole)

@@ -15,14 +15,14 @@ pub enum Converted {
 
 // Stores a file of version 1 as one of version 2, with all bounds full.
 pub fn to_version_2(bytes: &[u8], file: &mut [u8]) -> Converted
-    ensures { λ r. ⌜ hasConverted r (now (file .exit)) ≡ File.toVersion2 (now (bytes .entry)) (now (file .entry)) ⌝ }
+    ensures { λ r. ⌜ hasConverted r (now (file .exit)) ≡ File.convert File.version1 File.version2 (now (bytes .entry)) (now (file .entry)) ⌝ }
 {
     convert(false, true, bytes, file)
 }
 
 // Stores a file of version 2 as one of version 1, if it has only full bounds.
 pub fn to_version_1(bytes: &[u8], file: &mut [u8]) -> Converted
-    ensures { λ r. ⌜ hasConverted r (now (file .exit)) ≡ File.toVersion1 (now (bytes .entry)) (now (file .entry)) ⌝ }
+    ensures { λ r. ⌜ hasConverted r (now (file .exit)) ≡ File.convert File.version2 File.version1 (now (bytes .entry)) (now (file .entry)) ⌝ }
 {
     convert(true, false, bytes, file)
 }

@@ -33,7 +33,7 @@ fn right(place: u32, good: bool, answer: Reading) -> Reading
 
 // The counts that a file states, or the first of its length, its version and its counts that is wrong.
 pub fn counts_as(bytes: &[u8], bounds: bool) -> Reading
-    ensures { λ r. ⌜ r ≡ answer (now (bytes .entry)) (File.headedAs (now (bytes .entry)) bounds accepted) ⌝ }
+    ensures { λ r. ⌜ r ≡ answer (now (bytes .entry)) (File.headed (File.versionOf bounds) (now (bytes .entry)) accepted) ⌝ }
 {
     if bytes.len() < head_length(bounds) {
         return Reading::Refused {
@@ -56,8 +56,8 @@ pub fn counts_as(bytes: &[u8], bounds: bool) -> Reading
 // The field behind the total says where the bounds begin, if there are any.
 fn bounds_right(bytes: &[u8], bounds: bool, n: usize, m: usize, e: usize) -> bool
     requires { ⌜ (n ≡ File.nIn (now bytes)) × (m ≡ File.mIn (now bytes)) × (e ≡ File.eIn (now bytes)) ⌝ }
-    requires { ⌜ (n < 65536) × (m < 65536) × (e < 65536) × (File.headOf bounds ≤ length (now bytes)) ⌝ }
-    ensures { λ r. ⌜ r ≡ File.boundsTold (now (bytes .entry)) bounds ⌝ }
+    requires { ⌜ (n < 65536) × (m < 65536) × (e < 65536) × (File.headOf (File.versionOf bounds) ≤ length (now bytes)) ⌝ }
+    ensures { λ r. ⌜ r ≡ File.boundsTold (File.versionOf bounds) (now (bytes .entry)) ⌝ }
 {
     if !bounds {
         return true;
@@ -67,7 +67,7 @@ fn bounds_right(bytes: &[u8], bounds: bool, n: usize, m: usize, e: usize) -> boo
 
 // The counts that a file states, or the first field of its header that is wrong.
 pub fn header_as(bytes: &[u8], bounds: bool) -> Reading
-    ensures { λ r. ⌜ r ≡ answer (now (bytes .entry)) (File.headerAs (now (bytes .entry)) bounds) ⌝ }
+    ensures { λ r. ⌜ r ≡ answer (now (bytes .entry)) (File.header (File.versionOf bounds) (now (bytes .entry))) ⌝ }
 {
     let told = counts_as(bytes, bounds);
     let Reading::Accepted { n, m, e } = told else {

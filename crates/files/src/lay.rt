@@ -2,7 +2,7 @@
 ghost use mathlib.Core.Path.{_≡_};
 ghost use Rattle.paper.specs.Tables.{lent};
 ghost use Rattle.files.specs.HeaderAnswers.{answer};
-ghost use Rattle.files.specs.Answers.{hasReadBounded};
+ghost use Rattle.files.specs.Answers.{hasRead};
 ghost use Rattle.paper.specs.File as File;
 use crate::headers::Reading;
 use crate::headers::header_as;
@@ -33,7 +33,7 @@ pub fn rows_held(
     highs: &[i32],
 ) -> bool
     ensures { λ r. ⌜
-        r ≡ File.heldAs bounds (File.contents
+        r ≡ File.held (File.versionOf bounds) (File.contents
         (lent n m e (now (kinds .entry)) (now (makes .entry)) (now (params .entry)) (now (firsts .entry)) (now (counts .entry)) (now (vars .entry)) (now (coefs .entry)))
         (now (starts .entry)) (now (lows .entry)) (now (highs .entry)))
         ⌝ }
@@ -71,7 +71,7 @@ fn judge_reading(
     highs: &[i32],
 ) -> Reading
     ensures { λ r. ⌜
-        r ≡ answer (now (bytes .entry)) (File.readVerdictAs bounds (now (bytes .entry)) (File.contents
+        r ≡ answer (now (bytes .entry)) (File.readVerdict (File.versionOf bounds) (now (bytes .entry)) (File.contents
         (lent 0 0 0 (now (kinds .entry)) (now (makes .entry)) (now (params .entry)) (now (firsts .entry)) (now (counts .entry)) (now (vars .entry)) (now (coefs .entry)))
         (now (starts .entry)) (now (lows .entry)) (now (highs .entry))))
         ⌝ }
@@ -128,10 +128,10 @@ pub fn read_as(
         ≡ w
         ⌝ }
     ensures { λ w r. ⌜
-        hasReadBounded r (File.contents
+        hasRead r (File.contents
         (lent 0 0 0 (now (kinds .exit)) (now (makes .exit)) (now (params .exit)) (now (firsts .exit)) (now (counts .exit)) (now (vars .exit)) (now (coefs .exit)))
         (now (starts .exit)) (now (lows .exit)) (now (highs .exit)))
-        ≡ File.readAs bounds (now (bytes .entry)) w
+        ≡ File.read (File.versionOf bounds) (now (bytes .entry)) w
         ⌝ }
 {
     let told = judge_reading(

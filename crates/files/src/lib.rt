@@ -9,7 +9,7 @@ ghost use mathlib.Core.Path.{_≡_};
 ghost use Rattle.paper.specs.Tables.{lent};
 ghost use Rattle.paper.specs.Checks.{accepted};
 ghost use Rattle.files.specs.HeaderAnswers.{answer};
-ghost use Rattle.files.specs.Answers.{verdict, hasRead, hasReadBounded};
+ghost use Rattle.files.specs.Answers.{verdict, hasRead};
 ghost use Rattle.paper.specs.File as File;
 use crate::headers::Reading;
 use crate::headers::counts_as;
@@ -24,7 +24,7 @@ pub enum Written {
 
 // The counts that a file of version 1 states, or the first of its length, its version and its counts that is wrong.
 pub fn counts(bytes: &[u8]) -> Reading
-    ensures { λ r. ⌜ r ≡ answer (now (bytes .entry)) (File.headed (now (bytes .entry)) accepted) ⌝ }
+    ensures { λ r. ⌜ r ≡ answer (now (bytes .entry)) (File.headed File.version1 (now (bytes .entry)) accepted) ⌝ }
 {
     counts_as(bytes, false)
 }
@@ -46,9 +46,9 @@ pub fn write(
 ) -> Written
     ensures { λ r. ⌜
         (verdict r, now (bytes .exit))
-        ≡ File.write
+        ≡ File.write File.version1 (File.unboundedContents
         (lent n m e (now (kinds .entry)) (now (makes .entry)) (now (params .entry)) (now (firsts .entry)) (now (counts .entry)) (now (vars .entry)) (now (coefs .entry)))
-        (now (starts .entry)) (now (bytes .entry))
+        (now (starts .entry))) (now (bytes .entry))
         ⌝ }
 {
     let none = [0i32; 0];
@@ -90,7 +90,7 @@ pub fn write_bounded(
 ) -> Written
     ensures { λ r. ⌜
         (verdict r, now (bytes .exit))
-        ≡ File.writeBounded (File.contents
+        ≡ File.write File.version2 (File.contents
         (lent n m e (now (kinds .entry)) (now (makes .entry)) (now (params .entry)) (now (firsts .entry)) (now (counts .entry)) (now (vars .entry)) (now (coefs .entry)))
         (now (starts .entry)) (now (lows .entry)) (now (highs .entry))) (now (bytes .entry))
         ⌝ }
@@ -127,12 +127,12 @@ pub fn read(
     coefs: &mut [i16],
 ) -> Reading
     ensures { λ r. ⌜
-        hasRead r
+        hasRead r (File.unboundedContents
         (lent 0 0 0 (now (kinds .exit)) (now (makes .exit)) (now (params .exit)) (now (firsts .exit)) (now (counts .exit)) (now (vars .exit)) (now (coefs .exit)))
-        (now (starts .exit))
-        ≡ File.read (now (bytes .entry))
+        (now (starts .exit)))
+        ≡ File.read File.version1 (now (bytes .entry)) (File.unboundedContents
         (lent 0 0 0 (now (kinds .entry)) (now (makes .entry)) (now (params .entry)) (now (firsts .entry)) (now (counts .entry)) (now (vars .entry)) (now (coefs .entry)))
-        (now (starts .entry))
+        (now (starts .entry)))
         ⌝ }
 {
     let mut lows = [0i32; 0];
@@ -168,10 +168,10 @@ pub fn read_bounded(
     highs: &mut [i32],
 ) -> Reading
     ensures { λ r. ⌜
-        hasReadBounded r (File.contents
+        hasRead r (File.contents
         (lent 0 0 0 (now (kinds .exit)) (now (makes .exit)) (now (params .exit)) (now (firsts .exit)) (now (counts .exit)) (now (vars .exit)) (now (coefs .exit)))
         (now (starts .exit)) (now (lows .exit)) (now (highs .exit)))
-        ≡ File.readBounded (now (bytes .entry)) (File.contents
+        ≡ File.read File.version2 (now (bytes .entry)) (File.contents
         (lent 0 0 0 (now (kinds .entry)) (now (makes .entry)) (now (params .entry)) (now (firsts .entry)) (now (counts .entry)) (now (vars .entry)) (now (coefs .entry)))
         (now (starts .entry)) (now (lows .entry)) (now (highs .entry)))
         ⌝ }

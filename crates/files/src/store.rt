@@ -1,6 +1,5 @@
 // Writing, whatever the version.
 ghost use mathlib.Core.Path.{_≡_};
-ghost use mathlib.Core.Bool.{_&&_};
 ghost use Rattle.paper.specs.Tables.{lent};
 ghost use Rattle.files.specs.Answers.{verdict};
 ghost use Rattle.paper.specs.File as File;
@@ -36,7 +35,7 @@ pub fn write_as(
 ) -> Written
     ensures { λ r. ⌜
         (verdict r, now (bytes .exit))
-        ≡ File.writeAs bounds (File.contents
+        ≡ File.write (File.versionOf bounds) (File.contents
         (lent n m e (now (kinds .entry)) (now (makes .entry)) (now (params .entry)) (now (firsts .entry)) (now (counts .entry)) (now (vars .entry)) (now (coefs .entry)))
         (now (starts .entry)) (now (lows .entry)) (now (highs .entry))) (now (bytes .entry))
         ⌝ }

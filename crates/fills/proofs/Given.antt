@@ -15,7 +15,7 @@ use Rattle.paper.specs.Tables.{Tables, net, isMade, formOf, valuesIn}
 use Rattle.paper.specs.Chains.{worth, determined}
 use Rattle.paper.specs.Checks.{Sound, movePairs}
 use Rattle.paper.specs.Reason.{reasonOf, reasonAfter, reasonKept}
-use Rattle.paper.specs.Calls.{newValues, evaluates, trialRow, flagRow, BuildLent, startValues, Kept, keptStored, keptFlags}
+use Rattle.paper.specs.Calls.{newValues, evaluates, trialRow, flagRow, BuildLent, startValues, KeepLent, keptStored, keptFlags, keptReasons}
 use Rattle.paper.proofs.Lists.{all-in}
 use Rattle.paper.proofs.Buffers.{over-at, over-same}
 use Rattle.paper.proofs.Fresh.{unnamed}
@@ -24,7 +24,6 @@ use Rattle.paper.proofs.RouteReasons.{Shows, fresh-shows, Settled, route-shows}
 use Rattle.rows.specs.Changes.{valuesOf}
 use Rattle.whys.specs.Noted.{shown, current, notedReason}
 use Rattle.whys.proofs.Noted.{shown-reason, current-after, noted-kept}
-use Rattle.paper.specs.Reasoned.{movedReasons}
 
 -- a flag is 1 where the variable was evaluated
 flag-is : (b : Bool) → eqb (cond b 1 0) 1 ≡ b
@@ -90,9 +89,9 @@ module _ (t : Tables) (sound : Sound t) where
         flags (flags-hold flags flags₀ q) (nat reasons) (nat vars i) (low i l))
 
   -- ── keep and taking back ──
-  pub moved-given : (stored : List ℤ) (c : Kept) → Ruled t input-to-output (valuesIn t stored) (moved (movePairs (c .move)) (valuesIn t stored))
+  pub moved-given : (stored : List ℤ) (c : KeepLent) → Ruled t input-to-output (valuesIn t stored) (moved (movePairs (c .move)) (valuesIn t stored))
       → (stored′ : List ℤ) → stored′ ≡ keptStored t stored c → (flags : List ℕ) → flags ≡ keptFlags t stored c
-      → (before row : List ℕ) → row ≡ over (t .n) (notedReason t flags (valuesOf stored′) (nat before)) before → row ≡ movedReasons t stored c before
+      → (before row : List ℕ) → row ≡ over (t .n) (notedReason t flags (valuesOf stored′) (nat before)) before → row ≡ keptReasons t stored c before
   moved-given stored c ruled stored′ e flags q before row h =
       let old = valuesIn t stored in let mv = movePairs (c .move) in
       h ∙ over-same (notedReason t flags (valuesOf stored′) (nat before)) (t .n) before (reasonKept t (evaluates t old input-to-output mv []) (newValues t old input-to-output mv []) (nat before))

@@ -17,7 +17,7 @@ use Rattle.paper.specs.Net.{Values, Route, moved, names, differs, live, new, wo
 use Rattle.paper.specs.Tables.{Tables, Index, net, isMade, valuesIn}
 use Rattle.paper.specs.Checks.{movePairs}
 use Rattle.paper.specs.Chains.{determined, closes}
-use Rattle.paper.specs.Calls.{newValues, evaluates, trialRow, flagRow, Kept}
+use Rattle.paper.specs.Calls.{newValues, evaluates, trialRow, flagRow, KeepLent}
 use Rattle.paper.proofs.Lists.{clash, all-in, any-has, any-at}
 use Rattle.paper.proofs.Least.{firstFail-none}
 use Rattle.paper.proofs.Buffers.{over-length, over-at, over-over, over-same}
@@ -36,7 +36,7 @@ use Rattle.fills.specs.Running.{Running}
 use Rattle.fills.specs.Accepted.{KeepAccepted}
 use Rattle.fills.proofs.Settled.{idle-new, all-new}
 
-module _ (t : Tables) (nums ord : List ℕ) (x : Index) (stored : List ℤ) (c : Kept) (k : KeepAccepted t nums ord x stored c) where
+module _ (t : Tables) (nums ord : List ℕ) (x : Index) (stored : List ℤ) (c : KeepLent) (k : KeepAccepted t nums ord x stored c) where
   -- the pairs, the stored values, and these with the pairs put in
   abbrev mv : List (ℕ × ℤ)
   mv = movePairs (c .move)

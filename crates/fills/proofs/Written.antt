@@ -14,7 +14,7 @@ use Rattle.paper.specs.Lists.{all, nat, size, over}
 use Rattle.paper.specs.Net.{Values, input-to-output, moved}
 use Rattle.paper.specs.Tables.{Tables, Index, net, valuesIn}
 use Rattle.paper.specs.Checks.{movePairs}
-use Rattle.paper.specs.Calls.{newValues, Tried, askedList, routeOf, Kept}
+use Rattle.paper.specs.Calls.{newValues, TrialLent, askedList, routeOf, KeepLent}
 use Rattle.paper.proofs.Lists.{all-in, all-of, all-at}
 use Rattle.paper.proofs.Buffers.{over-same}
 use Rattle.paper.proofs.Count.{size-le}
@@ -32,10 +32,10 @@ module _ (t : Tables) (nums ord : List ℕ) (x : Index) (stored : List ℤ) wher
   abbrev old : Values
   old = valuesIn t stored
 
-  pub held : (c : Kept) → KeepAccepted t nums ord x stored c → Sized t
+  pub held : (c : KeepLent) → KeepAccepted t nums ord x stored c → Sized t
   held c k = sized-facts t (k .sound .sized)
 
-  pub keep-filled : (c : Kept) (k : KeepAccepted t nums ord x stored c) (before row row′ stored′ : List ℤ) (flags flags′ : List ℕ) (count : ℕ) → t .n ≤ length before
+  pub keep-filled : (c : KeepLent) (k : KeepAccepted t nums ord x stored c) (before row row′ stored′ : List ℤ) (flags flags′ : List ℕ) (count : ℕ) → t .n ≤ length before
       → row ≡ over (t .n) (moved (movePairs (c .move)) (λ v. getD stored v (pos 0))) before → flags ≡ over (t .n) (λ v. 0) (c .flags)
       → Routed t input-to-output stored row flags [] row′ flags′ → stored′ ≡ over (t .n) (λ v. getD row′ v (pos 0)) stored
       → count ≡ size (λ v. eqb (nat flags′ v) 1) (t .n) → KeepFilled t stored c count stored′ flags′
@@ -47,7 +47,7 @@ module _ (t : Tables) (nums ord : List ℕ) (x : Index) (stored : List ℤ) wher
         flags-are = a .flags-are;
       }
 
-  module _ (c : Tried) (k : Trying t nums ord x stored c) where
+  module _ (c : TrialLent) (k : Trying t nums ord x stored c) where
     abbrev asked : List ℕ
     asked = askedList c
 
@@ -71,7 +71,7 @@ module _ (t : Tables) (nums ord : List ℕ) (x : Index) (stored : List ℤ) wher
       flags-are = a .flags-are;
     }
       where
-        kept : Kept
+        kept : KeepLent
         kept = record { move = c .move; flags = c .flags }
 
         worth : Values

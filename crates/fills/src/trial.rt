@@ -1,7 +1,8 @@
 // What an accepted trial writes.
+ghost use mathlib.Core.List.{[]};
 ghost use mathlib.Core.Path.{_≡_};
 ghost use Rattle.paper.specs.Tables.{Tables, lent, indexIn};
-ghost use Rattle.paper.specs.Calls.{Tried};
+ghost use Rattle.paper.specs.Calls.{TrialLent};
 ghost use Rattle.verdicts.specs.Lent.{toTry};
 ghost use Rattle.fills.specs.Accepted.{Trying, TrialFilled};
 use crate::running::run_route;
@@ -36,8 +37,8 @@ pub fn fill_trial(
     trial: &mut [i32],
     flags: &mut [u8],
 ) -> u32
-    ghost { Tables × Tried }
-    requires lent { λ w. ⌜ (lent n m e (now kinds) (now makes) (now params) (now firsts) (now counts) (now vars) (now coefs), toTry pairs (now «move_vars») (now «move_values») asked (now «asked_vars») route (now results) (now trial) (now flags)) ≡ w ⌝ }
+    ghost { Tables × TrialLent }
+    requires lent { λ w. ⌜ (lent n m e (now kinds) (now makes) (now params) (now firsts) (now counts) (now vars) (now coefs), toTry pairs (now «move_vars») (now «move_values») asked (now «asked_vars») route (now results) (now trial) (now flags) []) ≡ w ⌝ }
     requires trying { λ (t, tried). ⌜ Trying t (now numbers) (now order) (indexIn (now «reader_starts») (now «reader_places»)) (now stored) tried ⌝ }
     ensures { λ (t, tried) r. ⌜ TrialFilled t (now (stored .entry)) tried r (now (results .exit)) (now (trial .exit)) (now (flags .exit)) ⌝ }
 {

@@ -12,9 +12,9 @@ use lib.ListN.{length, take, List·getD-eq-default}
 use lib.Seq.{getD-take, length-take-le}
 use borrow.Author.Tests.{ltb-true, ltb-false, leb-true, eqb-true, eq-eqb, ne-eqb, lt-ltb, le-leb}
 use Rattle.paper.specs.Lists.{greatest, nat, allBelow}
-use Rattle.paper.specs.Net.{able, numbering, number}
-use Rattle.paper.specs.Tables.{Tables, part, isMade, inputsOf, net, order}
-use Rattle.paper.specs.Checks.{numbered}
+use Rattle.paper.specs.Net.{able}
+use Rattle.paper.specs.Tables.{Tables, part, isMade, inputsOf, net}
+use Rattle.paper.specs.Straight.{numbering, number, order, numbered}
 use Rattle.paper.proofs.Lists.{clash, and-left, and-right, all-of, all-at}
 use Rattle.paper.proofs.Least.{allBelow-at, below-all}
 use Rattle.paper.proofs.Scan.{Scan, scan-next}

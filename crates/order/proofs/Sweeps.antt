@@ -10,7 +10,8 @@ use lib.Dec.{eqb, leb, ltb}
 use lib.ListN.{length, replicate, length-replicate, getD-replicate, List·getD-eq-default}
 use borrow.Author.Tests.{leb-true, leb-false, le-leb, ltb-true, ltb-false, eqb-true}
 use Rattle.paper.specs.Lists.{all, greatest, nat, over, size, firstFail}
-use Rattle.paper.specs.Net.{runs, able, Depends, direct, through, numbering, number}
+use Rattle.paper.specs.Net.{runs, able, Depends, direct, through}
+use Rattle.paper.specs.Straight.{numbering, number}
 use Rattle.paper.specs.Tables.{Tables, part, rowOf, isMade, inputsOf, net, ends}
 use Rattle.paper.proofs.Lists.{clash, all-in}
 use Rattle.paper.proofs.Buffers.{over-length, over-at}

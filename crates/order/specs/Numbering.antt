@@ -8,7 +8,7 @@ use lib.Dec.{eqb, leb}
 use lib.ListN.{length}
 use lib.Seq.{slice}
 use Rattle.paper.specs.Lists.{nat, size, firstFail}
-use Rattle.paper.specs.Net.{number}
+use Rattle.paper.specs.Straight.{number}
 use Rattle.paper.specs.Tables.{Tables, part, net, ends}
 
 -- a row of zeros, at least n long

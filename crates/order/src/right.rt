@@ -6,7 +6,7 @@ ghost use mathlib.Core.Path.{_≡_};
 ghost use Prim.Native.Nat.{_≤_};
 ghost use lib.ListN.{length};
 ghost use Rattle.paper.specs.Lists.{nat, allBelow};
-ghost use Rattle.paper.specs.Checks.{numbered};
+ghost use Rattle.paper.specs.Straight.{numbered};
 ghost use Rattle.tables.specs.Makers.{Makers};
 ghost use Rattle.order.specs.Formed.{bare, Formed};
 ghost use Rattle.order.specs.Numbering.{above, searchedRight, madeRight, Inputs};

@@ -3,7 +3,7 @@ ghost use mathlib.Core.Path.{_≡_};
 ghost use Prim.Native.Nat.{_≤_};
 ghost use lib.ListN.{length};
 ghost use Rattle.paper.specs.Lists.{over};
-ghost use Rattle.paper.specs.Net.{number};
+ghost use Rattle.paper.specs.Straight.{number};
 ghost use Rattle.paper.specs.Tables.{net};
 ghost use Rattle.order.specs.Formed.{bare};
 ghost use Rattle.order.specs.Numbering.{Numbered};

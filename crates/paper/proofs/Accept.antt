@@ -77,8 +77,6 @@ module _ (t : Tables) where
 
 -- ── what a row that passed them says ──
 pub record SoundRow (t : Tables) (r : ℕ) : Type 0 where
-  pub kind-low : 1 ≤ nat (t .kinds) r
-  pub kind-high : nat (t .kinds) r ≤ 9
   pub makes : nat (t .makes) r < t .n
   pub first : nat (t .firsts) r ≡ total (take r (t .counts))
   pub inside : nat (t .firsts) r + nat (t .counts) r ≤ t .e
@@ -99,8 +97,6 @@ sound-row t s r l =
     let kind = nat (t .kinds) r in let first = nat (t .firsts) r in let count = nat (t .counts) r in
     let f = each _ (s .shapes r l) in
     record {
-      kind-low = leb-true 1 kind (and-left (leb 1 kind) (leb kind 9) (s .kinds r l));
-      kind-high = leb-true kind 9 (and-right (leb 1 kind) (leb kind 9) (s .kinds r l));
       makes = ltb-true (nat (t .makes) r) (t .n) (f .0);
       first = eqb-true first (total (take r (t .counts))) (f .1 .1 .1 .0);
       inside = leb-true (first + count) (t .e) (f .1 .1 .1 .1 .0);

@@ -3,16 +3,20 @@
 use Prim.Native.Nat.{ℕ, _<_}
 use native.Mathlib.Omega.{arith}
 use mathlib.Core.Bool.{Bool, true, false, true≢false, false≢true}
+use mathlib.Core.List.{_++_}
 use mathlib.Core.Logic.{_⊎_, inl, inr}
 use mathlib.Core.Path.{_≡_, refl, ap, sym, _∙_, subst}
 use lib.Dec.{ltb}
+use lib.ListN.{set, drop}
 use borrow.Author.Tests.{ltb-true, ltb-false}
-use Rattle.paper.specs.Lists.{firstFail}
-use Rattle.paper.specs.Tables.{Tables, inputsOf}
-use Rattle.paper.specs.Chains.{permitted, determined}
-use Rattle.paper.specs.Checks.{Verdict, accepted, refused, check, sized, startAllowed, Sound}
-use Rattle.paper.specs.Calls.{numberOf, placeOf, BuildLent, BuildLeft, buildFits, startValues, buildVerdict, buildLeaves, build}
-use Rattle.paper.specs.Demands.{Barred, LeastBarred, Circular, FivePassed, CircularExactly, BuildRight}
+use Rattle.paper.specs.Lists.{firstFail, over}
+use Rattle.paper.specs.Net.{valuation}
+use Rattle.paper.specs.Tables.{Tables, net, inputsOf, index}
+use Rattle.paper.specs.Chains.{permitted, groupNumbering, groupNumber, groupOrder, worth, determined}
+use Rattle.paper.specs.Checks.{Verdict, accepted, refused, check, require, sized, tableChecks, startAllowed, Sound}
+use Rattle.paper.specs.Reason.{reasonOf}
+use Rattle.paper.specs.Calls.{blanksAmong, Accepted, numberOf, placeOf, BuildLent, BuildLeft, buildFits, startValues, buildVerdict, buildLeaves, build}
+use Rattle.paper.specs.Permitted.{Barred, Circular, LeastOf}
 use Rattle.paper.proofs.Lists.{and-left}
 use Rattle.paper.proofs.Least.{firstFail-before, firstFail-fails}
 use Rattle.paper.proofs.Verdicts.{refused-not, check-stops, check-other, check-own, require-next, require-rest, require-held, require-other}
@@ -44,12 +48,35 @@ module _ (b : BuildLent) where
   abbrev t : Tables
   t = b .tables
 
+  -- checks 1 to 5 are passed
+  abbrev pub FivePassed : Type 0
+  FivePassed = require 1 0 (buildFits b) (tableChecks t (b .bounds) accepted) ≡ accepted
+
+  pub record BuildRight : Type 0 where
+    pub not-circular : Circular t → ⊥
+    -- the numbers are the paper's: 0 at search variables, 1 plus the greatest among the inputs of a group from outside it at made ones
+    pub numbers : build b .numbers ≡ over (t .n) (groupNumber t) (b .numbers)
+    pub numbers-meet : (v : ℕ) → groupNumber t v ≡ groupNumbering t (groupNumber t) v
+    pub ordered : build b .order ≡ groupOrder t ++ drop (t .m) (b .order)
+    -- the index has the rows that read each variable
+    pub indexed : build b .index ≡ index t (b .index)
+    -- the stored values are the start values at search variables, and the formula over the inputs' at made ones
+    pub stored : build b .stored ≡ over (t .n) (worth t (startValues b)) (b .stored)
+    pub stored-meet : (v : ℕ) → worth t (startValues b) v ≡ valuation (net t) (startValues b) (worth t (startValues b)) v
+    -- working any variable out ends
+    pub determined : (v : ℕ) → determined t (startValues b) v ≡ true
+    pub session : build b .session ≡ record { kept = 0; evaluations = t .m; blanks = blanksAmong (t .n) (worth t (startValues b)) }
+    pub reasons : build b .reasons ≡ over (t .n) (λ v. reasonOf t v (worth t (startValues b))) (b .reasons)
+    -- the log is empty
+    pub empty : build b .logSizes ≡ set (b .logSizes) 0 0
+    pub answer : build b .answer ≡ Accepted (t .m)
+
   -- the least variable on a closed chain that is not permitted
   abbrev least : ℕ
   least = firstFail (permitted t) (t .n)
 
   -- ── an accepted build ──
-  pub build-right : numberOf (build b .answer) ≡ 0 → BuildRight b
+  pub build-right : numberOf (build b .answer) ≡ 0 → BuildRight
   build-right ok = record {
     not-circular = λ c. permitted-clear t (known .sound) (c .0) (known .permitted (c .0) (barred-low t (known .sound) (c .0) (c .1))) (c .1);
     numbers = ap (λ (x : BuildLeft). x .numbers) left;
@@ -60,6 +87,7 @@ module _ (b : BuildLent) where
     stored-meet = λ v. worth-meets t (startValues b) v (known .determined v);
     determined = known .determined;
     session = ap (λ (x : BuildLeft). x .session) left;
+    reasons = ap (λ (x : BuildLeft). x .reasons) left;
     empty = ap (λ (x : BuildLeft). x .logSizes) left;
     answer = ap (λ (x : BuildLeft). x .answer) left;
   }
@@ -76,12 +104,12 @@ module _ (b : BuildLent) where
     pub sound : Sound t
     pub bounds : BoundsGood t (b .bounds)
 
-  five : FivePassed b → Five
+  five : FivePassed → Five
   five e =
       let fits = require-held 1 0 (buildFits b) _ e in let p = tables-passed t (b .bounds) (and-left (sized t) _ fits) accepted (require-rest 1 0 (buildFits b) _ e) in
       record { fits = fits; sound = p .0; bounds = p .1 }
 
-  five-passed : Five → FivePassed b
+  five-passed : Five → FivePassed
   five-passed f = require-next 1 0 (buildFits b) _ (f .fits) ∙ tables-next t (b .bounds) (f .sound) (f .bounds) accepted
 
   -- once they are passed, 6, 7 and 20 decide
@@ -93,7 +121,7 @@ module _ (b : BuildLent) where
   late f = require-next 1 0 (buildFits b) _ (f .fits) ∙ tables-next t (b .bounds) (f .sound) (f .bounds) _
 
   -- ── refusal 6 ──
-  circular-six : Five → Circular b → buildVerdict b ≡ refused 6 least
+  circular-six : Five → Circular t → buildVerdict b ≡ refused 6 least
   circular-six f (v, c) = late f ∙ check-stops 6 (t .n) (permitted t) _ least refl (go (ltb least (t .n)) refl)
     where
       go : (x : Bool) → ltb least (t .n) ≡ x → least < t .n
@@ -131,16 +159,18 @@ module _ (b : BuildLent) where
           let is-six : c ≡ 6 = sym (ap (λ (x : BuildLeft). numberOf (x .answer)) q) ∙ h in
           subst Six (sym (ap (λ (x : BuildLeft). placeOf (x .answer)) q)) (six p (e ∙ ap (λ z. refused z p) is-six))
 
-  least-barred : Five → least < t .n → LeastBarred t least
+  least-barred : Five → least < t .n → LeastOf (t .n) (Barred t) least
   least-barred f low = record {
     low = low;
     here = barred-of t (f .sound) least (firstFail-fails (permitted t) (t .n) low);
     before = λ v l. permitted-clear t (f .sound) v (firstFail-before (permitted t) (t .n) v l);
   }
 
-  pub circular-exactly : CircularExactly b
-  circular-exactly = record {
-    given = λ e c. ap (λ (x : BuildLeft). numberOf (x .answer)) (build-judged b .is (refused 6 least) (circular-six (five e) c));
-    only = λ h. let k = answer-six h in (five-passed (k .five), (least, least-barred (k .five) (k .low) .here));
-    place = λ h. let k = answer-six h in subst (LeastBarred t) (k .place) (least-barred (k .five) (k .low));
-  }
+  pub circular-given : FivePassed → Circular t → numberOf (build b .answer) ≡ 6
+  circular-given e c = ap (λ (x : BuildLeft). numberOf (x .answer)) (build-judged b .is (refused 6 least) (circular-six (five e) c))
+
+  pub circular-only : numberOf (build b .answer) ≡ 6 → FivePassed × Circular t
+  circular-only h = let k = answer-six h in (five-passed (k .five), (least, least-barred (k .five) (k .low) .here))
+
+  pub circular-place : numberOf (build b .answer) ≡ 6 → LeastOf (t .n) (Barred t) (placeOf (build b .answer))
+  circular-place h = let k = answer-six h in subst (LeastOf (t .n) (Barred t)) (k .place) (least-barred (k .five) (k .low))

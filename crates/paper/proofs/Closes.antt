@@ -13,9 +13,10 @@ use borrow.Author.Tests.{eqb-true, eq-eqb, ltb-true, ltb-false, not-false}
 use Rattle.integers.specs.Integers.{eqZ}
 use Rattle.integers.proofs.Order.{eqZ-yes}
 use Rattle.paper.specs.Lists.{every, nat, allBelow}
-use Rattle.paper.specs.Net.{Values, able, number}
-use Rattle.paper.specs.Tables.{Tables, net, isMade, inputsOf, ends, order}
-use Rattle.paper.specs.Checks.{numbered, Sound}
+use Rattle.paper.specs.Net.{Values, able}
+use Rattle.paper.specs.Tables.{Tables, net, isMade, inputsOf, ends}
+use Rattle.paper.specs.Checks.{Sound}
+use Rattle.paper.specs.Straight.{number, order, numbered}
 use Rattle.paper.specs.Chains.{permitted, groupNumber, groupOrder, worth, determined, closes, groupsNumbered, storedFresh}
 use Rattle.paper.proofs.Lists.{each, all-yes, and-left, and-right}
 use Rattle.paper.proofs.Least.{allBelow-at, below-all}
@@ -99,19 +100,6 @@ module _ (t : Tables) (s : Sound t) where
     determined = open-determined t (inputs-below t s) h;
     fresh = λ old v. ap (λ b. not b || (determined t old v && eqZ (old v) (worth t old v))) e;
   }
-
-  -- check 8 is what it was
-  pub numbered-same : (nums ord : List ℕ) → closes t ≡ false → numbered t nums ord ≡ groupsNumbered t nums ord
-  numbered-same nums ord e = let o = opened e in
-      ap (λ b. every (b ∷ numbersBy (number (net t) (t .n)) ∷ orderBy (order t) ∷ [])) (not-false (allBelow (ends t) (t .n)) e ∙ sym (below-all (permitted t) (t .n) (λ v l. o .permitted v)))
-      ∙ ap (λ f. every (allBelow (permitted t) (t .n) ∷ numbersBy f ∷ orderBy (order t) ∷ [])) (fun-ext (λ v. sym (o .number-is v)))
-      ∙ ap (λ l. every (allBelow (permitted t) (t .n) ∷ numbersBy (groupNumber t) ∷ orderBy l ∷ [])) (sym (o .order-is))
-    where
-      numbersBy : (ℕ → ℕ) → Bool
-      numbersBy f = allBelow (λ v. eqb (nat nums v) (f v)) (t .n)
-
-      orderBy : List ℕ → Bool
-      orderBy l = allBelow (λ i. eqb (nat ord i) (nat l i)) (t .m)
 
   -- ── stored values where a chain closes ──
   module _ (old : Values) (e : closes t ≡ true) (passed : (v : ℕ) → v < t .n → storedFresh t old v ≡ true) where

@@ -6,23 +6,24 @@ use mathlib.Core.Bool.{Bool, true, _&&_}
 use mathlib.Core.List.{List, [], _∷_, _++_, append-assoc}
 use mathlib.Core.Path.{_≡_, refl, ap, ap₂, sym, subst, _∙_}
 use lib.Dec.{eqb, leb}
+use lib.IntN.{ℤ}
 use lib.ListN.{length, take, drop, length-append, length-drop, List·getD-append}
 use lib.Seq.{sets, take-at, drop-at, length-take-le, getD-append-add, getD-take, getD-drop}
 use mir.Syntax.{w16, w32}
 use mir.Val.{ofZ, toZ}
 use borrow.Author.Tests.{le-leb, lt-leb, eqb-true, eq-eqb}
 use Rattle.paper.specs.Lists.{nat, joined, firstFail, over}
+use Rattle.paper.specs.Tables.{Tables}
 use Rattle.paper.specs.Checks.{Verdict, accepted, refused, check, require, leaves, lowest, highest}
-use Rattle.paper.specs.File.{field, Version, version1, version2, headOf, bounded, boundsFrom, endsAs, Contents, contents, countedAs, headBytesAs, heldAs, nIn, mIn, eIn, headerAs, column, startsFrom, tablesFrom, laidAs, readAs, fullBytes, fullIn, converted, newEnd, convertVerdict, convert}
-use Rattle.paper.specs.Demands.{SameModel, ThereAndBack, UpAndBack, BackAndUp}
+use Rattle.paper.specs.File.{field, Version, headOf, bounded, boundsFrom, endsAt, Contents, contents, counted, headBytes, held, nIn, mIn, eIn, header, column, startsFrom, tablesFrom, laid, read, fullBytes, fullIn, converted, endIn, convertVerdict, convert}
 use Rattle.paper.proofs.Lists.{and-left, and-right}
 use Rattle.paper.proofs.Least.{firstFail-none}
 use Rattle.paper.proofs.Verdicts.{andThen, then-first, then-second, Past, check-stops, check-passes, check-held, require-next, require-stops}
 use Rattle.paper.proofs.Buffers.{over-same}
 use Rattle.paper.proofs.Bytes.{length-joined, go-on, sets-front}
-use Rattle.paper.proofs.Written.{head-length, ends-is}
+use Rattle.paper.proofs.Written.{head-length}
 use Rattle.paper.proofs.Fields.{Stands, stands-self, stands-end, stands-join, stands-split, stands-part, Field, Holds, stands-table, table-stands}
-use Rattle.paper.proofs.Reading.{headed, same-rows, same-contents, read-done}
+use Rattle.paper.proofs.Reading.{headed, same-contents, read-done}
 use Rattle.paper.proofs.Heads.{Within, headFields, head-shows, head-stands, head-accepted, accepted-holds, accepted-within}
 use Rattle.paper.proofs.RoundTrips.{as-was}
 
@@ -46,77 +47,77 @@ module _ (from to : Version) (bytes : List ℕ) where
   abbrev pub fullPart : Version → List ℕ
   fullPart v = joined fullBytes (bounded v n)
 
-  module _ (good : headerAs bytes from ≡ accepted) where
+  module _ (good : header from bytes ≡ accepted) where
     pub middle-length : length middle ≡ boundsFrom 0 n m e
     middle-length =
-        let whole = headed from bytes good .whole in let end = ends-is from n m e in let left = length-drop (headOf from) bytes in
+        let whole = headed from bytes good .whole in let left = length-drop (headOf from) bytes in
         length-take-le (boundsFrom 0 n m e) (drop (headOf from) bytes) (omega arith)
 
     abbrev toBounds : Version → List ℕ
-    toBounds v = headBytesAs v n m e ++ middle
+    toBounds v = headBytes v n m e ++ middle
 
-    middle-place : (v : Version) → headOf v ≡ 0 + length (headBytesAs v n m e)
+    middle-place : (v : Version) → headOf v ≡ 0 + length (headBytes v n m e)
     middle-place v = let own = head-length v n m e in omega arith
 
     bounds-place : (v : Version) → boundsFrom (headOf v) n m e ≡ 0 + length (toBounds v)
-    bounds-place v = let before = middle-place v in let own = middle-length in omega (arith, length-append (headBytesAs v n m e) middle)
+    bounds-place v = let before = middle-place v in let own = middle-length in omega (arith, length-append (headBytes v n m e) middle)
 
-    parts-length : (v : Version) → length (toBounds v ++ fullPart v) ≡ endsAs v n m e
+    parts-length : (v : Version) → length (toBounds v ++ fullPart v) ≡ endsAt v n m e
     parts-length v =
-        let before = bounds-place v in let own = length-joined fullBytes 8 (λ i. refl) (bounded v n) in let end = ends-is v n m e in
+        let before = bounds-place v in let own = length-joined fullBytes 8 (λ i. refl) (bounded v n) in
         omega (arith, length-append (toBounds v) (fullPart v))
 
-    pub converted-length : length (converted from to bytes) ≡ newEnd from to bytes
+    pub converted-length : length (converted from to bytes) ≡ endIn to bytes
     unfolding converted
     converted-length = parts-length to
 
   -- ── the call ──
   module _ (file : List ℕ) where
     abbrev left : Verdict → ℕ × List ℕ
-    left w = leaves w (newEnd from to bytes, converted from to bytes ++ drop (newEnd from to bytes) file) (0, file)
+    left w = leaves w (endIn to bytes, converted from to bytes ++ drop (endIn to bytes) file) (0, file)
 
     abbrev room : Verdict
-    room = require 1 0 (leb (newEnd from to bytes) (length file)) accepted
+    room = require 1 0 (leb (endIn to bytes) (length file)) accepted
 
     abbrev behind : Verdict
-    behind = check 18 (bounded from n) (fullIn from to bytes) room
+    behind = check 18 (bounded from n) (fullIn from bytes) room
 
     told : {w : Verdict} → convertVerdict from to bytes file ≡ w → _≡_ {A = Verdict × (ℕ × List ℕ)} (w, left w) (convert from to bytes file)
     told h = ap (λ w. (w, left w)) (sym h)
 
-    pub convert-headless : (number place : ℕ) → headerAs bytes from ≡ refused number place
+    pub convert-headless : (number place : ℕ) → header from bytes ≡ refused number place
         → _≡_ {A = Verdict × (ℕ × List ℕ)} (refused number place, (0, file)) (convert from to bytes file)
     unfolding convertVerdict
     convert-headless number place h = told (ap (λ w. andThen w behind) h)
 
-    module _ (good : headerAs bytes from ≡ accepted) where
+    module _ (good : header from bytes ≡ accepted) where
       after : {w : Verdict} → behind ≡ w → convertVerdict from to bytes file ≡ w
       unfolding convertVerdict
       after h = ap (λ w. andThen w behind) good ∙ h
 
-      pub convert-lost : (k : ℕ) → k ≡ firstFail (fullIn from to bytes) (bounded from n) → k < bounded from n
+      pub convert-lost : (k : ℕ) → k ≡ firstFail (fullIn from bytes) (bounded from n) → k < bounded from n
           → _≡_ {A = Verdict × (ℕ × List ℕ)} (refused 18 k, (0, file)) (convert from to bytes file)
-      convert-lost k f l = told (after (check-stops 18 (bounded from n) (fullIn from to bytes) room k f l))
+      convert-lost k f l = told (after (check-stops 18 (bounded from n) (fullIn from bytes) room k f l))
 
-      module _ (k : ℕ) (past : Past (fullIn from to bytes) (bounded from n) k) where
+      module _ (k : ℕ) (past : Past (fullIn from bytes) (bounded from n) k) where
         full-then : behind ≡ room
-        full-then = check-passes 18 (bounded from n) (fullIn from to bytes) room k past
+        full-then = check-passes 18 (bounded from n) (fullIn from bytes) room k past
 
-        pub convert-narrow : length file < newEnd from to bytes → _≡_ {A = Verdict × (ℕ × List ℕ)} (refused 1 0, (0, file)) (convert from to bytes file)
-        convert-narrow l = told (after (full-then ∙ require-stops 1 0 (leb (newEnd from to bytes) (length file)) accepted (lt-leb (newEnd from to bytes) (length file) l)))
+        pub convert-narrow : length file < endIn to bytes → _≡_ {A = Verdict × (ℕ × List ℕ)} (refused 1 0, (0, file)) (convert from to bytes file)
+        convert-narrow l = told (after (full-then ∙ require-stops 1 0 (leb (endIn to bytes) (length file)) accepted (lt-leb (endIn to bytes) (length file) l)))
 
-        pub convert-whole : newEnd from to bytes ≤ length file → _≡_ {A = Verdict × (ℕ × List ℕ)} (accepted, left accepted) (convert from to bytes file)
-        convert-whole l = told (after (full-then ∙ require-next 1 0 (leb (newEnd from to bytes) (length file)) accepted (le-leb (newEnd from to bytes) (length file) l)))
+        pub convert-whole : endIn to bytes ≤ length file → _≡_ {A = Verdict × (ℕ × List ℕ)} (accepted, left accepted) (convert from to bytes file)
+        convert-whole l = told (after (full-then ∙ require-next 1 0 (leb (endIn to bytes) (length file)) accepted (le-leb (endIn to bytes) (length file) l)))
 
         -- three calls, each of which stores a part
-        pub convert-done : {a b d : List ℕ} → newEnd from to bytes ≤ length file
-            → a ≡ sets file 0 (headBytesAs to n m e) → b ≡ sets a (headOf to) middle → d ≡ sets b (boundsFrom (headOf to) n m e) (fullPart to)
-            → _≡_ {A = Verdict × (ℕ × List ℕ)} (accepted, (newEnd from to bytes, d)) (convert from to bytes file)
+        pub convert-done : {a b d : List ℕ} → endIn to bytes ≤ length file
+            → a ≡ sets file 0 (headBytes to n m e) → b ≡ sets a (headOf to) middle → d ≡ sets b (boundsFrom (headOf to) n m e) (fullPart to)
+            → _≡_ {A = Verdict × (ℕ × List ℕ)} (accepted, (endIn to bytes, d)) (convert from to bytes file)
         unfolding converted
         convert-done l p q r =
-            let middle-in = go-on file 0 (headBytesAs to n m e) middle (headOf to) p (middle-place good to) q in
+            let middle-in = go-on file 0 (headBytes to n m e) middle (headOf to) p (middle-place good to) q in
             let all-in = go-on file 0 (toBounds good to) (fullPart to) (boundsFrom (headOf to) n m e) middle-in (bounds-place good to) r in
-            ap (λ z. (accepted, (newEnd from to bytes, z))) (all-in ∙ sets-front (converted from to bytes) file (newEnd from to bytes) (converted-length good) l) ∙ convert-whole l
+            ap (λ z. (accepted, (endIn to bytes, z))) (all-in ∙ sets-front (converted from to bytes) file (endIn to bytes) (converted-length good) l) ∙ convert-whole l
 
 -- ── full bounds, from a place on ──
 abbrev fullAt : List ℕ → ℕ → ℕ → Bool
@@ -128,28 +129,28 @@ fullFields at i = (at + 8 * i, 4, ofZ w32 lowest) ∷ (at + 4 + 8 * i, 4, ofZ w3
 -- ── an accepted call ──
 module _ (from to : Version) (bytes file : List ℕ) (ok : convert from to bytes file .0 ≡ accepted) where
   abbrev next : Verdict
-  next = require 1 0 (leb (newEnd from to bytes) (length file)) accepted
+  next = require 1 0 (leb (endIn to bytes) (length file)) accepted
 
-  good : headerAs bytes from ≡ accepted
+  good : header from bytes ≡ accepted
   unfolding convertVerdict
-  good = then-first (headerAs bytes from) (check 18 (bounded from (nIn bytes)) (fullIn from to bytes) next) ok
+  good = then-first (header from bytes) (check 18 (bounded from (nIn bytes)) (fullIn from bytes) next) ok
 
-  full : (i : ℕ) → i < bounded from (nIn bytes) → fullIn from to bytes i ≡ true
+  full : (i : ℕ) → i < bounded from (nIn bytes) → fullIn from bytes i ≡ true
   unfolding convertVerdict
-  full = check-held 18 (bounded from (nIn bytes)) (fullIn from to bytes) next (then-second (headerAs bytes from) (check 18 (bounded from (nIn bytes)) (fullIn from to bytes) next) ok)
+  full = check-held 18 (bounded from (nIn bytes)) (fullIn from bytes) next (then-second (header from bytes) (check 18 (bounded from (nIn bytes)) (fullIn from bytes) next) ok)
 
   abbrev new : List ℕ
   new = converted from to bytes
 
   new-front : take (convert from to bytes file .1 .0) (convert from to bytes file .1 .1) ≡ new
-  new-front = rw ok (take-at new (drop (newEnd from to bytes) file) (newEnd from to bytes) (converted-length from to bytes good))
+  new-front = rw ok (take-at new (drop (endIn to bytes) file) (endIn to bytes) (converted-length from to bytes good))
 
   -- its header and its bounds stand where they should
-  new-parts : Stands new 0 (headBytesAs to (nIn bytes) (mIn bytes) (eIn bytes)) × Stands new (boundsFrom (headOf to) (nIn bytes) (mIn bytes) (eIn bytes)) (fullPart from to bytes to)
+  new-parts : Stands new 0 (headBytes to (nIn bytes) (mIn bytes) (eIn bytes)) × Stands new (boundsFrom (headOf to) (nIn bytes) (mIn bytes) (eIn bytes)) (fullPart from to bytes to)
   unfolding converted
   new-parts =
       let (front, bounds) = stands-split new 0 (boundsFrom (headOf to) (nIn bytes) (mIn bytes) (eIn bytes)) (toBounds from to bytes good to) (fullPart from to bytes to) (bounds-place from to bytes good to) (stands-self new) in
-      (stands-split new 0 (headOf to) (headBytesAs to (nIn bytes) (mIn bytes) (eIn bytes)) (middle from to bytes) (middle-place from to bytes good to) front .0, bounds)
+      (stands-split new 0 (headOf to) (headBytes to (nIn bytes) (mIn bytes) (eIn bytes)) (middle from to bytes) (middle-place from to bytes good to) front .0, bounds)
 
   within : Within (nIn bytes) (mIn bytes) (eIn bytes)
   within = accepted-within bytes from good
@@ -157,7 +158,7 @@ module _ (from to : Version) (bytes file : List ℕ) (ok : convert from to bytes
   new-head : Holds new (headFields to (nIn bytes) (mIn bytes) (eIn bytes))
   new-head = head-shows new (nIn bytes) (mIn bytes) (eIn bytes) to within (new-parts .0)
 
-  new-good : headerAs new to ≡ accepted
+  new-good : header to new ≡ accepted
   new-good = head-accepted new (nIn bytes) (mIn bytes) (eIn bytes) to within (converted-length from to bytes good) new-head
 
   -- its counts are the old file's
@@ -170,7 +171,7 @@ module _ (from to : Version) (bytes file : List ℕ) (ok : convert from to bytes
       let at = boundsFrom (headOf to) (nIn bytes) (mIn bytes) (eIn bytes) in
       stands-table new 8 at (fullFields at) (λ j. refl) (λ j. omega arith) (bounded to (nIn bytes)) (λ j k. omega arith) (new-parts .1)
 
-  new-full : (i : ℕ) → i < bounded to (nIn new) → fullIn to from new i ≡ true
+  new-full : (i : ℕ) → i < bounded to (nIn new) → fullIn to new i ≡ true
   new-full i l =
       let h = new-bounds i (subst (λ k. i < k) (counts-in (λ n m e. bounded to n)) l) in
       counts-in (λ n m e. fullAt new (boundsFrom (headOf to) n m e) i) ∙ ap₂ _&&_ (eq-eqb _ _ (h .0)) (eq-eqb _ _ (h .1 .0))
@@ -179,7 +180,7 @@ module _ (from to : Version) (bytes file : List ℕ) (ok : convert from to bytes
   same-middle : middle to from new ≡ middle from to bytes
   unfolding converted
   same-middle =
-      let head = headBytesAs to (nIn bytes) (mIn bytes) (eIn bytes) in
+      let head = headBytes to (nIn bytes) (mIn bytes) (eIn bytes) in
       counts-in (λ n m e. take (boundsFrom 0 n m e) (drop (headOf to) new))
       ∙ ap (λ z. take (boundsFrom 0 (nIn bytes) (mIn bytes) (eIn bytes)) (drop (headOf to) z)) (append-assoc head (middle from to bytes) (fullPart from to bytes to))
       ∙ ap (take (boundsFrom 0 (nIn bytes) (mIn bytes) (eIn bytes))) (drop-at head (middle from to bytes ++ fullPart from to bytes to) (headOf to) (head-length to (nIn bytes) (mIn bytes) (eIn bytes)))
@@ -189,7 +190,7 @@ module _ (from to : Version) (bytes file : List ℕ) (ok : convert from to bytes
   byte-same : (k : ℕ) → k < boundsFrom 0 (nIn bytes) (mIn bytes) (eIn bytes) → nat new (headOf to + k) ≡ nat bytes (headOf from + k)
   unfolding converted
   byte-same k l =
-      let head = headBytesAs to (nIn bytes) (mIn bytes) (eIn bytes) in let own = middle-length from to bytes good in
+      let head = headBytes to (nIn bytes) (mIn bytes) (eIn bytes) in let own = middle-length from to bytes good in
       ap (λ z. nat z (headOf to + k)) (append-assoc head (middle from to bytes) (fullPart from to bytes to))
       ∙ ap (λ h. nat (head ++ (middle from to bytes ++ fullPart from to bytes to)) (h + k)) (sym (head-length to (nIn bytes) (mIn bytes) (eIn bytes)))
       ∙ getD-append-add head (middle from to bytes ++ fullPart from to bytes to) k 0
@@ -208,11 +209,10 @@ module _ (from to : Version) (bytes file : List ℕ) (ok : convert from to bytes
         contents (tablesFrom bytes (headOf from) (nIn bytes) (mIn bytes) (eIn bytes) (c .tables)) (startsFrom bytes (headOf from) (nIn bytes) (mIn bytes) (eIn bytes) (c .starts))
         (over k (λ v. lowest) (c .lows)) (over k (λ v. highest) (c .highs))
 
-    laid-same : laidAs new (nIn bytes) (mIn bytes) (eIn bytes) to c ≡ filled
+    laid-same : laid to new (nIn bytes) (mIn bytes) (eIn bytes) c ≡ filled
     laid-same =
         let n = nIn bytes in let m = mIn bytes in let e = eIn bytes in let t = c .tables in
         same-contents
-        (same-rows
         (over-same _ n (c .starts) _ (λ i l. ap (toZ w32) (field-same 4 (4 * i) _ _ (omega arith) (omega arith) (omega arith))))
         (over-same _ m (t .kinds) _ (λ r l. field-same 2 (4 * n + 12 * r) _ _ (omega arith) (omega arith) (omega arith)))
         (over-same _ m (t .makes) _ (λ r l. field-same 2 (4 * n + 2 + 12 * r) _ _ (omega arith) (omega arith) (omega arith)))
@@ -220,20 +220,26 @@ module _ (from to : Version) (bytes file : List ℕ) (ok : convert from to bytes
         (over-same _ m (t .firsts) _ (λ r l. field-same 2 (4 * n + 8 + 12 * r) _ _ (omega arith) (omega arith) (omega arith)))
         (over-same _ m (t .counts) _ (λ r l. field-same 2 (4 * n + 10 + 12 * r) _ _ (omega arith) (omega arith) (omega arith)))
         (over-same _ e (t .vars) _ (λ i l. field-same 2 (4 * n + 12 * m + 4 * i) _ _ (omega arith) (omega arith) (omega arith)))
-        (over-same _ e (t .coefs) _ (λ i l. ap (toZ w16) (field-same 2 (4 * n + 12 * m + 2 + 4 * i) _ _ (omega arith) (omega arith) (omega arith)))))
+        (over-same _ e (t .coefs) _ (λ i l. ap (toZ w16) (field-same 2 (4 * n + 12 * m + 2 + 4 * i) _ _ (omega arith) (omega arith) (omega arith))))
         (over-same _ (bounded to n) (c .lows) (λ v. lowest) (λ i l. ap (toZ w32) (new-bounds i l .0)))
         (over-same _ (bounded to n) (c .highs) (λ v. highest) (λ i l. ap (toZ w32) (new-bounds i l .1 .0)))
 
-    pub same-read : heldAs to (countedAs (nIn bytes) (mIn bytes) (eIn bytes) c) ≡ true → readAs to new c ≡ (accepted, filled)
+    pub same-read : held to (counted (nIn bytes) (mIn bytes) (eIn bytes) c) ≡ true → read to new c ≡ (accepted, filled)
     same-read h =
-        sym (read-done to new c new-good (counts-in (λ n m e. heldAs to (countedAs n m e c)) ∙ h) (sym (counts-in (λ n m e. laidAs new n m e to c) ∙ laid-same)))
+        sym (read-done to new c new-good (counts-in (λ n m e. held to (counted n m e c)) ∙ h) (sym (counts-in (λ n m e. laid to new n m e c) ∙ laid-same)))
 
-pub same-model : (from to : Version) → SameModel from to
-same-model from to bytes file ok c was room = rw (was, new-front from to bytes file ok) (same-read from to bytes file ok c room)
+-- it is read there to the same tables and start values, into any rows that hold it, and with full bounds; each reader is lent bounds of its own
+pub same-model : (from to : Version) (bytes file : List ℕ) → convert from to bytes file .0 ≡ accepted
+    → (t : Tables) (starts lows₀ highs₀ lows highs : List ℤ) → let left = read from bytes (contents t starts lows₀ highs₀) in left .0 ≡ accepted
+    → held to (counted (nIn bytes) (mIn bytes) (eIn bytes) (contents t starts lows highs)) ≡ true
+    → let (end, moved) = convert from to bytes file .1 in let there = left .1 in let k = bounded to (nIn bytes) in
+    read to (take end moved) (contents t starts lows highs) ≡ (accepted, contents (there .tables) (there .starts) (over k (λ v. lowest) lows) (over k (λ v. highest) highs))
+same-model from to bytes file ok t starts lows₀ highs₀ lows highs was room =
+    rw (was, new-front from to bytes file ok) (same-read from to bytes file ok (contents t starts lows highs) room)
 
 -- ── there and back ──
 module _ (from to : Version) (bytes : List ℕ) (small : (i : ℕ) → nat bytes i < 256) (file : List ℕ) (ok : convert from to bytes file .0 ≡ accepted) where
-  abbrev right : headerAs bytes from ≡ accepted
+  abbrev right : header from bytes ≡ accepted
   right = good from to bytes file ok
 
   old-full : Stands bytes (boundsFrom (headOf from) (nIn bytes) (mIn bytes) (eIn bytes)) (fullPart from to bytes from)
@@ -250,7 +256,7 @@ module _ (from to : Version) (bytes : List ℕ) (small : (i : ℕ) → nat bytes
       let at = boundsFrom (headOf from) (nIn bytes) (mIn bytes) (eIn bytes) in
       stands-end bytes 0 (toBounds from to bytes right from ++ fullPart from to bytes from) (omega arith)
       (stands-join bytes 0 at (toBounds from to bytes right from) (fullPart from to bytes from) (bounds-place from to bytes right from)
-      (stands-join bytes 0 (headOf from) (headBytesAs from (nIn bytes) (mIn bytes) (eIn bytes)) (middle from to bytes) (middle-place from to bytes right from)
+      (stands-join bytes 0 (headOf from) (headBytes from (nIn bytes) (mIn bytes) (eIn bytes)) (middle from to bytes) (middle-place from to bytes right from)
       (head-stands bytes (nIn bytes) (mIn bytes) (eIn bytes) from small (accepted-holds bytes from right))
       (stands-part bytes (headOf from) (boundsFrom 0 (nIn bytes) (mIn bytes) (eIn bytes)))) old-full)
 
@@ -260,20 +266,17 @@ module _ (from to : Version) (bytes : List ℕ) (small : (i : ℕ) → nat bytes
   back-same : converted to from moved ≡ bytes
   unfolding converted
   back-same =
-      counts-in from to bytes file ok (λ n m e. headBytesAs from n m e ++ middle to from moved ++ joined fullBytes (bounded from n))
-      ∙ ap (λ z. headBytesAs from (nIn bytes) (mIn bytes) (eIn bytes) ++ z ++ fullPart from to bytes from) (same-middle from to bytes file ok) ∙ old-parts
+      counts-in from to bytes file ok (λ n m e. headBytes from n m e ++ middle to from moved ++ joined fullBytes (bounded from n))
+      ∙ ap (λ z. headBytes from (nIn bytes) (mIn bytes) (eIn bytes) ++ z ++ fullPart from to bytes from) (same-middle from to bytes file ok) ∙ old-parts
 
   pub back-again : (buffer : List ℕ) → length bytes ≤ length buffer → convert to from moved buffer ≡ (accepted, (length bytes, bytes ++ drop (length bytes) buffer))
   back-again buffer l =
-      let whole = headed from bytes right .whole in let end = counts-in from to bytes file ok (endsAs from) ∙ sym whole in
-      sym (convert-whole to from moved buffer (new-good from to bytes file ok) (bounded to (nIn moved)) (firstFail-none (fullIn to from moved) (bounded to (nIn moved)) (new-full from to bytes file ok), omega arith) (omega arith))
+      let whole = headed from bytes right .whole in let end = counts-in from to bytes file ok (endsAt from) ∙ sym whole in
+      sym (convert-whole to from moved buffer (new-good from to bytes file ok) (bounded to (nIn moved)) (firstFail-none (fullIn to moved) (bounded to (nIn moved)) (new-full from to bytes file ok), omega arith) (omega arith))
       ∙ ap₂ (λ file k. (accepted, (k, file ++ drop k buffer))) back-same end
 
-pub there-and-back : (from to : Version) → ThereAndBack from to
+pub there-and-back : (from to : Version) (bytes : List ℕ) → ((i : ℕ) → nat bytes i < 256) → (file : List ℕ) → convert from to bytes file .0 ≡ accepted
+    → (buffer : List ℕ) → length bytes ≤ length buffer
+    → let (end, moved) = convert from to bytes file .1 in
+    convert to from (take end moved) buffer ≡ (accepted, (length bytes, bytes ++ drop (length bytes) buffer))
 there-and-back from to bytes small file ok buffer l = rw (new-front from to bytes file ok) (back-again from to bytes small file ok buffer l)
-
-pub up-and-back : UpAndBack
-up-and-back = there-and-back version1 version2
-
-pub back-and-up : BackAndUp
-back-and-up = there-and-back version2 version1

@@ -10,9 +10,10 @@ use lib.ListN.{length, take}
 use lib.Seq.{ext-getD, length-take-le, getD-take}
 use borrow.Author.Tests.{eqb-true, eq-eqb}
 use Rattle.paper.specs.Lists.{nat}
-use Rattle.paper.specs.Net.{able, number}
-use Rattle.paper.specs.Tables.{Tables, net, inputsOf, ends, order}
-use Rattle.paper.specs.Checks.{numbered, Sound}
+use Rattle.paper.specs.Net.{able}
+use Rattle.paper.specs.Tables.{Tables, net, inputsOf, ends}
+use Rattle.paper.specs.Checks.{Sound}
+use Rattle.paper.specs.Straight.{number, order, numbered}
 use Rattle.paper.proofs.Lists.{each, all-yes}
 use Rattle.paper.proofs.Least.{allBelow-at, below-all}
 use Rattle.paper.proofs.Sizes.{sized-facts}

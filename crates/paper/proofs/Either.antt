@@ -17,7 +17,7 @@ use Rattle.paper.specs.Chains.{determined}
 use Rattle.paper.specs.Checks.{Bounds, Move, movePairs}
 use Rattle.paper.specs.Log.{Log}
 use Rattle.paper.specs.Moves.{Apart, AllPairs}
-use Rattle.paper.specs.Calls.{Session, Model, storedValues, Kept, keptStored}
+use Rattle.paper.specs.Calls.{Session, Model, storedValues, KeepLent, keptStored}
 use Rattle.paper.proofs.Sizes.{sized-facts}
 use Rattle.paper.proofs.Fresh.{Alike, moved-alike, unnamed}
 use Rattle.paper.proofs.Needs.{determined-alike}
@@ -29,7 +29,7 @@ values-beyond : (t : Tables) (row : List ℤ) (v : ℕ) → t .n ≤ v → value
 values-beyond t row v l = List·getD-eq-default (take (t .n) row) (pos 0) (simp length-take (omega arith))
 
 -- ── the values that an accepted keep leaves ──
-module _ (s : Session) (l : Log) (w : Model) (c : Kept) (has : KeepKnown s l w c) where
+module _ (s : Session) (l : Log) (w : Model) (c : KeepLent) (has : KeepKnown s l w c) where
   abbrev t : Tables
   t = w .tables
 

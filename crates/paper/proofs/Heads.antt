@@ -2,16 +2,16 @@
 -- accepted exactly if the fields hold what the counts say and the file is as long. Assumes nothing.
 use Prim.Native.Nat.{ℕ, _≤_, _<_}
 use native.Mathlib.Omega.{arith}
-use mathlib.Core.Bool.{true, false}
+use mathlib.Core.Bool.{true}
 use mathlib.Core.List.{List, [], _∷_}
 use mathlib.Core.Path.{_≡_, refl}
 use lib.ListN.{length}
 use borrow.Author.Tests.{eqb-true, eq-eqb}
 use Rattle.paper.specs.Lists.{nat}
 use Rattle.paper.specs.Checks.{accepted}
-use Rattle.paper.specs.File.{field, Version, versionNumber, headOf, rowsFrom, entriesFrom, boundsFrom, endsAs, headBytesAs, nIn, mIn, eIn, boundsTold, headerAs}
+use Rattle.paper.specs.File.{field, Version, version1, version2, versionNumber, headOf, rowsFrom, entriesFrom, boundsFrom, endsAt, headBytes, nIn, mIn, eIn, boundsTold, header}
 use Rattle.paper.proofs.Fields.{Stands, Field, Follow, Holds, stands-holds, holds-stands}
-use Rattle.paper.proofs.Reading.{Headed, headed, header-of}
+use Rattle.paper.proofs.Reading.{headed, header-of}
 
 -- counts within their bounds
 pub record Within (n m e : ℕ) : Type 0 where
@@ -22,33 +22,33 @@ pub record Within (n m e : ℕ) : Type 0 where
 
 -- the field that version 2 has behind the total
 abbrev pub lastField : Version → ℕ → ℕ → ℕ → List Field
-lastField false n m e = []
-lastField true n m e = (24, 4, boundsFrom 28 n m e) ∷ []
+lastField version1 n m e = []
+lastField version2 n m e = (24, 4, boundsFrom 28 n m e) ∷ []
 
 abbrev pub headFields : Version → ℕ → ℕ → ℕ → List Field
 headFields v n m e =
     (0, 2, versionNumber v) ∷ (2, 2, n) ∷ (4, 2, m) ∷ (6, 2, e)
-    ∷ (8, 4, headOf v) ∷ (12, 4, rowsFrom (headOf v) n) ∷ (16, 4, entriesFrom (headOf v) n m) ∷ (20, 4, endsAs v n m e) ∷ lastField v n m e
+    ∷ (8, 4, headOf v) ∷ (12, 4, rowsFrom (headOf v) n) ∷ (16, 4, entriesFrom (headOf v) n m) ∷ (20, 4, endsAt v n m e) ∷ lastField v n m e
 
 -- the fields follow one another from the front
 heads-follow : (v : Version) (n m e : ℕ) → Follow 0 (headFields v n m e)
-heads-follow false n m e = (refl, (refl, (refl, (refl, (refl, (refl, (refl, (refl, tt))))))))
-heads-follow true n m e = (refl, (refl, (refl, (refl, (refl, (refl, (refl, (refl, (refl, tt)))))))))
+heads-follow version1 n m e = (refl, (refl, (refl, (refl, (refl, (refl, (refl, (refl, tt))))))))
+heads-follow version2 n m e = (refl, (refl, (refl, (refl, (refl, (refl, (refl, (refl, (refl, tt)))))))))
 
 module _ (b : List ℕ) (n m e : ℕ) where
-  pub head-shows : (v : Version) → Within n m e → Stands b 0 (headBytesAs v n m e) → Holds b (headFields v n m e)
-  head-shows false s h = stands-holds b 0 (headFields false n m e) (heads-follow false n m e) (omega arith) h
-  head-shows true s h = stands-holds b 0 (headFields true n m e) (heads-follow true n m e) (omega arith) h
+  pub head-shows : (v : Version) → Within n m e → Stands b 0 (headBytes v n m e) → Holds b (headFields v n m e)
+  head-shows version1 s h = stands-holds b 0 (headFields version1 n m e) (heads-follow version1 n m e) (omega arith) h
+  head-shows version2 s h = stands-holds b 0 (headFields version2 n m e) (heads-follow version2 n m e) (omega arith) h
 
-  pub head-stands : (v : Version) → ((i : ℕ) → nat b i < 256) → Holds b (headFields v n m e) → Stands b 0 (headBytesAs v n m e)
-  head-stands false small h = holds-stands b small 0 (headFields false n m e) (heads-follow false n m e) h
-  head-stands true small h = holds-stands b small 0 (headFields true n m e) (heads-follow true n m e) h
+  pub head-stands : (v : Version) → ((i : ℕ) → nat b i < 256) → Holds b (headFields v n m e) → Stands b 0 (headBytes v n m e)
+  head-stands version1 small h = holds-stands b small 0 (headFields version1 n m e) (heads-follow version1 n m e) h
+  head-stands version2 small h = holds-stands b small 0 (headFields version2 n m e) (heads-follow version2 n m e) h
 
   -- a file that holds them is accepted if it is as long as they say
-  module _ (v : Version) (s : Within n m e) (whole : length b ≡ endsAs v n m e) (long : headOf v ≤ length b) where
-    held : field 2 0 b ≡ versionNumber v → nIn b ≡ n → mIn b ≡ m → eIn b ≡ e → field 4 8 b ≡ headOf v → field 4 12 b ≡ rowsFrom (headOf v) n
-        → field 4 16 b ≡ entriesFrom (headOf v) n m → field 4 20 b ≡ endsAs v n m e → boundsTold b v ≡ true → headerAs b v ≡ accepted
-    held version is-n is-m is-e starts rows entries end bounds = header-of v b (record {
+  module _ (v : Version) (s : Within n m e) (whole : length b ≡ endsAt v n m e) (long : headOf v ≤ length b) where
+    passes : field 2 0 b ≡ versionNumber v → nIn b ≡ n → mIn b ≡ m → eIn b ≡ e → field 4 8 b ≡ headOf v → field 4 12 b ≡ rowsFrom (headOf v) n
+        → field 4 16 b ≡ entriesFrom (headOf v) n m → field 4 20 b ≡ endsAt v n m e → boundsTold v b ≡ true → header v b ≡ accepted
+    passes version is-n is-m is-e starts rows entries end bounds = header-of v b (record {
       long = long;
       version = version;
       n-some = rw is-n (s .n-some);
@@ -63,20 +63,20 @@ module _ (b : List ℕ) (n m e : ℕ) where
       bounds = bounds;
     })
 
-  pub head-accepted : (v : Version) → Within n m e → length b ≡ endsAs v n m e → Holds b (headFields v n m e) → headerAs b v ≡ accepted
-  head-accepted false s whole (version, (is-n, (is-m, (is-e, (starts, (rows, (entries, (end, rest)))))))) =
-      held false s whole (omega arith) version is-n is-m is-e starts rows entries end refl
-  head-accepted true s whole (version, (is-n, (is-m, (is-e, (starts, (rows, (entries, (end, (last, rest))))))))) =
-      held true s whole (omega arith) version is-n is-m is-e starts rows entries end
+  pub head-accepted : (v : Version) → Within n m e → length b ≡ endsAt v n m e → Holds b (headFields v n m e) → header v b ≡ accepted
+  head-accepted version1 s whole (version, (is-n, (is-m, (is-e, (starts, (rows, (entries, (end, rest)))))))) =
+      passes version1 s whole (omega arith) version is-n is-m is-e starts rows entries end refl
+  head-accepted version2 s whole (version, (is-n, (is-m, (is-e, (starts, (rows, (entries, (end, (last, rest))))))))) =
+      passes version2 s whole (omega arith) version is-n is-m is-e starts rows entries end
       (eq-eqb (field 4 24 b) (boundsFrom 28 (nIn b) (mIn b) (eIn b)) (rw (is-n, is-m, is-e) last))
 
 -- and an accepted header holds them
 module _ (b : List ℕ) where
-  pub accepted-holds : (v : Version) → headerAs b v ≡ accepted → Holds b (headFields v (nIn b) (mIn b) (eIn b))
-  accepted-holds false ok = let h = headed false b ok in (h .version, (refl, (refl, (refl, (h .starts, (h .rows, (h .entries, (h .end, tt))))))))
-  accepted-holds true ok =
-      let h = headed true b ok in
+  pub accepted-holds : (v : Version) → header v b ≡ accepted → Holds b (headFields v (nIn b) (mIn b) (eIn b))
+  accepted-holds version1 ok = let h = headed version1 b ok in (h .version, (refl, (refl, (refl, (h .starts, (h .rows, (h .entries, (h .end, tt))))))))
+  accepted-holds version2 ok =
+      let h = headed version2 b ok in
       (h .version, (refl, (refl, (refl, (h .starts, (h .rows, (h .entries, (h .end, (eqb-true (field 4 24 b) (boundsFrom 28 (nIn b) (mIn b) (eIn b)) (h .bounds), tt)))))))))
 
-  pub accepted-within : (v : Version) → headerAs b v ≡ accepted → Within (nIn b) (mIn b) (eIn b)
+  pub accepted-within : (v : Version) → header v b ≡ accepted → Within (nIn b) (mIn b) (eIn b)
   accepted-within v ok = let h = headed v b ok in record { n-some = h .n-some; n-most = h .n-most; m-most = h .m-most; e-most = h .e-most }

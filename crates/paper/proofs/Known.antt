@@ -16,7 +16,7 @@ use Rattle.paper.specs.Tables.{Tables, net, isMade}
 use Rattle.paper.specs.Chains.{permitted, groupNumber, groupOrder, determined, closes, groupsNumbered, storedFresh}
 use Rattle.paper.specs.Checks.{Verdict, accepted, check, sized, Bounds, startGood, storedGood, inBounds, startAllowed, storedAllowed, indexed, Move, movePairs, moveFits, movable, namedOnce, hasValue, pairWithin, moveChecks, freshChecks, Sound}
 use Rattle.paper.specs.Log.{Log, moveGood, logged, back, logFits, logGood}
-use Rattle.paper.specs.Calls.{Session, blanksAmong, BuildLent, indexFits, boundsFit, buildFits, startValues, buildVerdict, Model, modelFits, storedValues, modelChecks, Tried, trialFits, trialVerdict, Kept, keepFits, keepVerdict, latest, takeFits, takeVerdict}
+use Rattle.paper.specs.Calls.{Session, blanksAmong, BuildLent, indexFits, boundsFit, buildFits, startValues, buildVerdict, Model, modelFits, storedValues, modelChecks, TrialLent, trialFits, trialVerdict, KeepLent, keepFits, keepVerdict, latest, TakeLent, takeFits, takeVerdict}
 use Rattle.paper.proofs.Lists.{and-left, and-right, each, all-yes}
 use Rattle.paper.proofs.Least.{allBelow-at}
 use Rattle.paper.proofs.Verdicts.{check-rest, check-held, require-rest, require-held}
@@ -75,6 +75,7 @@ pub record ModelKnown (w : Model) : Type 0 where
   pub index-fits : indexFits (w .tables) (w .index) ≡ true
   pub index-is : indexed (w .tables) (w .index) ≡ true
   pub bounds-fit : boundsFit (w .tables) (w .bounds) ≡ true
+  pub reasons-long : w .tables .n ≤ length (w .reasons)
   pub bounds : BoundsGood (w .tables) (w .bounds)
   pub stored : (v : ℕ) → v < w .tables .n → storedGood (w .tables) (storedValues w) v ≡ true
   pub inside : (v : ℕ) → v < w .tables .n → inBounds (w .tables) (w .bounds) (storedValues w) v ≡ true
@@ -105,6 +106,7 @@ model-known w blanks next fits e =
         index-fits = long .1 .1 .1 .0;
         index-is = require-held 8 0 (indexed t (w .index)) _ more;
         bounds-fit = long .1 .1 .1 .1 .0;
+        reasons-long = leb-true (t .n) (length (w .reasons)) (long .1 .1 .1 .1 .1 .0);
         bounds = p .1;
         stored = λ v l. and-left _ _ (allowed v l);
         inside = λ v l. and-right (storedGood t (storedValues w) v) _ (allowed v l);
@@ -195,17 +197,18 @@ named-below t bs mv k v e =
     rw (eqb-true (nat (mv .vars) i) v r) at (k .low i l)
 
 -- ── trial ──
-pub record TrialKnown (w : Model) (c : Tried) : Type 0 where
+pub record TrialKnown (w : Model) (c : TrialLent) : Type 0 where
   pub model : ModelKnown w
   pub route : between 1 (c .route) 3 ≡ true
   pub move : MoveKnown (w .tables) (w .bounds) (c .move)
   pub few : c .asked ≤ 32
   pub asked-long : c .asked ≤ length (c .askedVars)
   pub asked : (i : ℕ) → i < c .asked → nat (c .askedVars) i < w .tables .n
+  pub why-long : c .asked ≤ length (c .why)
   pub fresh : (v : ℕ) → v < w .tables .n → storedFresh (w .tables) (storedValues w) v ≡ true
   pub determined : (v : ℕ) → determined (w .tables) (moved (movePairs (c .move)) (storedValues w)) v ≡ true
 
-pub trial-known : (s : Session) (w : Model) (c : Tried) → trialVerdict s w c ≡ accepted → TrialKnown w c
+pub trial-known : (s : Session) (w : Model) (c : TrialLent) → trialVerdict s w c ≡ accepted → TrialKnown w c
 unfolding trialVerdict
 trial-known s w c e =
     let n = w .tables .n in
@@ -221,6 +224,7 @@ trial-known s w c e =
       few = leb-true (c .asked) 32 (fits .1 .1 .0);
       asked-long = leb-true (c .asked) (length (c .askedVars)) (fits .1 .1 .1 .0);
       asked = λ i k. ltb-true (nat (c .askedVars) i) n (check-held 13 (c .asked) low _ (m .1) i k);
+      why-long = leb-true (c .asked) (length (c .why)) (fits .1 .1 .1 .1 .1 .1 .1 .0);
       fresh = f .0;
       determined = f .1;
     }
@@ -278,7 +282,7 @@ log-known l t bs kept fits good =
           (λ p. (simp length-drop (omega arith), simp length-drop (omega arith)));
     }
 
-pub record KeepKnown (s : Session) (l : Log) (w : Model) (c : Kept) : Type 0 where
+pub record KeepKnown (s : Session) (l : Log) (w : Model) (c : KeepLent) : Type 0 where
   pub model : ModelKnown w
   pub blanks : BlanksKnown (s .blanks) w
   pub move : MoveKnown (w .tables) (w .bounds) (c .move)
@@ -286,7 +290,7 @@ pub record KeepKnown (s : Session) (l : Log) (w : Model) (c : Kept) : Type 0 whe
   pub fresh : (v : ℕ) → v < w .tables .n → storedFresh (w .tables) (storedValues w) v ≡ true
   pub determined : (v : ℕ) → determined (w .tables) (moved (movePairs (c .move)) (storedValues w)) v ≡ true
 
-pub keep-known : (s : Session) (l : Log) (w : Model) (c : Kept) → keepVerdict s l w c ≡ accepted → KeepKnown s l w c
+pub keep-known : (s : Session) (l : Log) (w : Model) (c : KeepLent) → keepVerdict s l w c ≡ accepted → KeepKnown s l w c
 unfolding keepVerdict
 keep-known s l w c e =
     let fits = each _ (require-held 1 0 (keepFits l w c) _ e) in
@@ -303,21 +307,21 @@ keep-known s l w c e =
       determined = f .1;
     }
 
-pub record TakeKnown (s : Session) (l : Log) (w : Model) (flags : List ℕ) : Type 0 where
+pub record TakeKnown (s : Session) (l : Log) (w : Model) (c : TakeLent) : Type 0 where
   pub model : ModelKnown w
   pub log : LogKnown l (w .tables) (w .bounds) (s .kept)
   pub some : 0 < logged l
   pub fresh : (v : ℕ) → v < w .tables .n → storedFresh (w .tables) (storedValues w) v ≡ true
-  pub determined : (v : ℕ) → determined (w .tables) (moved (movePairs (latest l flags .move)) (storedValues w)) v ≡ true
+  pub determined : (v : ℕ) → determined (w .tables) (moved (movePairs (latest l c .move)) (storedValues w)) v ≡ true
 
-pub take-known : (s : Session) (l : Log) (w : Model) (flags : List ℕ) → takeVerdict s l w flags ≡ accepted → TakeKnown s l w flags
+pub take-known : (s : Session) (l : Log) (w : Model) (c : TakeLent) → takeVerdict s l w c ≡ accepted → TakeKnown s l w c
 unfolding takeVerdict
-take-known s l w flags e =
-    let fits = each _ (require-held 1 0 (takeFits l w flags) _ e) in
-    let a = model-known w (s .blanks) _ (fits .0) (require-rest 1 0 (takeFits l w flags) _ e) in
+take-known s l w c e =
+    let fits = each _ (require-held 1 0 (takeFits l w c) _ e) in
+    let a = model-known w (s .blanks) _ (fits .0) (require-rest 1 0 (takeFits l w c) _ e) in
     let good = logGood l (w .tables) (w .bounds) (s .kept) in
     let some = require-rest 16 0 good _ (a .2) in
-    let f = fresh-known (w .tables) (a .0 .sound) (storedValues w) (latest l flags .move) (require-rest 15 0 (ltb 0 (logged l)) _ some) in
+    let f = fresh-known (w .tables) (a .0 .sound) (storedValues w) (latest l c .move) (require-rest 15 0 (ltb 0 (logged l)) _ some) in
     record {
       model = a .0;
       log = log-known l (w .tables) (w .bounds) (s .kept) (fits .1 .1 .0) (require-held 16 0 good _ (a .2));
@@ -327,5 +331,5 @@ take-known s l w flags e =
     }
 
 -- the move that takes the latest back passes the checks of a move
-pub latest-known : (s : Session) (l : Log) (w : Model) (flags : List ℕ) → TakeKnown s l w flags → MoveKnown (w .tables) (w .bounds) (latest l flags .move)
-latest-known s l w flags known = let some = known .some in known .log .moves (pred (logged l)) (omega arith)
+pub latest-known : (s : Session) (l : Log) (w : Model) (c : TakeLent) → TakeKnown s l w c → MoveKnown (w .tables) (w .bounds) (latest l c .move)
+latest-known s l w c known = let some = known .some in known .log .moves (pred (logged l)) (omega arith)

@@ -4,11 +4,12 @@ pub mod Least
 pub mod Count
 pub mod Buffers
 pub mod Sections
-pub mod Indexed
 pub mod Scan
+pub mod Indexed
 pub mod Verdicts
 pub mod Sizes
 pub mod Accept
+pub mod Bare
 pub mod Fix
 pub mod Lawful
 pub mod Numbers
@@ -31,14 +32,12 @@ pub mod Permitted
 pub mod Open
 pub mod Closes
 pub mod Known
+pub mod UpTo
 pub mod Outcomes
-pub mod Reasoned
 pub mod Build
 pub mod Moves
 pub mod Either
 pub mod Log
-pub mod Session
-pub mod ReasonRuns
 pub mod Windows
 pub mod Extreme
 pub mod Formulas
@@ -55,5 +54,3 @@ pub mod Rewritten
 pub mod Reread
 pub mod RoundTrips
 pub mod Converted
-pub mod FileRuns
-pub mod Demands

@@ -18,7 +18,7 @@ use Rattle.paper.specs.Tables.{Tables, isMade}
 use Rattle.paper.specs.Checks.{Bounds, within, Move, movePairs, movable, namedOnce, hasValue, pairWithin}
 use Rattle.paper.specs.Moves.{pairAt}
 use Rattle.paper.specs.Log.{Log, logIn, moveGood, slid, laidAt, logged, back, logFits, logGood, roomMade, noted, dropped}
-use Rattle.paper.specs.Demands.{rest, applied}
+use Rattle.paper.specs.Moves.{rest, applied}
 use Rattle.paper.proofs.Lists.{all-yes}
 use Rattle.paper.proofs.Buffers.{length-below, getD-below, below-same, below-list, part-front, over-front}
 use Rattle.paper.proofs.Least.{below-all}

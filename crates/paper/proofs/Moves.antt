@@ -20,7 +20,8 @@ use Rattle.paper.specs.Tables.{Tables, net, isMade, valuesIn}
 use Rattle.paper.specs.Chains.{determined, groupsNumbered, storedFresh}
 use Rattle.paper.specs.Checks.{Verdict, accepted, Bounds, within, indexed, storedGood, inBounds, storedAllowed, Move, movePairs, moveFits, movable, namedOnce, hasValue, pairWithin, freshChecks}
 use Rattle.paper.specs.Log.{Log, logged, logFits, logGood}
-use Rattle.paper.specs.Calls.{Session, blanksAmong, newValues, Model, modelFits, modelChecks, storedValues, Kept, keptBlanks, keptStored, keepFits, keepVerdict, latest, takeFits, takeVerdict}
+use Rattle.paper.specs.Reason.{reasonKept}
+use Rattle.paper.specs.Calls.{Session, blanksAmong, newValues, evaluates, Model, modelFits, modelChecks, storedValues, KeepLent, keptBlanks, keptStored, keptReasons, keepFits, keepVerdict, latest, TakeLent, takeFits, takeVerdict}
 use Rattle.paper.proofs.Lists.{clash, eqb-self, all-yes, any-at}
 use Rattle.paper.proofs.Buffers.{length-below, getD-below, over-length, over-front}
 use Rattle.paper.proofs.Scan.{any-append}
@@ -273,7 +274,7 @@ module _ (t : Tables) (bs : Bounds) (a b : Move) (known-a : MoveKnown t bs a) (k
 -- a model whose checks are passed has room, and leaves the rest to say
 module _ (w : Model) (model : ModelKnown w) where
   model-fits : modelFits w ≡ true
-  model-fits = ap₂ _&&_ (model .sound .sized) (all-yes _ (le-leb _ _ (model .numbers-long), (le-leb _ _ (model .order-long), (le-leb _ _ (model .stored-long), (model .index-fits, (model .bounds-fit, tt))))))
+  model-fits = ap₂ _&&_ (model .sound .sized) (all-yes _ (le-leb _ _ (model .numbers-long), (le-leb _ _ (model .order-long), (le-leb _ _ (model .stored-long), (model .index-fits, (model .bounds-fit, (le-leb _ _ (model .reasons-long), tt)))))))
 
   model-next : (blanks : ℕ) → BlanksKnown blanks w → (next : Verdict) → modelChecks w blanks next ≡ next
   model-next blanks same next = let t = w .tables in
@@ -290,7 +291,7 @@ module _ (w : Model) (model : ModelKnown w) where
       check-next 21 (t .n) (storedFresh t (storedValues w)) _ fresh ∙ check-next 20 (t .n) (determined t (moved (movePairs mv) (storedValues w))) accepted (λ v l. det v)
 
 -- a keep whose model, move and log pass their checks, and whose values are fresh and stay determined
-pub keep-accepts : (s : Session) (g : Log) (w : Model) (c : Kept) → ModelKnown w → BlanksKnown (s .blanks) w → MoveKnown (w .tables) (w .bounds) (c .move) → w .tables .n ≤ length (c .flags)
+pub keep-accepts : (s : Session) (g : Log) (w : Model) (c : KeepLent) → ModelKnown w → BlanksKnown (s .blanks) w → MoveKnown (w .tables) (w .bounds) (c .move) → w .tables .n ≤ length (c .flags)
     → logFits g ≡ true → logGood g (w .tables) (w .bounds) (s .kept) ≡ true
     → ((v : ℕ) → v < w .tables .n → storedFresh (w .tables) (storedValues w) v ≡ true) → ((v : ℕ) → determined (w .tables) (moved (movePairs (c .move)) (storedValues w)) v ≡ true)
     → keepVerdict s g w c ≡ accepted
@@ -311,16 +312,16 @@ keep-accepts s g w c model blanks move room log-fits log-good fresh det = let t 
     fits = all-yes _ (model-fits w model, (move-fits, (le-leb _ _ room, (log-fits, tt))))
 
 -- a taking back whose model passes its checks and whose log is good and not empty, over values that are fresh and stay determined
-pub take-accepts : (s : Session) (g : Log) (w : Model) (flags : List ℕ) → ModelKnown w → BlanksKnown (s .blanks) w → w .tables .n ≤ length flags
+pub take-accepts : (s : Session) (g : Log) (w : Model) (c : TakeLent) → ModelKnown w → BlanksKnown (s .blanks) w → w .tables .n ≤ length (c .flags)
     → logFits g ≡ true → logGood g (w .tables) (w .bounds) (s .kept) ≡ true → 0 < logged g
     → ((v : ℕ) → v < w .tables .n → storedFresh (w .tables) (storedValues w) v ≡ true)
-    → ((v : ℕ) → determined (w .tables) (moved (movePairs (latest g flags .move)) (storedValues w)) v ≡ true) → takeVerdict s g w flags ≡ accepted
+    → ((v : ℕ) → determined (w .tables) (moved (movePairs (latest g c .move)) (storedValues w)) v ≡ true) → takeVerdict s g w c ≡ accepted
 unfolding takeVerdict
-take-accepts s g w flags model blanks room log-fits log-good some fresh det =
-    require-next 1 0 (takeFits g w flags) _ (all-yes _ (model-fits w model, (le-leb _ _ room, (log-fits, tt)))) ∙ model-next w model (s .blanks) blanks _
+take-accepts s g w c model blanks room log-fits log-good some fresh det =
+    require-next 1 0 (takeFits g w c) _ (all-yes _ (model-fits w model, (le-leb _ _ room, (log-fits, tt)))) ∙ model-next w model (s .blanks) blanks _
     ∙ require-next 16 0 (logGood g (w .tables) (w .bounds) (s .kept)) _ log-good
     ∙ require-next 15 0 (ltb 0 (logged g)) _ (lt-ltb 0 (logged g) some)
-    ∙ fresh-next w model (latest g flags .move) fresh det
+    ∙ fresh-next w model (latest g c .move) fresh det
 
 -- a route leaves a search variable with the move's value
 pub new-search : (N : Net) (k : ℕ) → 0 < k → (r : Route) (old s : Values) (v : ℕ) → N .made v ≡ false → new N r old s k v ≡ s v
@@ -329,17 +330,17 @@ new-search N zero some r old s v e = absurd (not-suc-le-zero some)
 new-search N (suc k) some r old s v e = rw e
 
 -- the stored values that an accepted keep leaves
-pub kept-value : (w : Model) (c : Kept) (v : ℕ) → v < w .tables .n
+pub kept-value : (w : Model) (c : KeepLent) (v : ℕ) → v < w .tables .n
     → valuesIn (w .tables) (keptStored (w .tables) (w .stored) c) v ≡ newValues (w .tables) (storedValues w) input-to-output (movePairs (c .move)) [] v
 kept-value w c v l = let f = newValues (w .tables) (storedValues w) input-to-output (movePairs (c .move)) [] in
     ap (λ (row : List ℤ). getD row v (pos 0)) (over-front f (w .tables .n) (w .stored)) ∙ getD-below f (w .tables .n) v (pos 0) l
 
 -- the record then has the number of blanks among them
-pub kept-blanks : (w : Model) (c : Kept) → keptBlanks (w .tables) (w .stored) c ≡ blanksAmong (w .tables .n) (valuesIn (w .tables) (keptStored (w .tables) (w .stored) c))
+pub kept-blanks : (w : Model) (c : KeepLent) → keptBlanks (w .tables) (w .stored) c ≡ blanksAmong (w .tables .n) (valuesIn (w .tables) (keptStored (w .tables) (w .stored) c))
 kept-blanks w c = size-same _ _ (w .tables .n) (λ v l. ap (λ z. eqZ z blank) (sym (kept-value w c v l)))
 
 -- the model as an accepted keep leaves it passes the same checks
-pub keep-leaves-known : (w : Model) (c : Kept) → ModelKnown w → MoveKnown (w .tables) (w .bounds) (c .move) → ModelKnown (record { tables = w .tables; bounds = w .bounds; numbers = w .numbers; order = w .order; stored = keptStored (w .tables) (w .stored) c; index = w .index })
+pub keep-leaves-known : (w : Model) (c : KeepLent) → ModelKnown w → MoveKnown (w .tables) (w .bounds) (c .move) → ModelKnown (record { tables = w .tables; bounds = w .bounds; numbers = w .numbers; order = w .order; stored = keptStored (w .tables) (w .stored) c; index = w .index; reasons = keptReasons (w .tables) (w .stored) c (w .reasons) })
 keep-leaves-known w c m move = record {
   sound = m .sound;
   numbers-long = m .numbers-long;
@@ -351,6 +352,7 @@ keep-leaves-known w c m move = record {
   index-fits = m .index-fits;
   index-is = m .index-is;
   bounds-fit = m .bounds-fit;
+  reasons-long = let l = m .reasons-long in let e = over-length (reasonKept (w .tables) (evaluates (w .tables) (storedValues w) input-to-output (movePairs (c .move)) []) f (nat (w .reasons))) (w .tables .n) (w .reasons) l in omega arith;
   bounds = m .bounds;
   stored = λ v l. good v l (isMade t v) refl;
   inside = λ v l. allowed v l (isMade t v) refl;

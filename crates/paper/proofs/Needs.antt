@@ -27,10 +27,6 @@ module _ (t : Tables) (s : Values) where
   )
 
   -- ── what a determined variable needs, and its value ──
-  pub needs-determined : (v i : ℕ) → determined t s v ≡ true → List·Memᴰ i (needs t s v) → determined t s i ≡ true
-  unfolding determined
-  needs-determined v i e m = able-link (needs t s) (t .n) v i e m
-
   pub comes-undetermined : (v : ℕ) → Comes (needs t s) v → determined t s v ≡ false
   unfolding determined
   comes-undetermined v c = comes-unable (needs t s) (t .n) v c

@@ -7,7 +7,8 @@ use mathlib.Core.Bool.{Bool, true, false, cond}
 use mathlib.Core.List.{List, [], _∷_, map, List·Memᴰ, List·Memᴰ·head, List·Memᴰ·tail, List·Memᴰ·not-nil}
 use mathlib.Core.Path.{_≡_, refl, ap, subst}
 use Rattle.paper.specs.Lists.{greatest}
-use Rattle.paper.specs.Net.{Net, runs, able, Depends, direct, through, numbering, number}
+use Rattle.paper.specs.Net.{Net, runs, able, Depends, direct, through}
+use Rattle.paper.specs.Straight.{numbering, number}
 use Rattle.paper.proofs.Lists.{map-same}
 use Rattle.paper.proofs.Fix.{Local, unique, solution}
 use Rattle.paper.proofs.Lawful.{Lawful}

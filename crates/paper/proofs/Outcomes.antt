@@ -13,8 +13,7 @@ use Rattle.paper.specs.Tables.{Tables}
 use Rattle.paper.specs.Chains.{permitted, determined, groupsNumbered, storedFresh}
 use Rattle.paper.specs.Checks.{Verdict, accepted, refused, check, require, Bounds, kindGood, shapeGood, numberGood, boundsGood, madeOnce, tableChecks, startAllowed, storedAllowed, indexed, Move, movePairs, movable, namedOnce, hasValue, pairWithin, freshChecks}
 use Rattle.paper.specs.Log.{Log, logged, logGood}
-use Rattle.paper.specs.Calls.{Session, blanksAmong, Answer, numberOf, BuildLent, BuildLeft, buildFits, startValues, buildVerdict, buildLeaves, build, Model, storedValues, modelChecks, changeChecks, Tried, TrialLeft, trialFits, trialVerdict, trialLeaves, trial, Kept, KeepLeft, keepFits, keepVerdict, keepLeaves, keep, latest, takeFits, takeVerdict, takeLeaves, takeBack}
-use Rattle.paper.specs.Demands.{buildAsWas, trialAsWas, keepAsWas}
+use Rattle.paper.specs.Calls.{Session, blanksAmong, Answer, numberOf, BuildLent, BuildLeft, buildFits, startValues, buildVerdict, buildLeaves, build, Model, storedValues, modelChecks, changeChecks, TrialLent, TrialLeft, trialFits, trialVerdict, trialLeaves, trial, KeepLent, KeepLeft, keepFits, keepVerdict, keepLeaves, keep, latest, TakeLent, takeFits, takeVerdict, takeLeaves, takeBack, buildAsWas, trialAsWas, keepAsWas}
 use Rattle.paper.proofs.Verdicts.{refused-not}
 
 -- build gives 1 to 7 and 20; trial all of 1 to 13 but 6, 17 and 19 to 21; keep the same except 9 and 13, and 16; taking back 1 to 8 but 6, 15, 16 and 19 to 21
@@ -73,26 +72,26 @@ module _ (ok : ℕ → Bool) where
   fresh-gives : (t : Tables) (old : Values) (mv : Move) → ok 20 ≡ true → ok 21 ≡ true → Gives ok (freshChecks t old mv)
   fresh-gives t old mv o₂₀ o₂₁ = fails ok 20 (t .n) (storedFresh t old) o₂₁ (fails ok 19 (t .n) (determined t (moved (movePairs mv) old)) o₂₀ passed)
 
-trial-gives : (s : Session) (w : Model) (c : Tried) → Gives trialNumber (trialVerdict s w c)
+trial-gives : (s : Session) (w : Model) (c : TrialLent) → Gives trialNumber (trialVerdict s w c)
 unfolding trialVerdict
 trial-gives s w c = let ok = trialNumber in
     lacks ok 0 0 (trialFits w c) refl (model-gives ok w (s .blanks) refl refl refl refl refl refl refl (lacks ok 8 0 (between 1 (c .route) 3) refl
     (move-gives ok w (c .move) refl refl refl refl (fails ok 12 (c .asked) (λ i. ltb (nat (c .askedVars) i) (w .tables .n)) refl
     (fresh-gives ok (w .tables) (storedValues w) (c .move) refl refl)))))
 
-keep-gives : (s : Session) (l : Log) (w : Model) (c : Kept) → Gives keepNumber (keepVerdict s l w c)
+keep-gives : (s : Session) (l : Log) (w : Model) (c : KeepLent) → Gives keepNumber (keepVerdict s l w c)
 unfolding keepVerdict
 keep-gives s l w c = let ok = keepNumber in
     lacks ok 0 0 (keepFits l w c) refl (model-gives ok w (s .blanks) refl refl refl refl refl refl refl
     (move-gives ok w (c .move) refl refl refl refl (lacks ok 15 0 (logGood l (w .tables) (w .bounds) (s .kept)) refl
     (fresh-gives ok (w .tables) (storedValues w) (c .move) refl refl))))
 
-take-gives : (s : Session) (l : Log) (w : Model) (flags : List ℕ) → Gives takeNumber (takeVerdict s l w flags)
+take-gives : (s : Session) (l : Log) (w : Model) (c : TakeLent) → Gives takeNumber (takeVerdict s l w c)
 unfolding takeVerdict
-take-gives s l w flags = let ok = takeNumber in
-    lacks ok 0 0 (takeFits l w flags) refl (model-gives ok w (s .blanks) refl refl refl refl refl refl refl
+take-gives s l w c = let ok = takeNumber in
+    lacks ok 0 0 (takeFits l w c) refl (model-gives ok w (s .blanks) refl refl refl refl refl refl refl
     (lacks ok 15 0 (logGood l (w .tables) (w .bounds) (s .kept)) refl (lacks ok 14 0 (ltb 0 (logged l)) refl
-    (fresh-gives ok (w .tables) (storedValues w) (latest l flags .move) refl refl))))
+    (fresh-gives ok (w .tables) (storedValues w) (latest l c .move) refl refl))))
 
 -- ── what holds of every call: x is what it leaves, by its verdict v ──
 pub record Judged {Left : Type 0} (answer : Left → Answer) (left : Verdict → Left) (asWas : Answer → Left) (ok : ℕ → Bool) (v : Verdict) (x : Left) : Type 0 where
@@ -128,44 +127,44 @@ pub build-judged : (l : BuildLent) → Judged (λ (x : BuildLeft). x .answer) (b
 unfolding build
 build-judged l = judge (λ (x : BuildLeft). x .answer) (buildLeaves l) (buildAsWas l) buildNumber (buildVerdict l) refl (build-gives l) refl (λ code place. refl) (λ code place. refl)
 
-pub trial-judged : (s : Session) (w : Model) (c : Tried) → Judged (λ (x : TrialLeft). x .answer) (trialLeaves w c s) (trialAsWas s c) trialNumber (trialVerdict s w c) (trial s w c)
+pub trial-judged : (s : Session) (w : Model) (c : TrialLent) → Judged (λ (x : TrialLeft). x .answer) (trialLeaves w c s) (trialAsWas s c) trialNumber (trialVerdict s w c) (trial s w c)
 unfolding trial
 trial-judged s w c = judge (λ (x : TrialLeft). x .answer) (trialLeaves w c s) (trialAsWas s c) trialNumber (trialVerdict s w c) refl (trial-gives s w c) refl (λ code place. refl) (λ code place. refl)
 
 module _ (s : Session) (l : Log) (w : Model) where
-  pub keep-judged : (c : Kept) → Judged (λ (x : KeepLeft). x .answer) (keepLeaves s l w c) (keepAsWas s l w (c .flags)) keepNumber (keepVerdict s l w c) (keep s l w c)
+  pub keep-judged : (c : KeepLent) → Judged (λ (x : KeepLeft). x .answer) (keepLeaves s l w c) (keepAsWas s l w (c .flags)) keepNumber (keepVerdict s l w c) (keep s l w c)
   unfolding keep
   keep-judged c =
       judge (λ (x : KeepLeft). x .answer) (keepLeaves s l w c) (keepAsWas s l w (c .flags)) keepNumber (keepVerdict s l w c) refl (keep-gives s l w c) refl (λ code place. refl) (λ code place. refl)
 
-  pub take-judged : (flags : List ℕ) → Judged (λ (x : KeepLeft). x .answer) (takeLeaves s l w flags) (keepAsWas s l w flags) takeNumber (takeVerdict s l w flags) (takeBack s l w flags)
+  pub take-judged : (c : TakeLent) → Judged (λ (x : KeepLeft). x .answer) (takeLeaves s l w c) (keepAsWas s l w (c .flags)) takeNumber (takeVerdict s l w c) (takeBack s l w c)
   unfolding takeBack
-  take-judged flags =
-      judge (λ (x : KeepLeft). x .answer) (takeLeaves s l w flags) (keepAsWas s l w flags) takeNumber (takeVerdict s l w flags) refl (take-gives s l w flags) refl (λ code place. refl) (λ code place. refl)
+  take-judged c =
+      judge (λ (x : KeepLeft). x .answer) (takeLeaves s l w c) (keepAsWas s l w (c .flags)) takeNumber (takeVerdict s l w c) refl (take-gives s l w c) refl (λ code place. refl) (λ code place. refl)
 
 -- ── how a program meets a call's equation: by its verdict, and field by field ──
 pub build-meets : (l : BuildLent) (x : BuildLeft) (v : Verdict) → buildVerdict l ≡ v
     → x .answer ≡ buildLeaves l v .answer → x .session ≡ buildLeaves l v .session → x .numbers ≡ buildLeaves l v .numbers
     → x .order ≡ buildLeaves l v .order → x .stored ≡ buildLeaves l v .stored → x .index ≡ buildLeaves l v .index
-    → x .logSizes ≡ buildLeaves l v .logSizes → x ≡ build l
-build-meets l x v e a s n o w k g = (λ i. record { answer = a i; session = s i; numbers = n i; order = o i; stored = w i; index = k i; logSizes = g i }) ∙ sym (build-judged l .is v e)
+    → x .reasons ≡ buildLeaves l v .reasons → x .logSizes ≡ buildLeaves l v .logSizes → x ≡ build l
+build-meets l x v e a s n o w k y g = (λ i. record { answer = a i; session = s i; numbers = n i; order = o i; stored = w i; index = k i; reasons = y i; logSizes = g i }) ∙ sym (build-judged l .is v e)
 
-pub trial-meets : (s : Session) (w : Model) (c : Tried) (x : TrialLeft) (v : Verdict) → trialVerdict s w c ≡ v
+pub trial-meets : (s : Session) (w : Model) (c : TrialLent) (x : TrialLeft) (v : Verdict) → trialVerdict s w c ≡ v
     → x .answer ≡ trialLeaves w c s v .answer → x .session ≡ trialLeaves w c s v .session → x .results ≡ trialLeaves w c s v .results
-    → x .trial ≡ trialLeaves w c s v .trial → x .flags ≡ trialLeaves w c s v .flags → x ≡ trial s w c
-trial-meets s w c x v e a z r t f = (λ i. record { answer = a i; session = z i; results = r i; trial = t i; flags = f i }) ∙ sym (trial-judged s w c .is v e)
+    → x .trial ≡ trialLeaves w c s v .trial → x .flags ≡ trialLeaves w c s v .flags → x .why ≡ trialLeaves w c s v .why → x ≡ trial s w c
+trial-meets s w c x v e a z r t f y = (λ i. record { answer = a i; session = z i; results = r i; trial = t i; flags = f i; why = y i }) ∙ sym (trial-judged s w c .is v e)
 
 -- of keep and taking back
-same-left : (x y : KeepLeft) → x .answer ≡ y .answer → x .session ≡ y .session → x .stored ≡ y .stored → x .flags ≡ y .flags → x .log ≡ y .log → x ≡ y
-same-left x y a z t f g = λ i. record { answer = a i; session = z i; stored = t i; flags = f i; log = g i }
+same-left : (x y : KeepLeft) → x .answer ≡ y .answer → x .session ≡ y .session → x .stored ≡ y .stored → x .reasons ≡ y .reasons → x .flags ≡ y .flags → x .log ≡ y .log → x ≡ y
+same-left x y a z t r f g = λ i. record { answer = a i; session = z i; stored = t i; reasons = r i; flags = f i; log = g i }
 
 module _ (s : Session) (l : Log) (w : Model) (x : KeepLeft) (v : Verdict) where
-  pub keep-meets : (c : Kept) → keepVerdict s l w c ≡ v
+  pub keep-meets : (c : KeepLent) → keepVerdict s l w c ≡ v
       → x .answer ≡ keepLeaves s l w c v .answer → x .session ≡ keepLeaves s l w c v .session → x .stored ≡ keepLeaves s l w c v .stored
-      → x .flags ≡ keepLeaves s l w c v .flags → x .log ≡ keepLeaves s l w c v .log → x ≡ keep s l w c
-  keep-meets c e a z t f g = same-left x (keepLeaves s l w c v) a z t f g ∙ sym (keep-judged s l w c .is v e)
+      → x .reasons ≡ keepLeaves s l w c v .reasons → x .flags ≡ keepLeaves s l w c v .flags → x .log ≡ keepLeaves s l w c v .log → x ≡ keep s l w c
+  keep-meets c e a z t r f g = same-left x (keepLeaves s l w c v) a z t r f g ∙ sym (keep-judged s l w c .is v e)
 
-  pub take-meets : (flags : List ℕ) → takeVerdict s l w flags ≡ v
-      → x .answer ≡ takeLeaves s l w flags v .answer → x .session ≡ takeLeaves s l w flags v .session → x .stored ≡ takeLeaves s l w flags v .stored
-      → x .flags ≡ takeLeaves s l w flags v .flags → x .log ≡ takeLeaves s l w flags v .log → x ≡ takeBack s l w flags
-  take-meets flags e a z t f g = same-left x (takeLeaves s l w flags v) a z t f g ∙ sym (take-judged s l w flags .is v e)
+  pub take-meets : (c : TakeLent) → takeVerdict s l w c ≡ v
+      → x .answer ≡ takeLeaves s l w c v .answer → x .session ≡ takeLeaves s l w c v .session → x .stored ≡ takeLeaves s l w c v .stored
+      → x .reasons ≡ takeLeaves s l w c v .reasons → x .flags ≡ takeLeaves s l w c v .flags → x .log ≡ takeLeaves s l w c v .log → x ≡ takeBack s l w c
+  take-meets c e a z t r f g = same-left x (takeLeaves s l w c v) a z t r f g ∙ sym (take-judged s l w c .is v e)

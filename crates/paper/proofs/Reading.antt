@@ -10,8 +10,8 @@ use lib.ListN.{length}
 use borrow.Author.Tests.{leb-true, le-leb, eqb-true, eq-eqb}
 use Rattle.paper.specs.Lists.{between}
 use Rattle.paper.specs.Tables.{Tables, lent}
-use Rattle.paper.specs.Checks.{Verdict, accepted, refused, require}
-use Rattle.paper.specs.File.{field, Version, versionNumber, headOf, rowsFrom, entriesFrom, endsAs, Contents, contents, countedAs, heldAs, nIn, mIn, eIn, boundsTold, headerAs, laidAs, readVerdictAs, readAs}
+use Rattle.paper.specs.Checks.{Verdict, accepted, refused, require, leaves}
+use Rattle.paper.specs.File.{field, Version, version1, versionNumber, headOf, rowsFrom, entriesFrom, endsAt, Contents, contents, unboundedContents, counted, held, nIn, mIn, eIn, boundsTold, header, laid, readVerdict, read}
 use Rattle.paper.proofs.Lists.{and-left, and-right, Each}
 use Rattle.paper.proofs.Least.{between-in}
 use Rattle.paper.proofs.Verdicts.{then-first, require-held, require-rest, require-next}
@@ -47,7 +47,7 @@ module _ (v : Version) (bytes : List ℕ) where
   tests =
       (length bytes, leb h (length bytes)) ∷ (0, eqb (field 2 0 bytes) (versionNumber v)) ∷ (2, between 1 n 4096) ∷ (4, leb m n) ∷ (6, leb e 16384)
       ∷ (8, eqb (field 4 8 bytes) h) ∷ (12, eqb (field 4 12 bytes) (rowsFrom h n)) ∷ (16, eqb (field 4 16 bytes) (entriesFrom h n m))
-      ∷ (20, eqb (field 4 20 bytes) (endsAs v n m e) && eqb (length bytes) (endsAs v n m e)) ∷ (24, boundsTold bytes v) ∷ []
+      ∷ (20, eqb (field 4 20 bytes) (endsAt v n m e) && eqb (length bytes) (endsAt v n m e)) ∷ (24, boundsTold v bytes) ∷ []
 
   -- what they say
   pub record Headed : Type 0 where
@@ -60,47 +60,53 @@ module _ (v : Version) (bytes : List ℕ) where
     pub starts : field 4 8 bytes ≡ h
     pub rows : field 4 12 bytes ≡ rowsFrom h n
     pub entries : field 4 16 bytes ≡ entriesFrom h n m
-    pub end : field 4 20 bytes ≡ endsAs v n m e
-    pub whole : length bytes ≡ endsAs v n m e
-    pub bounds : boundsTold bytes v ≡ true
+    pub end : field 4 20 bytes ≡ endsAt v n m e
+    pub whole : length bytes ≡ endsAt v n m e
+    pub bounds : boundsTold v bytes ≡ true
 
-  pub headed : headerAs bytes v ≡ accepted → Headed
-  unfolding headerAs
+  pub headed : header v bytes ≡ accepted → Headed
+  unfolding header
   headed a = let passed = judged-each tests a in search (leb-true, eqb-true, and-left, and-right)
 
-  pub header-of : Headed → headerAs bytes v ≡ accepted
-  unfolding headerAs
+  pub header-of : Headed → header v bytes ≡ accepted
+  unfolding header
   header-of a = let last = ap₂ _&&_ (eq-eqb _ _ (a .end)) (eq-eqb _ _ (a .whole)) in each-judged tests (search (le-leb, eq-eqb, between-in) depth 11)
 
   -- ── the call ──
   module _ (c : Contents) where
-    pub read-refused : (number place : ℕ) → headerAs bytes v ≡ refused number place
-        → _≡_ {A = Verdict × Contents} (refused number place, countedAs 0 0 0 c) (readAs v bytes c)
-    unfolding readVerdictAs
+    pub read-refused : (number place : ℕ) → header v bytes ≡ refused number place
+        → _≡_ {A = Verdict × Contents} (refused number place, counted 0 0 0 c) (read v bytes c)
+    unfolding readVerdict
     read-refused number place a = simp a
 
-    pub read-short : headerAs bytes v ≡ accepted → heldAs v (countedAs n m e c) ≡ false
-        → _≡_ {A = Verdict × Contents} (refused 1 0, countedAs 0 0 0 c) (readAs v bytes c)
-    unfolding readVerdictAs
+    pub read-short : header v bytes ≡ accepted → held v (counted n m e c) ≡ false
+        → _≡_ {A = Verdict × Contents} (refused 1 0, counted 0 0 0 c) (read v bytes c)
+    unfolding readVerdict
     read-short a l = simp (a, l)
 
-    pub read-done : headerAs bytes v ≡ accepted → heldAs v (countedAs n m e c) ≡ true → {after : Contents} → after ≡ laidAs bytes n m e v c
-        → _≡_ {A = Verdict × Contents} (accepted, after) (readAs v bytes c)
-    unfolding readVerdictAs
+    pub read-done : header v bytes ≡ accepted → held v (counted n m e c) ≡ true → {after : Contents} → after ≡ laid v bytes n m e c
+        → _≡_ {A = Verdict × Contents} (accepted, after) (read v bytes c)
+    unfolding readVerdict
     read-done a l q = simp (a, l) (ap (λ z. (accepted, z)) q)
 
     -- what is accepted had an accepted header
-    pub read-headed : readVerdictAs v bytes c ≡ accepted → headerAs bytes v ≡ accepted
-    unfolding readVerdictAs
-    read-headed = then-first (headerAs bytes v) (require 1 0 (heldAs v (countedAs n m e c)) accepted)
+    pub read-headed : readVerdict v bytes c ≡ accepted → header v bytes ≡ accepted
+    unfolding readVerdict
+    read-headed = then-first (header v bytes) (require 1 0 (held v (counted n m e c)) accepted)
 
--- a model is its counts and its rows: the columns may be laid one by one
-pub same-rows : {n m e : ℕ} {kinds kinds′ makes makes′ firsts firsts′ counts counts′ vars vars′ : List ℕ} {params params′ coefs coefs′ starts starts′ : List ℤ}
-    → starts ≡ starts′ → kinds ≡ kinds′ → makes ≡ makes′ → params ≡ params′ → firsts ≡ firsts′ → counts ≡ counts′ → vars ≡ vars′ → coefs ≡ coefs′
-    → _≡_ {A = Tables × List ℤ} (lent n m e kinds makes params firsts counts vars coefs, starts) (lent n m e kinds′ makes′ params′ firsts′ counts′ vars′ coefs′, starts′)
-same-rows s k a p f c v o = cc
+-- contents are their counts and their rows: the columns may be laid one by one
+pub same-contents : {n m e : ℕ} {kinds kinds′ makes makes′ firsts firsts′ counts counts′ vars vars′ : List ℕ} {params params′ coefs coefs′ starts starts′ lows lows′ highs highs′ : List ℤ}
+    → starts ≡ starts′ → kinds ≡ kinds′ → makes ≡ makes′ → params ≡ params′ → firsts ≡ firsts′ → counts ≡ counts′ → vars ≡ vars′ → coefs ≡ coefs′ → lows ≡ lows′ → highs ≡ highs′
+    → contents (lent n m e kinds makes params firsts counts vars coefs) starts lows highs ≡ contents (lent n m e kinds′ makes′ params′ firsts′ counts′ vars′ coefs′) starts′ lows′ highs′
+same-contents s k a p f c v o l h = cc
 
--- and so are contents
-pub same-contents : {t t′ : Tables} {starts starts′ lows lows′ highs highs′ : List ℤ} → _≡_ {A = Tables × List ℤ} (t, starts) (t′, starts′) → lows ≡ lows′ → highs ≡ highs′
-    → contents t starts lows highs ≡ contents t′ starts′ lows′ highs′
-same-contents {t} {t′} {starts} {starts′} {lows} {lows′} {highs} p l h = ap (λ (z : Tables × List ℤ). contents (z .0) (z .1) lows highs) p ∙ ap₂ (contents t′ starts′) l h
+-- what is read of version 1 into rows without bounds has none
+pub read-plain : (bytes : List ℕ) (t : Tables) (starts : List ℤ) → let x = read version1 bytes (unboundedContents t starts) .1 in x ≡ unboundedContents (x .tables) (x .starts)
+read-plain bytes t starts = go (readVerdict version1 bytes (unboundedContents t starts))
+  where
+    left : Verdict → Contents
+    left w = leaves w (laid version1 bytes (nIn bytes) (mIn bytes) (eIn bytes) (unboundedContents t starts)) (counted 0 0 0 (unboundedContents t starts))
+
+    go : (w : Verdict) → left w ≡ unboundedContents (left w .tables) (left w .starts)
+    go accepted = refl
+    go (refused number place) = refl

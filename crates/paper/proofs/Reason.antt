@@ -17,7 +17,7 @@ use Rattle.paper.specs.Lists.{any, all, between, nat}
 use Rattle.paper.specs.Formula.{blank, inRange, fit, someBlank, sum, element, pick, places, sharing, excess, trips, departures, last, inputAt, formula, looked, elementLooks}
 use Rattle.paper.specs.Net.{Values}
 use Rattle.paper.specs.Tables.{Tables, part, rowOf, isMade, inputsOf, asksOf}
-use Rattle.paper.specs.Reason.{allBlank, inside, choiceBlank, stopped, headwayBad, outsideIndex, indexOutside, noDepartures, why, reason, reasonOf}
+use Rattle.paper.specs.Reason.{allBlank, inside, choiceBlank, stopped, headwayBad, outsideIndex, indexOutside, noDepartures, why, reason, reasonOf, RowInputs, exactResult, leavesRange, ReasonRight}
 use Rattle.paper.specs.Checks.{arity}
 use Rattle.paper.proofs.Lists.{clash, and-left, and-right, or-false-left, or-false-right, map-same}
 use Rattle.paper.proofs.Lawful.{formula-same}
@@ -26,21 +26,6 @@ use Rattle.paper.proofs.Formulas.{min-blank, max-blank}
 use Rattle.paper.proofs.Ranges.{good}
 
 -- ── what reason 1 says ──
--- the exact result of LINEAR, OVER and DEPARTURES, which are judged against the range
-abbrev pub exact : ℕ → ℤ → List ℤ → List ℤ → ℤ
-exact kind param coefs xs =
-    let a = inputAt xs 0 in let b = inputAt xs 1 in
-    cond (eqb kind 1) (param +ℤ sum coefs xs) (cond (eqb kind 7) (cond (ltZ b a) (a -ℤ b) (pos 0)) (pos (trips a b (inputAt xs 2))))
-
-abbrev pub leftRange : ℕ → ℤ → List ℤ → List ℤ → Bool
-leftRange kind param coefs xs = any (eqb kind) (1 ∷ 7 ∷ 8 ∷ []) && not (inRange (exact kind param coefs xs))
-
--- inputs as a row of the tables has them: of a known kind, as many as it takes, each a number of the range or blank
-pub record Suited (kind : ℕ) (xs : List ℤ) : Type 0 where
-  pub known : between 1 kind 9 ≡ true
-  pub many : arity kind (length xs) ≡ true
-  pub each : all good xs ≡ true
-
 -- ── blank, step by step ──
 or-none : (b : Bool) → b ≡ (b || false)
 or-none true = refl
@@ -123,7 +108,7 @@ each-kind P one two three four five six seven eight nine kind known =
 module _ (param : ℤ) (coefs : List ℤ) where
   -- one of the five sentences holds
   abbrev sentences : ℕ → List ℤ → Bool
-  sentences kind xs = stopped kind xs || (headwayBad kind xs || (indexOutside kind xs || (noDepartures kind xs || leftRange kind param coefs xs)))
+  sentences kind xs = stopped kind xs || (headwayBad kind xs || (indexOutside kind xs || (noDepartures kind xs || leavesRange kind param coefs xs)))
 
   last-blank-law : (xs : List ℤ) → arity 9 (length xs) ≡ true → all good xs ≡ true → eqZ (formula 9 param coefs xs) blank ≡ sentences 9 xs
   unfolding formula
@@ -146,7 +131,7 @@ module _ (param : ℤ) (coefs : List ℤ) where
               last-is-blank s e h from to ∙ ap (leZ h (pos 0) ||_) (or-none (eqb (trips s e h) 0))
 
   -- a result is blank exactly if one of them holds
-  pub blank-exactly : (kind : ℕ) (xs : List ℤ) → Suited kind xs → eqZ (formula kind param coefs xs) blank ≡ sentences kind xs
+  pub blank-exactly : (kind : ℕ) (xs : List ℤ) → RowInputs kind xs → eqZ (formula kind param coefs xs) blank ≡ sentences kind xs
   unfolding formula
   blank-exactly kind xs s = each-kind Holds one two three four five six seven eight (λ n. last-blank-law xs n (s .each)) kind (s .known) (s .many)
     where
@@ -214,16 +199,6 @@ numbers false false false true e = record { four = refl; three = refl; two = ref
 numbers false false false false true = record { four = refl; three = refl; two = refl; five = refl; one = refl }
 numbers false false false false false = record { four = refl; three = refl; two = refl; five = refl; one = refl }
 
--- the sentences of the request, and that a formula has a value where none holds
-pub record Exactly (kind : ℕ) (param : ℤ) (coefs xs : List ℤ) : Type 0 where
-  pub has-value : eqb (reason kind param coefs xs) 0 ≡ not (eqZ (formula kind param coefs xs) blank)
-  pub blank-input : eqb (reason kind param coefs xs) 4 ≡ stopped kind xs
-  pub headway : eqb (reason kind param coefs xs) 3 ≡ (not (stopped kind xs) && headwayBad kind xs)
-  pub index : eqb (reason kind param coefs xs) 2 ≡ (not (stopped kind xs) && (not (headwayBad kind xs) && indexOutside kind xs))
-  pub departures : eqb (reason kind param coefs xs) 5 ≡ (not (stopped kind xs) && (not (headwayBad kind xs) && (not (indexOutside kind xs) && noDepartures kind xs)))
-  pub range : eqb (reason kind param coefs xs) 1
-      ≡ (not (stopped kind xs) && (not (headwayBad kind xs) && (not (indexOutside kind xs) && (not (noDepartures kind xs) && leftRange kind param coefs xs))))
-
 module _ (kind : ℕ) (param : ℤ) (coefs xs : List ℤ) where
   -- ── over any inputs ──
   -- why is never 0, so 0 is given exactly where there is a value
@@ -252,16 +227,16 @@ module _ (kind : ℕ) (param : ℤ) (coefs xs : List ℤ) where
       go true false false false false = omega arith
 
   -- ── over the inputs of a row ──
-  module _ (s : Suited kind xs) where
-    pub by-sentence : reason kind param coefs xs ≡ first (stopped kind xs) (headwayBad kind xs) (indexOutside kind xs) (noDepartures kind xs) (leftRange kind param coefs xs)
+  module _ (s : RowInputs kind xs) where
+    pub by-sentence : reason kind param coefs xs ≡ first (stopped kind xs) (headwayBad kind xs) (indexOutside kind xs) (noDepartures kind xs) (leavesRange kind param coefs xs)
     unfolding why
     by-sentence =
         ap (λ z. cond z (why kind xs) 0) (blank-exactly param coefs kind xs s)
-        ∙ by-number (stopped kind xs) (headwayBad kind xs) (indexOutside kind xs) (noDepartures kind xs) (leftRange kind param coefs xs)
+        ∙ by-number (stopped kind xs) (headwayBad kind xs) (indexOutside kind xs) (noDepartures kind xs) (leavesRange kind param coefs xs)
 
-    pub exactly : Exactly kind param coefs xs
-    exactly =
-        let n = numbers (stopped kind xs) (headwayBad kind xs) (indexOutside kind xs) (noDepartures kind xs) (leftRange kind param coefs xs) in
+    pub reason-right : ReasonRight kind param coefs xs
+    reason-right =
+        let n = numbers (stopped kind xs) (headwayBad kind xs) (indexOutside kind xs) (noDepartures kind xs) (leavesRange kind param coefs xs) in
         record {
           has-value = zero-exactly;
           blank-input = ap (λ r. eqb r 4) by-sentence ∙ n .four;
@@ -274,9 +249,9 @@ module _ (kind : ℕ) (param : ℤ) (coefs xs : List ℤ) where
     -- ── which kinds can have which reason ──
     -- only LINEAR, OVER and DEPARTURES leave the range; LAST never does, by the law of `Windows`
     pub range-kinds : reason kind param coefs xs ≡ 1 → any (eqb kind) (1 ∷ 7 ∷ 8 ∷ []) ≡ true
-    range-kinds e = go (stopped kind xs) (headwayBad kind xs) (indexOutside kind xs) (noDepartures kind xs) (any (eqb kind) (1 ∷ 7 ∷ 8 ∷ [])) (sym (exactly .range) ∙ ap (λ r. eqb r 1) e)
+    range-kinds e = go (stopped kind xs) (headwayBad kind xs) (indexOutside kind xs) (noDepartures kind xs) (any (eqb kind) (1 ∷ 7 ∷ 8 ∷ [])) (sym (reason-right .range) ∙ ap (λ r. eqb r 1) e)
       where
-        go : (a b c d k : Bool) → (not a && (not b && (not c && (not d && (k && not (inRange (exact kind param coefs xs))))))) ≡ true → k ≡ true
+        go : (a b c d k : Bool) → (not a && (not b && (not c && (not d && (k && not (inRange (exactResult kind param coefs xs))))))) ≡ true → k ≡ true
         go true b c d k h = absurd (false≢true h)
         go false true c d k h = absurd (false≢true h)
         go false false true d k h = absurd (false≢true h)
@@ -286,16 +261,16 @@ module _ (kind : ℕ) (param : ℤ) (coefs xs : List ℤ) where
 
     -- only ELEMENT has an index
     pub index-kinds : reason kind param coefs xs ≡ 2 → eqb kind 4 ≡ true
-    index-kinds e = and-left (eqb kind 4) (outsideIndex xs) (and-right (not (headwayBad kind xs)) _ (and-right (not (stopped kind xs)) _ (sym (exactly .index) ∙ ap (λ r. eqb r 2) e)))
+    index-kinds e = and-left (eqb kind 4) (outsideIndex xs) (and-right (not (headwayBad kind xs)) _ (and-right (not (stopped kind xs)) _ (sym (reason-right .index) ∙ ap (λ r. eqb r 2) e)))
 
     -- only DEPARTURES and LAST a headway
     pub headway-kinds : reason kind param coefs xs ≡ 3 → (eqb kind 8 || eqb kind 9) ≡ true
-    headway-kinds e = and-left (eqb kind 8 || eqb kind 9) _ (and-right (not (stopped kind xs)) (headwayBad kind xs) (sym (exactly .headway) ∙ ap (λ r. eqb r 3) e))
+    headway-kinds e = and-left (eqb kind 8 || eqb kind 9) _ (and-right (not (stopped kind xs)) (headwayBad kind xs) (sym (reason-right .headway) ∙ ap (λ r. eqb r 3) e))
 
     -- only LAST asks for a departure
     pub departures-kinds : reason kind param coefs xs ≡ 5 → eqb kind 9 ≡ true
     departures-kinds e =
-        and-left (eqb kind 9) _ (and-right (not (indexOutside kind xs)) _ (and-right (not (headwayBad kind xs)) _ (and-right (not (stopped kind xs)) _ (sym (exactly .departures) ∙ ap (λ r. eqb r 5) e))))
+        and-left (eqb kind 9) _ (and-right (not (indexOutside kind xs)) _ (and-right (not (headwayBad kind xs)) _ (and-right (not (stopped kind xs)) _ (sym (reason-right .departures) ∙ ap (λ r. eqb r 5) e))))
 
 -- ── a reason looks only at what the formula looks at ──
 module _ (f g : Values) where

@@ -11,9 +11,9 @@ use mir.Val.{toZ, ofZ, bits}
 use mir.Facts.{ofZ-toZ}
 use Rattle.paper.specs.Lists.{nat, below, over}
 use Rattle.paper.specs.Checks.{accepted}
-use Rattle.paper.specs.File.{field, Version, Contents, fileBytesAs, heldAs, headerAs, nIn, mIn, eIn, laidAs}
+use Rattle.paper.specs.File.{field, Version, Contents, fileBytes, held, header, nIn, mIn, eIn, laid}
 use Rattle.paper.proofs.Buffers.{length-below, over-at}
-use Rattle.paper.proofs.Sizes.{held-as-of}
+use Rattle.paper.proofs.Sizes.{held-of}
 use Rattle.paper.proofs.Fields.{field-small}
 use Rattle.paper.proofs.Heads.{accepted-holds}
 use Rattle.paper.proofs.Shown.{shown-file}
@@ -23,19 +23,19 @@ use Rattle.paper.proofs.Reading.{headed}
 over-long : {A : Type 0} (n : ℕ) (f : ℕ → A) (before : List A) → n ≤ length (over n f before)
 over-long n f before = let own = length-below f n in omega (arith, length-append (below f n) (drop n before))
 
-module _ (v : Version) (b : List ℕ) (ok : headerAs b v ≡ accepted) (c : Contents) where
+module _ (v : Version) (b : List ℕ) (ok : header v b ≡ accepted) (c : Contents) where
   abbrev back : Contents
-  back = laidAs b (nIn b) (mIn b) (eIn b) v c
+  back = laid v b (nIn b) (mIn b) (eIn b) c
 
-  pub held-again : heldAs v back ≡ true
-  held-again = let h = headed v b ok in held-as-of v back (record { sized = search over-long; starts = search over-long; lows = search over-long; highs = search over-long })
+  pub held-again : held v back ≡ true
+  held-again = let h = headed v b ok in held-of v back (record { sized = search over-long; starts = search over-long; lows = search over-long; highs = search over-long })
 
   module _ (small : (i : ℕ) → nat b i < 256) where
     -- the bits of a signed number are the field that it was read from
     bits-back : (width : Width) (w : ℕ) → 256 ^ w ≡ 2 ^ bits width → (k : ℕ) → ofZ width (toZ width (field w k b)) ≡ field w k b
     bits-back width w same k = let f = field-small b small w k in ofZ-toZ {w = width} (record { fits = rw same at f })
 
-    pub rewritten : fileBytesAs v back ≡ b
+    pub rewritten : fileBytes v back ≡ b
     rewritten =
         let h = headed v b ok in
         shown-file v back b small (h .whole) (record {

@@ -4,15 +4,14 @@ use Prim.Native.Nat.{ℕ, _+_, _*_, _<_}
 use native.Mathlib.Omega.{arith}
 use mathlib.Core.List.{List, [], _∷_}
 use mathlib.Core.Path.{_≡_, refl}
-use lib.IntN.{ℤ, pos}
+use lib.IntN.{pos}
 use lib.ListN.{length, getD}
 use mir.Syntax.{w16, w32}
 use mir.Val.{ofZ}
 use mir.Facts.{fits-ofZ}
 use Rattle.paper.specs.Lists.{nat}
 use Rattle.paper.specs.Tables.{Tables}
-use Rattle.paper.specs.File.{Version, headOf, bounded, rowsFrom, entriesFrom, boundsFrom, endsAs, Contents, headBytesAs, fileBytesAs}
-use Rattle.paper.specs.Demands.{FittingAs}
+use Rattle.paper.specs.File.{Version, headOf, bounded, rowsFrom, entriesFrom, boundsFrom, endsAt, Contents, headBytes, fileBytes, Fitting}
 use Rattle.paper.proofs.Written.{startPart, rowPart, entryPart, boundPart, toRows, toEntries, toBounds, starts-place, rows-place, entries-place, bounds-place, file-length}
 use Rattle.paper.proofs.Fields.{Stands, stands-self, stands-end, stands-join, stands-split, Field, Holds, stands-table, table-stands}
 use Rattle.paper.proofs.Heads.{Within, headFields, head-shows, head-stands}
@@ -48,26 +47,25 @@ module _ (v : Version) (c : Contents) where
 
   -- ── from the bytes to the fields, and back ──
   module _ (b : List ℕ) where
-    shows-of : Within n m e → FittingAs v c → Stands b 0 (fileBytesAs v c) → Shows b
-    unfolding fileBytesAs
+    shows-of : Within n m e → Fitting v c → Stands b 0 (fileBytes v c) → Shows b
+    unfolding fileBytes
     shows-of s fit a =
         let (front, bounds) = stands-split b 0 (boundsFrom h n m e) (toBounds v c) (boundPart v c) (bounds-place v c) a in
         let (above, entries) = stands-split b 0 (entriesFrom h n m) (toEntries v c) (entryPart v c) (entries-place v c) front in
         let (top, rows) = stands-split b 0 (rowsFrom h n) (toRows v c) (rowPart v c) (rows-place v c) above in
-        let (head, values) = stands-split b 0 h (headBytesAs v n m e) (startPart v c) (starts-place v c) top in
-        let of = fit .model in
+        let (head, values) = stands-split b 0 h (headBytes v n m e) (startPart v c) (starts-place v c) top in
         record {
           head = head-shows b n m e v s head;
-          start = stands-table b 4 h startFields (λ i. refl) (λ i. omega arith) n (λ i l. (fits-ofZ (of .starts i l) .fits, tt)) values;
+          start = stands-table b 4 h startFields (λ i. refl) (λ i. omega arith) n (λ i l. (fits-ofZ (fit .starts i l) .fits, tt)) values;
           row = stands-table b 12 (rowsFrom h n) rowFields (λ r. refl) (λ r. omega arith) m
-              (λ r l. (of .rows r l .0, (of .rows r l .1, (fits-ofZ (of .rows r l .2) .fits, (of .rows r l .3, (of .rows r l .4, tt)))))) rows;
-          entry = stands-table b 4 (entriesFrom h n m) entryFields (λ i. refl) (λ i. omega arith) e (λ i l. (of .entries i l .0, (fits-ofZ (of .entries i l .1) .fits, tt))) entries;
+              (λ r l. (fit .rows r l .0, (fit .rows r l .1, (fits-ofZ (fit .rows r l .2) .fits, (fit .rows r l .3, (fit .rows r l .4, tt)))))) rows;
+          entry = stands-table b 4 (entriesFrom h n m) entryFields (λ i. refl) (λ i. omega arith) e (λ i l. (fit .entries i l .0, (fits-ofZ (fit .entries i l .1) .fits, tt))) entries;
           bound = stands-table b 8 (boundsFrom h n m e) boundFields (λ i. refl) (λ i. omega arith) (bounded v n)
               (λ i l. (fits-ofZ (fit .bounds i l .0) .fits, (fits-ofZ (fit .bounds i l .1) .fits, tt))) bounds;
         }
 
-    stands-of : ((i : ℕ) → nat b i < 256) → Shows b → Stands b 0 (fileBytesAs v c)
-    unfolding fileBytesAs
+    stands-of : ((i : ℕ) → nat b i < 256) → Shows b → Stands b 0 (fileBytes v c)
+    unfolding fileBytes
     stands-of small a =
         let head = head-stands b n m e v small (a .head) in
         let values = table-stands b 4 h startFields (λ i. refl) (λ i. omega arith) small n (a .start) in
@@ -77,10 +75,10 @@ module _ (v : Version) (c : Contents) where
         stands-join b 0 (boundsFrom h n m e) (toBounds v c) (boundPart v c) (bounds-place v c)
         (stands-join b 0 (entriesFrom h n m) (toEntries v c) (entryPart v c) (entries-place v c)
         (stands-join b 0 (rowsFrom h n) (toRows v c) (rowPart v c) (rows-place v c)
-        (stands-join b 0 h (headBytesAs v n m e) (startPart v c) (starts-place v c) head values) rows) entries) bounds
+        (stands-join b 0 h (headBytes v n m e) (startPart v c) (starts-place v c) head values) rows) entries) bounds
 
-  pub file-shows : Within n m e → FittingAs v c → Shows (fileBytesAs v c)
-  file-shows s fit = shows-of (fileBytesAs v c) s fit (stands-self (fileBytesAs v c))
+  pub file-shows : Within n m e → Fitting v c → Shows (fileBytes v c)
+  file-shows s fit = shows-of (fileBytes v c) s fit (stands-self (fileBytes v c))
 
-  pub shown-file : (b : List ℕ) → ((i : ℕ) → nat b i < 256) → length b ≡ endsAs v n m e → Shows b → fileBytesAs v c ≡ b
-  shown-file b small whole a = let own = file-length v c in stands-end b 0 (fileBytesAs v c) (omega arith) (stands-of b small a)
+  pub shown-file : (b : List ℕ) → ((i : ℕ) → nat b i < 256) → length b ≡ endsAt v n m e → Shows b → fileBytes v c ≡ b
+  shown-file b small whole a = let own = file-length v c in stands-end b 0 (fileBytes v c) (omega arith) (stands-of b small a)

@@ -1,14 +1,12 @@
--- What check 1 says of the tables, and of the start values beside them: each test is an order between two numbers. Assumes nothing.
+-- What check 1 says of the tables, and of what a file is written from or read into: each test is an order between two numbers. Assumes nothing.
 use Prim.Native.Nat.{_≤_}
 use mathlib.Core.Bool.{true, _&&_}
-use mathlib.Core.List.{List}
 use mathlib.Core.Path.{_≡_, ap₂}
-use lib.IntN.{ℤ}
 use lib.ListN.{length}
 use borrow.Author.Tests.{leb-true, le-leb}
 use Rattle.paper.specs.Tables.{Tables}
 use Rattle.paper.specs.Checks.{sized}
-use Rattle.paper.specs.File.{Version, bounded, Contents, held, heldAs}
+use Rattle.paper.specs.File.{Version, bounded, Contents, held}
 use Rattle.paper.proofs.Lists.{and-left, and-right, each, all-yes}
 use Rattle.paper.proofs.Least.{between-in}
 
@@ -32,13 +30,6 @@ module _ (t : Tables) where
   pub sized-of : Sized t → sized t ≡ true
   sized-of s = all-yes _ (search (le-leb, between-in) depth 11)
 
-  module _ (starts : List ℤ) where
-    pub held-facts : held t starts ≡ true → Sized t × (t .n ≤ length starts)
-    held-facts h = search (sized-facts, leb-true, and-left, and-right)
-
-    pub held-of : Sized t → t .n ≤ length starts → held t starts ≡ true
-    held-of s h = ap₂ _&&_ (sized-of s) (le-leb _ _ h)
-
 -- ── what a file of either version asks of the rows ──
 pub record Held (v : Version) (c : Contents) : Type 0 where
   pub sized : Sized (c .tables)
@@ -47,8 +38,8 @@ pub record Held (v : Version) (c : Contents) : Type 0 where
   pub highs : bounded v (c .tables .n) ≤ length (c .highs)
 
 module _ (v : Version) (c : Contents) where
-  pub held-as-facts : heldAs v c ≡ true → Held v c
-  held-as-facts h = search (sized-facts, leb-true, and-left, and-right)
+  pub held-facts : held v c ≡ true → Held v c
+  held-facts h = search (sized-facts, leb-true, and-left, and-right)
 
-  pub held-as-of : Held v c → heldAs v c ≡ true
-  held-as-of s = ap₂ _&&_ (ap₂ _&&_ (le-leb _ _ (s .lows)) (le-leb _ _ (s .highs))) (held-of (c .tables) (c .starts) (s .sized) (s .starts))
+  pub held-of : Held v c → held v c ≡ true
+  held-of s = ap₂ _&&_ (ap₂ _&&_ (le-leb _ _ (s .lows)) (le-leb _ _ (s .highs))) (ap₂ _&&_ (sized-of (c .tables) (s .sized)) (le-leb _ _ (s .starts)))

@@ -20,11 +20,6 @@ same-number e = cc
 pub same-place : {a b c d : ℕ} → refused a b ≡ refused c d → b ≡ d
 same-place e = cc
 
--- a call that is not accepted leaves what it was lent
-pub refused-stays : {A : Type 0} (v : Verdict) (other lent : A) → (v ≡ accepted → ⊥) → leaves v other lent ≡ lent
-refused-stays accepted other lent wrong = absurd (wrong refl)
-refused-stays (refused number place) other lent wrong = refl
-
 -- ── one verdict after another ──
 -- the first where it refuses, else the second
 abbrev pub andThen : Verdict → Verdict → Verdict

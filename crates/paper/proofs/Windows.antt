@@ -140,11 +140,6 @@ module _ (start end headway : ℤ) (above : ltZ (pos 0) headway ≡ true) where
         go (suc k) e b = absurd (true≢false (sym (last-in (omega arith)) ∙ ap inRange b))
 
 -- ── every headway ──
--- the latest of so many times with a test of the range, as LAST was defined before
-abbrev pub testedOf : ℤ → ℤ → ℕ → ℤ
-testedOf start headway zero = blank
-testedOf start headway (suc k) = fit (time start headway k)
-
 module _ (start end headway : ℤ) where
   -- LAST is blank, or lies from the start to before the end
   pub last-lies : (last start end headway ≡ blank) ⊎ Between start (last start end headway) end
@@ -154,15 +149,3 @@ module _ (start end headway : ℤ) where
       go true q n e = inl (no-headway start end headway q .1)
       go false q zero e = inl (last-of start end headway (le-lt headway (pos 0) q) 0 e)
       go false q (suc k) e = inr (last-between start end headway (le-lt headway (pos 0) q) (omega arith))
-
-  -- a test of the range changes nothing: LAST is what it was defined to be with one
-  pub last-untested : inRange start ≡ true → inRange end ≡ true
-      → last start end headway ≡ cond (leZ headway (pos 0)) blank (testedOf start headway (trips start end headway))
-  last-untested from to = go (leZ headway (pos 0)) refl (trips start end headway) refl
-    where
-      go : (b : Bool) → leZ headway (pos 0) ≡ b → (n : ℕ) → trips start end headway ≡ n → cond b blank (lastOf start headway n) ≡ cond b blank (testedOf start headway n)
-      go true q n e = refl
-      go false q zero e = refl
-      go false q (suc k) e =
-          let p = le-lt headway (pos 0) q in let is = some start end headway p k e .0 in
-          ap (λ b. cond b (time start headway k) blank) (sym (ap inRange (sym is) ∙ last-in start end headway p from to (omega arith)))

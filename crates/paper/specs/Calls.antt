@@ -11,10 +11,11 @@ use Rattle.integers.specs.Integers.{eqZ}
 use Rattle.paper.specs.Lists.{every, between, nat, size, over}
 use Rattle.paper.specs.Formula.{blank}
 use Rattle.paper.specs.Net.{Values, Route, input-to-output, output-to-input, mark-guided, new, evaluated, moved, names}
-use Rattle.paper.specs.Tables.{Tables, Index, net, valuesIn, index}
+use Rattle.paper.specs.Tables.{Tables, bare, Index, indexIn, net, valuesIn, index}
 use Rattle.paper.specs.Chains.{permitted, groupNumber, groupOrder, worth, determined, groupsNumbered}
-use Rattle.paper.specs.Checks.{Verdict, accepted, refused, check, require, leaves, sized, Bounds, tableChecks, indexed, startAllowed, storedAllowed, Move, movePairs, moveFits, pairWithin, moveChecks, freshChecks}
+use Rattle.paper.specs.Checks.{Verdict, accepted, refused, check, require, leaves, sized, Bounds, boundsIn, tableChecks, indexed, startAllowed, storedAllowed, Move, movePairs, moveFits, pairWithin, moveChecks, freshChecks}
 use Rattle.paper.specs.Log.{Log, logged, back, logFits, logGood, noted, dropped}
+use Rattle.paper.specs.Reason.{reasonOf, reasonAfter, reasonKept}
 
 -- the session record: moves kept, evaluations of the last accepted call, and how many stored values are blank
 pub record Session : Type 0 where
@@ -84,6 +85,7 @@ pub record BuildLent : Type 0 where
   pub order : List ℕ
   pub stored : List ℤ
   pub index : Index
+  pub reasons : List ℕ
   pub logSizes : List ℕ
 
 pub record BuildLeft : Type 0 where
@@ -93,6 +95,7 @@ pub record BuildLeft : Type 0 where
   pub order : List ℕ
   pub stored : List ℤ
   pub index : Index
+  pub reasons : List ℕ
   pub logSizes : List ℕ
 
 module _ (l : BuildLent) where
@@ -101,7 +104,7 @@ module _ (l : BuildLent) where
       sized t
       && every (
       leb (t .n) (length (l .starts)) ∷ leb (t .n) (length (l .numbers)) ∷ leb (t .m) (length (l .order)) ∷ leb (t .n) (length (l .stored)) ∷ indexFits t (l .index)
-      ∷ leb 65 (length (l .logSizes)) ∷ boundsFit t (l .bounds) ∷ [])
+      ∷ leb 65 (length (l .logSizes)) ∷ boundsFit t (l .bounds) ∷ leb (t .n) (length (l .reasons)) ∷ [])
 
   abbrev pub startValues : Values
   startValues = valuesIn (l .tables) (l .starts)
@@ -119,11 +122,16 @@ module _ (l : BuildLent) where
     order = leaves v (groupOrder t ++ drop (t .m) (l .order)) (l .order);
     stored = leaves v (over (t .n) (worth t startValues) (l .stored)) (l .stored);
     index = leaves v (index t (l .index)) (l .index);
+    reasons = leaves v (over (t .n) (λ u. reasonOf t u (worth t startValues)) (l .reasons)) (l .reasons);
     logSizes = leaves v (set (l .logSizes) 0 0) (l .logSizes);
   }
 
   unfoldable pub build : BuildLeft
   build = buildLeaves buildVerdict
+
+  -- everything but the answer as it was lent; so for the other calls
+  abbrev pub buildAsWas : Answer → BuildLeft
+  buildAsWas a = record { answer = a; session = l .session; numbers = l .numbers; order = l .order; stored = l .stored; index = l .index; reasons = l .reasons; logSizes = l .logSizes }
 
 -- ── trial, keep and taking back: the model as it is lent to each ──
 pub record Model : Type 0 where
@@ -133,11 +141,25 @@ pub record Model : Type 0 where
   pub order : List ℕ
   pub stored : List ℤ
   pub index : Index
+  pub reasons : List ℕ
+
+-- a model without what its lent rows hold beyond the counts; the stored values and reasons are whole, since calls write them
+abbrev pub upToCounts : Model → Model
+upToCounts w = let n = w .tables .n in record {
+  tables = bare (w .tables);
+  bounds = boundsIn (take n (w .bounds .lows)) (take n (w .bounds .highs));
+  numbers = take n (w .numbers);
+  order = take (w .tables .m) (w .order);
+  stored = w .stored;
+  index = indexIn (take (suc n) (w .index .starts)) (take (w .tables .e) (w .index .places));
+  reasons = w .reasons;
+}
 
 module _ (w : Model) where
   abbrev pub modelFits : Bool
   modelFits = let t = w .tables in
-      sized t && every (leb (t .n) (length (w .numbers)) ∷ leb (t .m) (length (w .order)) ∷ leb (t .n) (length (w .stored)) ∷ indexFits t (w .index) ∷ boundsFit t (w .bounds) ∷ [])
+      sized t && every (leb (t .n) (length (w .numbers)) ∷ leb (t .m) (length (w .order)) ∷ leb (t .n) (length (w .stored)) ∷ indexFits t (w .index) ∷ boundsFit t (w .bounds)
+      ∷ leb (t .n) (length (w .reasons)) ∷ [])
 
   abbrev pub storedValues : Values
   storedValues = valuesIn (w .tables) (w .stored)
@@ -153,7 +175,7 @@ module _ (w : Model) where
   changeChecks mv next = moveChecks mv (w .tables) (check 17 (mv .pairs) (pairWithin mv (w .bounds)) next)
 
 -- ── trial ──
-pub record Tried : Type 0 where
+pub record TrialLent : Type 0 where
   pub move : Move
   pub asked : ℕ
   pub askedVars : List ℕ
@@ -161,9 +183,10 @@ pub record Tried : Type 0 where
   pub results : List ℤ
   pub trial : List ℤ
   pub flags : List ℕ
+  pub why : List ℕ
 
 -- the variables asked, and nothing of the lent row beyond them
-abbrev pub askedList : Tried → List ℕ
+abbrev pub askedList : TrialLent → List ℕ
 askedList c = take (c .asked) (c .askedVars)
 
 abbrev pub routeOf : ℕ → Route
@@ -175,13 +198,20 @@ pub record TrialLeft : Type 0 where
   pub results : List ℤ
   pub trial : List ℤ
   pub flags : List ℕ
+  pub why : List ℕ
 
-module _ (w : Model) (c : Tried) where
+module _ (w : Model) (c : TrialLent) where
   abbrev pub trialFits : Bool
   trialFits = let n = w .tables .n in
       every (
       modelFits w ∷ moveFits (c .move) ∷ leb (c .asked) 32 ∷ leb (c .asked) (length (c .askedVars))
-      ∷ leb (c .asked) (length (c .results)) ∷ leb n (length (c .trial)) ∷ leb n (length (c .flags)) ∷ [])
+      ∷ leb (c .asked) (length (c .results)) ∷ leb n (length (c .trial)) ∷ leb n (length (c .flags)) ∷ leb (c .asked) (length (c .why)) ∷ [])
+
+  -- the reason of every variable asked; the stored one of a variable that is not evaluated
+  abbrev pub askedReasons : List ℕ → List ℕ
+  askedReasons =
+      let t = w .tables in let old = storedValues w in let r = routeOf (c .route) in let mv = movePairs (c .move) in let asked = askedList c in
+      over (c .asked) (λ i. reasonAfter t (evaluates t old r mv asked) (newValues t old r mv asked) (nat (w .reasons)) (nat (c .askedVars) i))
 
   abbrev pub trialLeaves : Session → Verdict → TrialLeft
   trialLeaves s v =
@@ -193,23 +223,27 @@ module _ (w : Model) (c : Tried) where
         results = leaves v (over (c .asked) (λ i. newValues t old r mv asked (nat (c .askedVars) i)) (c .results)) (c .results);
         trial = leaves v (trialRow t old r mv asked (c .trial)) (c .trial);
         flags = leaves v (flagRow t old r mv asked (c .flags)) (c .flags);
+        why = leaves v (askedReasons (c .why)) (c .why);
       }
 
-unfoldable pub trialVerdict : Session → Model → Tried → Verdict
+unfoldable pub trialVerdict : Session → Model → TrialLent → Verdict
 trialVerdict s w c = let t = w .tables in
     require 1 0 (trialFits w c) (modelChecks w (s .blanks) (require 9 0 (between 1 (c .route) 3)
     (changeChecks w (c .move) (check 13 (c .asked) (λ i. ltb (nat (c .askedVars) i) (t .n)) (freshChecks t (storedValues w) (c .move))))))
 
-unfoldable pub trial : Session → Model → Tried → TrialLeft
+unfoldable pub trial : Session → Model → TrialLent → TrialLeft
 trial s w c = trialLeaves w c s (trialVerdict s w c)
 
+abbrev pub trialAsWas : Session → TrialLent → Answer → TrialLeft
+trialAsWas s c a = record { answer = a; session = s; results = c .results; trial = c .trial; flags = c .flags; why = c .why }
+
 -- ── keep: by route 1, with nothing asked ──
-pub record Kept : Type 0 where
+pub record KeepLent : Type 0 where
   pub move : Move
   pub flags : List ℕ
 
--- what a move leaves by that route over stored values: the evaluations, how many are then blank, the stored values and the flags
-module _ (t : Tables) (stored : List ℤ) (c : Kept) where
+-- what a move leaves by that route over stored values: the evaluations, how many are then blank, the stored values, the flags and the reasons
+module _ (t : Tables) (stored : List ℤ) (c : KeepLent) where
   abbrev pub keptCount : ℕ
   keptCount = size (evaluates t (valuesIn t stored) input-to-output (movePairs (c .move)) []) (t .n)
 
@@ -222,28 +256,39 @@ module _ (t : Tables) (stored : List ℤ) (c : Kept) where
   abbrev pub keptFlags : List ℕ
   keptFlags = flagRow t (valuesIn t stored) input-to-output (movePairs (c .move)) [] (c .flags)
 
+  -- the reason of every variable: the stored one of a variable that is not evaluated, and 0 for a search variable
+  abbrev pub keptReasons : List ℕ → List ℕ
+  keptReasons reasons = let old = valuesIn t stored in let mv = movePairs (c .move) in
+      over (t .n) (reasonKept t (evaluates t old input-to-output mv []) (newValues t old input-to-output mv []) (nat reasons)) reasons
+
 -- what keep and taking back leave
 pub record KeepLeft : Type 0 where
   pub answer : Answer
   pub session : Session
   pub stored : List ℤ
+  pub reasons : List ℕ
   pub flags : List ℕ
   pub log : Log
 
 -- after an accepted call by a move, with that number kept and that log; as it was after a refused one
-abbrev pub moveLeaves : Session → Log → Model → Kept → ℕ → Log → Verdict → KeepLeft
+abbrev pub moveLeaves : Session → Log → Model → KeepLent → ℕ → Log → Verdict → KeepLeft
 moveLeaves s l w c number log v = let t = w .tables in let count = keptCount t (w .stored) c in record {
   answer = answered v count;
   session = leaves v (record { kept = number; evaluations = count; blanks = keptBlanks t (w .stored) c }) s;
   stored = leaves v (keptStored t (w .stored) c) (w .stored);
+  reasons = leaves v (keptReasons t (w .stored) c (w .reasons)) (w .reasons);
   flags = leaves v (keptFlags t (w .stored) c) (c .flags);
   log = leaves v log l;
 }
 
-abbrev pub keepFits : Log → Model → Kept → Bool
+-- of keep and of taking back; the flags are those lent
+abbrev pub keepAsWas : Session → Log → Model → List ℕ → Answer → KeepLeft
+keepAsWas s l w flags a = record { answer = a; session = s; stored = w .stored; reasons = w .reasons; flags = flags; log = l }
+
+abbrev pub keepFits : Log → Model → KeepLent → Bool
 keepFits l w c = every (modelFits w ∷ moveFits (c .move) ∷ leb (w .tables .n) (length (c .flags)) ∷ logFits l ∷ [])
 
-module _ (s : Session) (l : Log) (w : Model) (c : Kept) where
+module _ (s : Session) (l : Log) (w : Model) (c : KeepLent) where
   unfoldable pub keepVerdict : Verdict
   keepVerdict = let t = w .tables in
       require 1 0 (keepFits l w c) (modelChecks w (s .blanks) (changeChecks w (c .move) (require 16 0 (logGood l t (w .bounds) (s .kept))
@@ -257,21 +302,24 @@ module _ (s : Session) (l : Log) (w : Model) (c : Kept) where
   keep = keepLeaves keepVerdict
 
 -- ── taking back the latest kept move: its variables get the values before it, by route 1 ──
-abbrev pub latest : Log → List ℕ → Kept
-latest l flags = record { move = back l (pred (logged l)); flags = flags }
+pub record TakeLent : Type 0 where
+  pub flags : List ℕ
 
-abbrev pub takeFits : Log → Model → List ℕ → Bool
-takeFits l w flags = every (modelFits w ∷ leb (w .tables .n) (length flags) ∷ logFits l ∷ [])
+abbrev pub latest : Log → TakeLent → KeepLent
+latest l c = record { move = back l (pred (logged l)); flags = c .flags }
 
-module _ (s : Session) (l : Log) (w : Model) (flags : List ℕ) where
+abbrev pub takeFits : Log → Model → TakeLent → Bool
+takeFits l w c = every (modelFits w ∷ leb (w .tables .n) (length (c .flags)) ∷ logFits l ∷ [])
+
+module _ (s : Session) (l : Log) (w : Model) (c : TakeLent) where
   unfoldable pub takeVerdict : Verdict
   takeVerdict = let t = w .tables in
-      require 1 0 (takeFits l w flags) (modelChecks w (s .blanks) (require 16 0 (logGood l t (w .bounds) (s .kept)) (require 15 0 (ltb 0 (logged l))
-      (freshChecks t (storedValues w) (latest l flags .move)))))
+      require 1 0 (takeFits l w c) (modelChecks w (s .blanks) (require 16 0 (logGood l t (w .bounds) (s .kept)) (require 15 0 (ltb 0 (logged l))
+      (freshChecks t (storedValues w) (latest l c .move)))))
 
   -- one move kept fewer unless the number stands at its ceiling, and the log is without it
   abbrev pub takeLeaves : Verdict → KeepLeft
-  takeLeaves = moveLeaves s l w (latest l flags) (cond (ltb (s .kept) 4294967295) (pred (s .kept)) (s .kept)) (dropped l)
+  takeLeaves = moveLeaves s l w (latest l c) (cond (ltb (s .kept) 4294967295) (pred (s .kept)) (s .kept)) (dropped l)
 
   unfoldable pub takeBack : KeepLeft
   takeBack = takeLeaves takeVerdict

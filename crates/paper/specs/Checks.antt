@@ -10,8 +10,8 @@ use lib.ListN.{length, getD, take}
 use Rattle.integers.specs.Integers.{eqZ}
 use Rattle.paper.specs.Lists.{any, all, every, between, total, nat, firstFail, joined, allBelow, below}
 use Rattle.paper.specs.Formula.{blank, inRange}
-use Rattle.paper.specs.Net.{Values, number, moved}
-use Rattle.paper.specs.Tables.{Tables, Index, part, isMade, net, ends, order, readers, readersStart}
+use Rattle.paper.specs.Net.{Values, moved}
+use Rattle.paper.specs.Tables.{Tables, Index, part, isMade, net, ends, readers, readersStart}
 use Rattle.paper.specs.Chains.{determined, storedFresh}
 
 pub data Verdict : Type 0 where
@@ -128,14 +128,7 @@ module _ (t : Tables) where
   abbrev pub storedAllowed : Bounds → Values → ℕ → Bool
   storedAllowed b old v = storedGood old v && inBounds b old v
 
-  -- 8 where no chain of inputs closes: each ends, and the lent numbers and order are what build gives
-  abbrev pub numbered : List ℕ → List ℕ → Bool
-  numbered nums ord =
-      every (
-      allBelow (ends t) (t .n) ∷ allBelow (λ v. eqb (nat nums v) (number (net t) (t .n) v)) (t .n)
-      ∷ allBelow (λ i. eqb (nat ord i) (nat (order t) i)) (t .m) ∷ [])
-
-  -- 8: and so is the lent index, as far as build fills it
+  -- 8: the lent index is what build gives, as far as build fills it
   abbrev pub indexed : Index → Bool
   indexed x =
       every (

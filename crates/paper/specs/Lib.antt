@@ -2,14 +2,12 @@ pub mod Lists
 pub mod Formula
 pub mod Net
 pub mod Tables
+pub mod Straight
 pub mod Chains
 pub mod Permitted
-pub mod Reason
 pub mod Checks
 pub mod Log
+pub mod Reason
 pub mod Calls
-pub mod Reasoned
 pub mod File
 pub mod Moves
-pub mod Demands
-pub mod ReasonRuns

@@ -1,12 +1,30 @@
--- Two moves: no variable in common, and one move of all the pairs of both. Assumes nothing.
+-- Moves kept one after the other, and the values worked out afresh with them; two moves with no variable in common, and one move of all the pairs of both.
+-- Assumes nothing.
 use Prim.Native.Nat.{ℕ, _+_, _≤_, _<_}
 use mathlib.Core.Logic.{_⊎_}
-use mathlib.Core.List.{_++_}
+use mathlib.Core.List.{List, [], _∷_, _++_}
 use mathlib.Core.Path.{_≡_}
 use lib.IntN.{ℤ, pos}
 use lib.ListN.{length, getD, take}
 use Rattle.paper.specs.Lists.{nat}
+use Rattle.paper.specs.Net.{Values, moved}
 use Rattle.paper.specs.Checks.{Move}
+
+-- ── moves kept and not taken back, the latest first ──
+abbrev pub Moves : Type 0
+Moves = List (List (ℕ × ℤ))
+
+-- without the latest
+abbrev pub rest : Moves → Moves
+rest [] = []
+rest (mv ∷ earlier) = earlier
+
+-- start values with the moves applied, from the last of the list to its head
+abbrev pub applied : Values → Moves → Values
+applied s [] = s
+applied s (mv ∷ earlier) = moved mv (applied s earlier)
+
+-- ── two moves ──
 
 -- the pair at a place of a move
 abbrev pub pairAt : Move → ℕ → ℕ × ℤ

@@ -55,13 +55,6 @@ pub data Route : Type 0 where
   input-to-output output-to-input mark-guided : Route
 
 module _ (N : Net) where
-  -- ── topological numbers: 0 at search variables, 1 plus the greatest of the inputs' at made ones ──
-  abbrev pub numbering : Rule ℕ
-  numbering f v = cond (N .made v) (suc (greatest (map f (N .ins v)))) zero
-
-  abbrev pub number : ℕ → ℕ → ℕ
-  number = runs numbering (λ v. zero)
-
   -- ── values worked out afresh from the search variables' values s ──
   abbrev pub valuation : Values → Rule ℤ
   valuation s f v = cond (N .made v) (N .form v f) (s v)

@@ -1,5 +1,5 @@
 -- Chains of inputs link by link, with what each passes through, and what the test of a variable's closed chains says of them. Assumes nothing.
-use Prim.Native.Nat.{ℕ}
+use Prim.Native.Nat.{ℕ, _<_}
 use mathlib.Core.Bool.{Bool, true, false, _||_}
 use mathlib.Core.List.{List, List·Memᴰ}
 use mathlib.Core.Logic.{_⊎_}
@@ -36,3 +36,20 @@ module _ (t : Tables) where
   pub record PermittedExactly (v : ℕ) : Type 0 where
     pub each : permitted t v ≡ true → (c x : Bool) → Chain v v c x → (c ≡ true) × (x ≡ false)
     pub some : permitted t v ≡ false → (c : Bool) × (x : Bool) × Chain v v c x × ((c ≡ false) ⊎ (x ≡ true))
+
+-- v is on a closed chain that is not permitted: it passes through no candidate, or through an index. A closed chain may begin at any of its variables
+pub record Barred (t : Tables) (v : ℕ) : Type 0 where
+  pub candidate : Bool
+  pub index : Bool
+  pub chain : Chain t v v candidate index
+  pub barred : (candidate ≡ false) ⊎ (index ≡ true)
+
+-- some closed chain is not permitted
+abbrev pub Circular : Tables → Type 0
+Circular t = (v : ℕ) × Barred t v
+
+-- the least variable of which something holds
+pub record LeastOf (n : ℕ) (holds : ℕ → Type 0) (place : ℕ) : Type 0 where
+  pub low : place < n
+  pub here : holds place
+  pub before : (v : ℕ) → v < place → holds v → ⊥

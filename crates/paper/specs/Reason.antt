@@ -3,15 +3,17 @@
 use Prim.Native.Nat.{ℕ}
 use mathlib.Core.Bool.{Bool, true, false, cond, not, _&&_, _||_}
 use mathlib.Core.List.{List, [], _∷_, map}
-use lib.IntN.{ℤ, pos, negsuc}
+use mathlib.Core.Path.{_≡_}
+use lib.IntN.{ℤ, pos, negsuc, _+ℤ_, _-ℤ_}
 use lib.Dec.{eqb, ltb}
-use lib.Signed.{leZ}
+use lib.Signed.{ltZ, leZ}
 use lib.ListN.{length, getD}
 use Rattle.integers.specs.Integers.{eqZ}
-use Rattle.paper.specs.Lists.{all, nat}
-use Rattle.paper.specs.Formula.{blank, someBlank, pick, trips, inputAt, formula}
+use Rattle.paper.specs.Lists.{any, all, between, nat}
+use Rattle.paper.specs.Formula.{blank, inRange, someBlank, sum, pick, trips, inputAt, formula}
 use Rattle.paper.specs.Net.{Values}
 use Rattle.paper.specs.Tables.{Tables, part, rowOf, isMade, inputsOf}
+use Rattle.paper.specs.Checks.{arity}
 
 -- ── 4: a blank input stopped it ──
 abbrev pub allBlank : List ℤ → Bool
@@ -67,3 +69,29 @@ reasonAfter t evaluated f stored v = cond (evaluated v) (reasonOf t v f) (stored
 -- as a call stores it: 0 for a search variable
 abbrev pub reasonKept : Tables → (ℕ → Bool) → Values → (ℕ → ℕ) → ℕ → ℕ
 reasonKept t evaluated f stored v = cond (isMade t v) (reasonAfter t evaluated f stored v) 0
+
+-- ── when each is given ──
+-- inputs as a row has them: of a known kind, as many as it takes, each a value or blank
+pub record RowInputs (kind : ℕ) (xs : List ℤ) : Type 0 where
+  pub known : between 1 kind 9 ≡ true
+  pub many : arity kind (length xs) ≡ true
+  pub each : all (λ x. inRange x || eqZ x blank) xs ≡ true
+
+-- the exact result of LINEAR, OVER and DEPARTURES, which alone are judged against the range
+abbrev pub exactResult : ℕ → ℤ → List ℤ → List ℤ → ℤ
+exactResult kind param coefs xs =
+    let a = inputAt xs 0 in let b = inputAt xs 1 in
+    cond (eqb kind 1) (param +ℤ sum coefs xs) (cond (eqb kind 7) (cond (ltZ b a) (a -ℤ b) (pos 0)) (pos (trips a b (inputAt xs 2))))
+
+abbrev pub leavesRange : ℕ → ℤ → List ℤ → List ℤ → Bool
+leavesRange kind param coefs xs = any (eqb kind) (1 ∷ 7 ∷ 8 ∷ []) && not (inRange (exactResult kind param coefs xs))
+
+-- each reason is given exactly if its sentence holds, and none of those that come before it: 4, 3, 2, 5, 1
+pub record ReasonRight (kind : ℕ) (param : ℤ) (coefs xs : List ℤ) : Type 0 where
+  pub has-value : eqb (reason kind param coefs xs) 0 ≡ not (eqZ (formula kind param coefs xs) blank)
+  pub blank-input : eqb (reason kind param coefs xs) 4 ≡ stopped kind xs
+  pub headway : eqb (reason kind param coefs xs) 3 ≡ (not (stopped kind xs) && headwayBad kind xs)
+  pub index : eqb (reason kind param coefs xs) 2 ≡ (not (stopped kind xs) && (not (headwayBad kind xs) && indexOutside kind xs))
+  pub departures : eqb (reason kind param coefs xs) 5 ≡ (not (stopped kind xs) && (not (headwayBad kind xs) && (not (indexOutside kind xs) && noDepartures kind xs)))
+  pub range : eqb (reason kind param coefs xs) 1
+      ≡ (not (stopped kind xs) && (not (headwayBad kind xs) && (not (indexOutside kind xs) && (not (noDepartures kind xs) && leavesRange kind param coefs xs))))

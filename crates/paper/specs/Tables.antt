@@ -7,7 +7,7 @@ use lib.Dec.{eqb, leb, ltb}
 use lib.ListN.{length, getD, take, drop}
 use Rattle.paper.specs.Lists.{any, every, nat, seek, those, joined, over}
 use Rattle.paper.specs.Formula.{formula, looked}
-use Rattle.paper.specs.Net.{Net, Values, able, number}
+use Rattle.paper.specs.Net.{Net, Values, able}
 
 -- n variables, m rows and e entries: one lent row for each field
 pub record Tables : Type 0 where
@@ -25,6 +25,10 @@ pub record Tables : Type 0 where
 abbrev pub lent : ℕ → ℕ → ℕ → List ℕ → List ℕ → List ℤ → List ℕ → List ℕ → List ℕ → List ℤ → Tables
 lent n m e kinds makes params firsts counts vars coefs =
     record { n = n; m = m; e = e; kinds = kinds; makes = makes; params = params; firsts = firsts; counts = counts; vars = vars; coefs = coefs }
+
+-- tables without what their rows hold beyond the counts
+abbrev pub bare : Tables → Tables
+bare t = let m = t .m in let e = t .e in lent (t .n) m e (take m (t .kinds)) (take m (t .makes)) (take m (t .params)) (take m (t .firsts)) (take m (t .counts)) (take e (t .vars)) (take e (t .coefs))
 
 -- the part of a row, for a caller who asks: its first entry and how many it has; 0 and 0 if there is no such row or its part ends after e
 abbrev pub partAsked : ℕ → ℕ → List ℕ → List ℕ → List ℕ → ℕ → ℕ × ℕ
@@ -68,7 +72,7 @@ module _ (t : Tables) where
   abbrev pub valuesIn : List ℤ → Values
   valuesIn l v = getD (take (t .n) l) v (pos 0)
 
-  -- ── the order, where no chain of inputs closes ──
+  -- ── chains and levels ──
   -- every chain of inputs down from v ends
   abbrev pub ends : ℕ → Bool
   ends = able inputsOf (t .n)
@@ -79,10 +83,6 @@ module _ (t : Tables) where
 
   abbrev pub levels : (ℕ → ℕ) → ℕ → List ℕ
   levels num = joined (λ d. level num d (t .m))
-
-  -- the rows by the number of the variable made, ties by row number
-  abbrev pub order : List ℕ
-  order = levels (number net (t .n)) (suc (t .n))
 
   -- ── the readers of a variable ──
   abbrev pub reads : ℕ → ℕ → Bool

@@ -19,20 +19,17 @@ use Rattle.paper.specs.Formula.{blank}
 use Rattle.paper.specs.Net.{Values, runs, afresh}
 use Rattle.paper.specs.Tables.{Tables, net, isMade, inputsOf, rowOf, formOf, valuesIn}
 use Rattle.paper.specs.Chains.{groupNumber, worth}
-use Rattle.paper.specs.Checks.{Verdict, accepted, refused, require, leaves, Sound}
+use Rattle.paper.specs.Checks.{Verdict, accepted, refused, leaves, Sound}
 use Rattle.paper.specs.Reason.{reasonOf}
-use Rattle.paper.specs.Calls.{BuildLent, BuildLeft, buildVerdict, buildLeaves, startValues}
-use Rattle.paper.specs.Reasoned.{Reasoned, withReasons, reasonsFit, builtReasons, buildReasoned}
-use Rattle.paper.specs.File.{version1, Contents, unboundedContents, countedAs, column, nIn, mIn, eIn, startsIn, laidAs, readVerdictAs, read}
+use Rattle.paper.specs.Calls.{BuildLent, BuildLeft, buildVerdict, buildLeaves, build, startValues}
+use Rattle.paper.specs.File.{version1, Contents, counted, column, nIn, mIn, eIn, startsFrom, laid, readVerdict, read}
 use Rattle.paper.proofs.Buffers.{over-at}
 use Rattle.paper.proofs.Accept.{sound-row, made-row}
 use Rattle.paper.proofs.Sizes.{sized-facts}
 use Rattle.paper.proofs.Groups.{group-le}
 use Rattle.paper.proofs.Known.{BuildKnown, build-known}
-use Rattle.paper.proofs.Verdicts.{require-rest}
 use Rattle.paper.proofs.Reason.{at-most-5}
 use Rattle.paper.proofs.Ranges.{good, formula-good}
-use Rattle.text.specs.Lines.{refusal}
 use Rattle.text.proofs.Lengths.{lines-length, refusal-length}
 use Rattle.report.specs.Printed.{lentForFile, ofTables, ofRead, ofFile, FileLeft, unbuilt, empty, said, textOf, printed}
 
@@ -95,11 +92,11 @@ reason-low t v f = go (isMade t v) _ (at-most-5 _ _ _ (map f (inputsOf t v)))
     go false r h = omega arith
 
 -- ── the text of what build leaves ──
-module _ (reasons : Bool) (b : BuildLent) (row : List ℕ) (from : (v : ℕ) → v < b .tables .n → good (getD (b .starts) v (pos 0)) ≡ true) where
-  abbrev text : Reasoned BuildLeft → List ℕ
-  text x = let left = x .left in said reasons (left .answer) (b .tables .n) (left .numbers) (left .stored) (x .reasons)
+module _ (reasons : Bool) (b : BuildLent) (from : (v : ℕ) → v < b .tables .n → good (getD (b .starts) v (pos 0)) ≡ true) where
+  abbrev text : BuildLeft → List ℕ
+  text left = said reasons (left .answer) (b .tables .n) (left .numbers) (left .stored) (left .reasons)
 
-  listed : BuildKnown b → length (text (withReasons (buildLeaves b accepted) (builtReasons b row))) ≤ 90112
+  listed : BuildKnown b → length (text (buildLeaves b accepted)) ≤ 90112
   listed k =
       let t = b .tables in
       let numbers = groupNumber t in
@@ -109,41 +106,41 @@ module _ (reasons : Bool) (b : BuildLent) (row : List ℕ) (from : (v : ℕ) →
       lines-length reasons (t .n) _ _ _ most
       (λ v l. let e = over-at numbers (t .n) (b .numbers) v 0 l in let h = group-le t v in omega arith)
       (λ v l. rw (over-at values (t .n) (b .stored) v (pos 0) l) (good-near (values v) (afresh-good t (k .sound) (startValues b) (values-good t (b .starts) from) (t .n) v)))
-      (λ v l. let e = over-at whys (t .n) row v 0 l in let h = reason-low t v values in omega arith)
+      (λ v l. let e = over-at whys (t .n) (b .reasons) v 0 l in let h = reason-low t v values in omega arith)
 
-  built-length : length (text (buildReasoned b row)) ≤ 90112
-  unfolding buildReasoned
-  built-length = go (require 1 0 (reasonsFit (b .tables) row) (buildVerdict b)) refl
+  built-length : length (text (build b)) ≤ 90112
+  unfolding build
+  built-length = go (buildVerdict b) refl
     where
-      go : (u : Verdict) → require 1 0 (reasonsFit (b .tables) row) (buildVerdict b) ≡ u → length (text (withReasons (buildLeaves b u) (leaves u (builtReasons b row) row))) ≤ 90112
-      go accepted e = listed (build-known b (require-rest 1 0 (reasonsFit (b .tables) row) _ e))
+      go : (u : Verdict) → buildVerdict b ≡ u → length (text (buildLeaves b u)) ≤ 90112
+      go accepted e = listed (build-known b e)
       go (refused number place) e = let h = refusal-length number place in omega arith
 
 -- ── the text of a file ──
-module _ (reasons : Bool) (file : List ℕ) (t₀ : Tables) (starts₀ : List ℤ) (numbers : List ℕ) (stored : List ℤ) (row : List ℕ) where
-  read-length : length (textOf reasons (ofRead numbers stored row (read file t₀ starts₀))) ≤ 90112
+module _ (reasons : Bool) (file : List ℕ) (c₀ : Contents) (numbers : List ℕ) (stored : List ℤ) (row : List ℕ) where
+  read-length : length (textOf reasons (ofRead numbers stored row (read version1 file c₀))) ≤ 90112
   unfolding ofTables
-  read-length = go (readVerdictAs version1 file (unboundedContents t₀ starts₀))
+  read-length = go (readVerdict version1 file c₀)
     where
       n : ℕ
       n = nIn file
 
-      from : (v : ℕ) → v < n → good (getD (startsIn file n (mIn file) (eIn file) starts₀) v (pos 0)) ≡ true
-      from v l = ap good (over-at (λ u. toZ w32 (column file 4 24 4 u)) n starts₀ v (pos 0) l) ∙ bits-good (column file 4 24 4 v)
+      from : (v : ℕ) → v < n → good (getD (startsFrom file 24 n (mIn file) (eIn file) (c₀ .starts)) v (pos 0)) ≡ true
+      from v l = ap good (over-at (λ u. toZ w32 (column file 4 24 4 u)) n (c₀ .starts) v (pos 0) l) ∙ bits-good (column file 4 24 4 v)
 
       after : Verdict → Contents
-      after u = leaves u (laidAs file (nIn file) (mIn file) (eIn file) version1 (unboundedContents t₀ starts₀)) (countedAs 0 0 0 (unboundedContents t₀ starts₀))
+      after u = leaves u (laid version1 file (nIn file) (mIn file) (eIn file) c₀) (counted 0 0 0 c₀)
 
-      go : (u : Verdict) → length (textOf reasons (ofRead numbers stored row (u, (after u .tables, after u .starts)))) ≤ 90112
-      go accepted = built-length reasons (lentForFile _ _ numbers stored) row from
+      go : (u : Verdict) → length (textOf reasons (ofRead numbers stored row (u, after u))) ≤ 90112
+      go accepted = built-length reasons (lentForFile _ _ numbers stored row) from
       go (refused number place) = let h = refusal-length number place in omega arith
 
 pub printed-length : (reasons : Bool) (file : List ℕ) → length (printed reasons file) ≤ 98304
 unfolding printed ofFile
-printed-length reasons file = go (ltb 65536 (length file)) (read-length reasons file empty (replicate 4096 (pos 0)) (replicate 4096 0) (replicate 4096 (pos 0)) (replicate 4096 0))
+printed-length reasons file = go (ltb 65536 (length file)) (read-length reasons file empty (replicate 4096 0) (replicate 4096 (pos 0)) (replicate 4096 0))
   where
     left : FileLeft
-    left = ofRead (replicate 4096 0) (replicate 4096 (pos 0)) (replicate 4096 0) (read file empty (replicate 4096 (pos 0)))
+    left = ofRead (replicate 4096 0) (replicate 4096 (pos 0)) (replicate 4096 0) (read version1 file empty)
 
     go : (b : Bool) → length (textOf reasons left) ≤ 90112
         → length (textOf reasons (cond b (unbuilt (replicate 4096 0) (replicate 4096 (pos 0)) (replicate 4096 0) 1 0) left)) ≤ 98304

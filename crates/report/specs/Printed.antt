@@ -7,9 +7,8 @@ use lib.IntN.{ℤ, pos}
 use lib.ListN.{length, replicate}
 use Rattle.paper.specs.Tables.{Tables, lent, indexIn}
 use Rattle.paper.specs.Checks.{Verdict, accepted, refused, boundsIn, lowest, highest}
-use Rattle.paper.specs.Calls.{Answer, Accepted, Refused, BuildLent}
-use Rattle.paper.specs.Reasoned.{buildReasoned}
-use Rattle.paper.specs.File.{read}
+use Rattle.paper.specs.Calls.{Answer, Accepted, Refused, BuildLent, build}
+use Rattle.paper.specs.File.{version1, Contents, unboundedContents, read}
 use Rattle.records.specs.Left.{answerIn}
 use Rattle.text.specs.Lines.{lines, refusal}
 use Rattle.report.specs.declared.Built.{Built}
@@ -23,14 +22,16 @@ pub record FileLeft : Type 0 where
   pub reasons : List ℕ
 
 -- the rows of zeros that a file is laid over
-abbrev pub empty : Tables
+abbrev pub empty : Contents
 empty =
-    lent 0 0 0 (replicate 4096 0) (replicate 4096 0) (replicate 4096 (pos 0)) (replicate 4096 0) (replicate 4096 0)
-    (replicate 16384 0) (replicate 16384 (pos 0))
+    unboundedContents
+    (lent 0 0 0 (replicate 4096 0) (replicate 4096 0) (replicate 4096 (pos 0)) (replicate 4096 0) (replicate 4096 0)
+    (replicate 16384 0) (replicate 16384 (pos 0)))
+    (replicate 4096 (pos 0))
 
--- what build is lent: the tables and start values that a file held, full bounds, rows for numbers and values, and else rows of zeros to fill
-abbrev pub lentForFile : Tables → List ℤ → List ℕ → List ℤ → BuildLent
-lentForFile t starts numbers stored = record {
+-- what build is lent: the tables and start values that a file held, full bounds, rows for numbers, values and reasons, and else rows of zeros to fill
+abbrev pub lentForFile : Tables → List ℤ → List ℕ → List ℤ → List ℕ → BuildLent
+lentForFile t starts numbers stored reasons = record {
   session = record { kept = 0; evaluations = 0; blanks = 0 };
   tables = t;
   bounds = boundsIn (replicate 4096 lowest) (replicate 4096 highest);
@@ -39,6 +40,7 @@ lentForFile t starts numbers stored = record {
   order = replicate 4096 0;
   stored = stored;
   index = indexIn (replicate 4097 0) (replicate 16384 0);
+  reasons = reasons;
   logSizes = replicate 65 0;
 }
 
@@ -47,22 +49,21 @@ module _ (numbers : List ℕ) (stored : List ℤ) (reasons : List ℕ) where
   -- of tables and start values: what build leaves of them
   unfoldable pub ofTables : Tables → List ℤ → FileLeft
   ofTables t starts =
-      let built = buildReasoned (lentForFile t starts numbers stored) reasons in
-      let left = built .left in
-      record { answer = left .answer; n = t .n; numbers = left .numbers; stored = left .stored; reasons = built .reasons }
+      let left = build (lentForFile t starts numbers stored reasons) in
+      record { answer = left .answer; n = t .n; numbers = left .numbers; stored = left .stored; reasons = left .reasons }
 
   -- of a file that is not built: the refusal, and the rows as they were
   abbrev pub unbuilt : ℕ → ℕ → FileLeft
   unbuilt number place = record { answer = Refused number place; n = 0; numbers = numbers; stored = stored; reasons = reasons }
 
   -- of what reading gave: the refusal, or what build leaves of what the file held
-  abbrev pub ofRead : Verdict × (Tables × List ℤ) → FileLeft
-  ofRead (accepted, (t, starts)) = ofTables t starts
-  ofRead (refused number place, left) = unbuilt number place
+  abbrev pub ofRead : Verdict × Contents → FileLeft
+  ofRead (accepted, c) = ofTables (c .tables) (c .starts)
+  ofRead (refused number place, c) = unbuilt number place
 
   -- of a file: one of more than 65,536 bytes is refused before any other check
   unfoldable pub ofFile : List ℕ → FileLeft
-  ofFile file = cond (ltb 65536 (length file)) (unbuilt 1 0) (ofRead (read file empty (replicate 4096 (pos 0))))
+  ofFile file = cond (ltb 65536 (length file)) (unbuilt 1 0) (ofRead (read version1 file empty))
 
 -- the same of what the code gives: its answer, and the rows after it
 abbrev pub leftByFile : Built → List ℕ → List ℤ → List ℕ → FileLeft

@@ -2,10 +2,10 @@
 ghost use mathlib.Core.Path.{_≡_};
 ghost use Rattle.paper.specs.Tables.{lent};
 ghost use Rattle.report.specs.Printed.{leftByFile, ofTables, ofFile};
+use build::building::build_core;
 use checks::bounds::HIGHEST;
 use checks::bounds::LOWEST;
 use files::headers::Reading;
-use reasoning::storing::build_reasoned;
 use records::Session;
 use tables::Answer;
 
@@ -104,7 +104,7 @@ fn build_tables(
     let mut reader_starts = [0u16; 4097];
     let mut reader_places = [0u16; 16384];
     let mut log_sizes = [0u16; 65];
-    let done = build_reasoned(
+    let done = build_core(
         Session {
             kept: 0,
             evaluations: 0,

@@ -10,7 +10,8 @@ use lib.Dec.{eqb}
 use lib.ListN.{length, set}
 use lib.Seq.{slice}
 use Rattle.paper.specs.Lists.{any, nat}
-use Rattle.paper.specs.Net.{able, runs, number}
+use Rattle.paper.specs.Net.{able, runs}
+use Rattle.paper.specs.Straight.{number}
 use Rattle.paper.proofs.Lists.{all-in, all-of, any-in, eqb-self}
 use Rattle.paper.proofs.Lawful.{Lawful}
 use Rattle.paper.proofs.Numbers.{lower-input, number-right, number-le}

@@ -13,7 +13,7 @@ use lib.ListN.{length, getD, take, drop, length-append}
 use lib.Seq.{take-take, take-add}
 use borrow.Author.Tests.{eqb-true}
 use Rattle.paper.specs.Lists.{any, total, nat, those, joined, below}
-use Rattle.paper.specs.Tables.{Tables, lent, part}
+use Rattle.paper.specs.Tables.{Tables, lent, bare, part}
 use Rattle.paper.specs.Checks.{Sound}
 use Rattle.paper.proofs.Lists.{each, any-has}
 use Rattle.paper.proofs.Those.{those-in}
@@ -24,7 +24,6 @@ use Rattle.paper.proofs.Sizes.{Sized, sized-facts}
 use Rattle.paper.proofs.Accept.{sound-row, made-once}
 use Rattle.damage.specs.Saved.{packed}
 use Rattle.damage.proofs.Packed.{RowGood, Whole}
-use Rattle.salvage.proofs.Bare.{bare}
 
 -- ── the numbers below n ──
 abbrev pub numbers : ℕ → List ℕ

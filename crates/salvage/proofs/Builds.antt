@@ -21,22 +21,20 @@ use Rattle.paper.specs.Tables.{Tables, isMade, ends, valuesIn}
 use Rattle.paper.specs.Chains.{permitted, determined}
 use Rattle.paper.specs.Checks.{accepted, sized, boundGood, within, startGood, inBounds, startAllowed, Sound}
 use Rattle.paper.specs.Calls.{BuildLent, startValues, buildFits, buildVerdict}
-use Rattle.paper.specs.File.{version1, unboundedContents, held, nIn, mIn, eIn}
-use Rattle.paper.specs.Demands.{Fitting, cut}
+use Rattle.paper.specs.File.{version1, Contents, unboundedContents, held, nIn, mIn, eIn, Fitting, cut}
 use Rattle.paper.proofs.Lists.{and-left, and-right}
 use Rattle.paper.proofs.Buffers.{length-below, getD-below}
 use Rattle.paper.proofs.Verdicts.{check-next, require-next}
 use Rattle.paper.proofs.Sizes.{held-of}
 use Rattle.paper.proofs.Accept.{tables-next}
+use Rattle.paper.proofs.Bare.{bare-sound, sound-bare, bare-ends, bare-starts}
 use Rattle.paper.proofs.Closes.{not-closes, Opened, opened}
 use Rattle.paper.proofs.Reread.{reread, cut-back}
-use Rattle.paper.proofs.RoundTrips.{fitting-plain}
 use Rattle.damage.specs.Saved.{packed, given, startGiven, keptRows, isSaved, startWhole, savedTables, startKept, savedStarts, savedFile}
 use Rattle.salvage.specs.Promises.{Readable, AllFull, Builds, SalvageBuilds}
 use Rattle.damage.proofs.Packed.{Rows, packed-sized, packed-sound}
 use Rattle.damage.proofs.Given.{vars-long, coefs-long, given-fits}
 use Rattle.damage.proofs.KeptRows.{those-at, any-those, keeps, kept-those, rows-kept}
-use Rattle.salvage.proofs.Bare.{bare-sound, sound-bare, bare-ends, bare-starts}
 use Rattle.salvage.proofs.Ends.{all-end}
 use Rattle.salvage.proofs.Fits.{packed-fits}
 use Rattle.salvage.proofs.Full.{full-good, full-within}
@@ -44,7 +42,7 @@ use Rattle.salvage.proofs.Full.{full-good, full-within}
 -- build accepts sound tables in which every chain ends, with good start values and full bounds, in any rows that are long enough
 build-accepts : (t : Tables) (starts : List ℤ) → Sound t → ((v : ℕ) → ends t v ≡ true) → ((v : ℕ) → v < t .n → startGood t (valuesIn t starts) v ≡ true)
     → ((v : ℕ) → v < t .n → SFits w32 (getD starts v (pos 0)))
-    → (b : BuildLent) → cut (b .tables, b .starts) ≡ cut (t, starts) → AllFull (b .tables .n) (b .bounds) → buildFits b ≡ true → buildVerdict b ≡ accepted
+    → (b : BuildLent) → cut version1 (unboundedContents (b .tables) (b .starts)) ≡ cut version1 (unboundedContents t starts) → AllFull (b .tables .n) (b .bounds) → buildFits b ≡ true → buildVerdict b ≡ accepted
 unfolding buildVerdict
 build-accepts t starts sound chains good small b e full fits =
     require-next 1 0 (buildFits b) _ fits
@@ -57,24 +55,24 @@ build-accepts t starts sound chains good small b e full fits =
     u = b .tables
 
     own : Sound (b .tables)
-    own = sound-bare (b .tables) (and-left (sized (b .tables)) _ fits) (subst (λ x. Sound (x .0)) (sym e) (bare-sound t sound))
+    own = sound-bare (b .tables) (and-left (sized (b .tables)) _ fits) (subst (λ x. Sound (x .tables)) (sym e) (bare-sound t sound))
 
     own-chains : (v : ℕ) → v < b .tables .n → ends (b .tables) v ≡ true
-    own-chains v l = sym (bare-ends (b .tables) own v) ∙ ap (λ x. ends (x .0) v) e ∙ bare-ends t sound v ∙ chains v
+    own-chains v l = sym (bare-ends (b .tables) own v) ∙ ap (λ x. ends (x .tables) v) e ∙ bare-ends t sound v ∙ chains v
 
     straight : Opened (b .tables)
     straight = opened (b .tables) own (not-closes (b .tables) own-chains)
 
     low-too : (v : ℕ) → v < b .tables .n → v < t .n
-    low-too v l = rw (ap (λ (x : Tables × List ℤ). x .0 .n) e) at l
+    low-too v l = rw (ap (λ (x : Contents). x .tables .n) e) at l
 
     own-good : (v : ℕ) → v < b .tables .n → startGood (b .tables) (startValues b) v ≡ true
     own-good v l =
-        sym (bare-starts (b .tables) (b .starts) v) ∙ ap (λ x. startGood (x .0) (valuesIn (x .0) (x .1)) v) e
+        sym (bare-starts (b .tables) (b .starts) v) ∙ ap (λ x. startGood (x .tables) (valuesIn (x .tables) (x .starts)) v) e
         ∙ bare-starts t starts v ∙ good v (low-too v l)
 
     own-small : (v : ℕ) → v < b .tables .n → SFits w32 (startValues b v)
-    own-small v l = subst (SFits w32) (sym (ap (λ (x : Tables × List ℤ). getD (x .1) v (pos 0)) e ∙ getD-take (t .n) starts v (pos 0) (low-too v l))) (small v (low-too v l))
+    own-small v l = subst (SFits w32) (sym (ap (λ (x : Contents). getD (x .starts) v (pos 0)) e ∙ getD-take (t .n) starts v (pos 0) (low-too v l))) (small v (low-too v l))
 
     inside : (v : ℕ) → v < b .tables .n → inBounds (b .tables) (b .bounds) (startValues b) v ≡ true
     inside v l = go (isMade (b .tables) v) (own-good v l)
@@ -138,21 +136,26 @@ module _ (bytes : List ℕ) (ok : Readable bytes) where
       go true = given-fits bytes (ok .small) .starts v l
       go false = sfits-lit tt
 
-  fits : Fitting S (savedStarts bytes)
+  abbrev saved : Contents
+  saved = unboundedContents S (savedStarts bytes)
+
+  fits : Fitting version1 saved
   fits =
       packed-fits t (startGiven bytes) (given-fits bytes (ok .small)) (those (isSaved bytes) m) left (λ k l. those-at (isSaved bytes) m k l .low)
       (rw (vars-long bytes) (le-refl (eIn bytes))) (rw (coefs-long bytes) (le-refl (eIn bytes))) (savedStarts bytes) start-fits
 
-  holds : held S (savedStarts bytes) ≡ true
-  holds = held-of S (savedStarts bytes) (packed-sized t (those (isSaved bytes) m) left) (let h = length-below (λ u. cond (startKept bytes u) (getD (startGiven bytes) u (pos 0)) (pos 0)) (nIn bytes) in omega arith)
+  holds : held version1 saved ≡ true
+  holds = held-of version1 saved (record {
+    sized = packed-sized t (those (isSaved bytes) m) left;
+    starts = let h = length-below (λ u. cond (startKept bytes u) (getD (startGiven bytes) u (pos 0)) (pos 0)) (nIn bytes) in omega arith;
+    lows = omega arith;
+    highs = omega arith;
+  })
 
   pub builds : Builds bytes
   unfolding savedFile
   builds = record {
-    reads = λ t₀ starts₀ h.
-        let own = unboundedContents S (savedStarts bytes) in let into = unboundedContents t₀ starts₀ in let fit = fitting-plain fits in
-        subst (λ back. (back .0 ≡ accepted) × (cut (back .1 .tables, back .1 .starts) ≡ cut (S, savedStarts bytes))) (reread version1 own holds fit into h)
-        (refl, ap (λ c. (c .tables, c .starts)) (cut-back version1 own holds fit into));
+    reads = λ c h. subst (λ back. (back .0 ≡ accepted) × (cut version1 (back .1) ≡ cut version1 saved)) (reread version1 saved holds fits c h) (refl, cut-back version1 saved holds fits c);
     builds = build-accepts S (savedStarts bytes) sound chains starts-good start-fits;
   }
 

@@ -15,7 +15,7 @@ use mir.Syntax.{w16, w32}
 use mir.Val.{SFits}
 use Rattle.paper.specs.Lists.{total, nat, joined}
 use Rattle.paper.specs.Tables.{Tables, part}
-use Rattle.paper.specs.Demands.{Fitting}
+use Rattle.paper.specs.File.{version1, unboundedContents, Fitting}
 use Rattle.paper.proofs.Buffers.{getD-below}
 use Rattle.paper.proofs.Scan.{part-length}
 use Rattle.damage.specs.Saved.{packed}
@@ -42,12 +42,12 @@ part-each P d l a c h each j low =
     let long = part-length l a c h in
     rw (getD-take c (drop a l) j d (omega arith), getD-drop a l j d) (each (a + j) (omega arith))
 
-module _ (t : Tables) (starts : List ℤ) (fit : Fitting t starts) (rows : List ℕ) (s : Rows t rows) (low : (k : ℕ) → k < length rows → nat rows k < t .m)
+module _ (t : Tables) (starts : List ℤ) (fit : Fitting version1 (unboundedContents t starts)) (rows : List ℕ) (s : Rows t rows) (low : (k : ℕ) → k < length rows → nat rows k < t .m)
     (vars : length (t .vars) ≤ t .e) (coefs : length (t .coefs) ≤ t .e) (saved : List ℤ) (start : (v : ℕ) → v < t .n → SFits w32 (getD saved v (pos 0))) where
   abbrev P : Tables
   P = packed t rows
 
-  pub packed-fits : Fitting P saved
+  pub packed-fits : Fitting version1 (unboundedContents P saved)
   packed-fits = record {
     starts = start;
     rows = λ k l. let r = nat rows k in let f = fit .rows r (low k l) in (
@@ -63,6 +63,7 @@ module _ (t : Tables) (starts : List ℤ) (fit : Fitting t starts) (rows : List 
       joined-each (SFits w16) (pos 0) (λ k. part t (nat rows k) (t .coefs)) (length rows) (λ k h. part-each (SFits w16) (pos 0) (t .coefs) _ _ (s .whole k h .coefs) (λ j g. fit .entries j (omega arith) .1)) i
           (let long = packed-entries t rows (s .whole) (t .coefs) (λ k h. s .whole k h .coefs) in omega arith),
     );
+    bounds = λ i l. absurd (not-suc-le-zero l);
   }
     where
       first : (k : ℕ) → k < length rows → nat (P .firsts) k < 65536

@@ -9,8 +9,7 @@ use lib.IntN.{ℤ}
 use lib.ListN.{length, getD, take, drop, length-take, length-map}
 use lib.Seq.{drop-nil, take-take}
 use borrow.Author.Tests.{ltb-true}
-use Rattle.paper.specs.Demands.{cut}
-use Rattle.paper.specs.File.{nIn, mIn, eIn}
+use Rattle.paper.specs.File.{version1, Contents, unboundedContents, nIn, mIn, eIn, cut}
 use Rattle.paper.specs.Lists.{any, nat, those, below, over}
 use Rattle.paper.specs.Tables.{Tables, lent, ends}
 use Rattle.paper.proofs.Buffers.{length-below, over-at}
@@ -187,15 +186,15 @@ module _ (bytes : List ℕ) (t : Tables) (G : FileGives bytes t) (row : List Boo
 
 -- ── from rows over which the file's were laid ──
 module _ (bytes : List ℕ) (t : Tables) (starts : List ℤ) (L : Laid bytes t starts) where
-  laid-gives : FileGives bytes (cut (t, []) .0)
-  laid-gives = record { head = L .head; is = ap (λ (z : Tables × List ℤ). z .0) (L .is) }
+  laid-gives : FileGives bytes (cut version1 (unboundedContents t []) .tables)
+  laid-gives = record { head = L .head; is = ap (λ (z : Contents). z .tables) (L .is) }
 
   pub laid-cut : FileGives bytes (lent (t .n) (t .m) (t .e) (take (t .m - 0) (drop 0 (t .kinds))) (take (t .m - 0) (drop 0 (t .makes))) (take (t .m - 0) (drop 0 (t .params)))
       (take (t .m - 0) (drop 0 (t .firsts))) (take (t .m - 0) (drop 0 (t .counts))) (take (t .e - 0) (drop 0 (t .vars))) (take (t .e - 0) (drop 0 (t .coefs))))
   laid-cut = let m : t .m - 0 ≡ t .m = omega arith in let e : t .e - 0 ≡ t .e = omega arith in rw (m, e) laid-gives
 
   laid-values : take (t .n) starts ≡ startGiven bytes
-  laid-values = ap (λ (z : Tables × List ℤ). z .1) (L .is)
+  laid-values = ap (λ (z : Contents). z .starts) (L .is)
 
   front-room : {A : Type 0} (k : ℕ) (l f : List A) → take k l ≡ f → length f ≡ k → k ≤ length l
   front-room k l f e h = let a = length-take k l in let b = ap length e in omega arith
@@ -204,7 +203,7 @@ module _ (bytes : List ℕ) (t : Tables) (starts : List ℤ) (L : Laid bytes t s
   pub laid-room : Sized t × (t .n ≤ length starts)
   laid-room =
       let g = given-long bytes in
-      let is : Long (cut (t, []) .0) = subst Long (sym (laid-gives .is)) g in
+      let is : Long (cut version1 (unboundedContents t []) .tables) = subst Long (sym (laid-gives .is)) g in
       let n : t .n ≡ nIn bytes = ap (λ (z : Tables). z .n) (laid-gives .is) in
       let m : t .m ≡ mIn bytes = ap (λ (z : Tables). z .m) (laid-gives .is) in
       let e : t .e ≡ eIn bytes = ap (λ (z : Tables). z .e) (laid-gives .is) in

@@ -2,7 +2,6 @@ pub mod Copied
 pub mod Ends
 pub mod Fits
 pub mod Full
-pub mod Bare
 pub mod Builds
 pub mod All
 pub mod Same

@@ -10,15 +10,15 @@ use lib.IntN.{ℤ, pos}
 use lib.ListN.{length, getD, drop, length-append}
 use borrow.Author.Tests.{leb-true}
 use Rattle.paper.specs.Checks.{Verdict, accepted, refused, require, Sound}
-use Rattle.paper.specs.File.{field, version1, endsAt, unboundedContents, fileBytes, nIn, mIn, eIn, headed, write}
-use Rattle.paper.specs.Lists.{any, between, those}
+use Rattle.paper.specs.File.{version1, boundsFrom, endsAt, unboundedContents, fileBytes, nIn, mIn, eIn, headed, write}
+use Rattle.paper.specs.Lists.{any, those}
 use Rattle.paper.specs.Tables.{Tables}
 use Rattle.paper.proofs.Buffers.{length-below}
 use Rattle.paper.proofs.Lists.{and-left, and-right}
 use Rattle.paper.proofs.Sizes.{Sized, held-of}
 use Rattle.paper.proofs.Those.{those-same}
-use Rattle.paper.proofs.Verdicts.{require-held, require-rest, require-next}
 use Rattle.paper.proofs.Written.{file-length, write-whole}
+use Rattle.files.proofs.Counted.{counted-facts, counted-next, counted-stops}
 use Rattle.files.specs.HeaderAnswers.{answer}
 use Rattle.files.specs.declared.headers.Reading.{Reading}
 use Rattle.damage.specs.Saved.{given, startGiven, isSaved, startKept, savedTables, savedFile, savedList, droppedRows, resetValues}
@@ -31,49 +31,13 @@ use Rattle.damage.proofs.Packed.{Rows, packed-sized, packed-sound}
 use Rattle.files.specs.declared.headers.Reading.the-variants as reading
 
 -- ── the header's version and counts ──
--- one test refuses whatever follows
-test-refused : (code place : ℕ) (good : Bool) (a b : Verdict) {c p : ℕ} → (a ≡ refused c p → b ≡ refused c p) → require code place good a ≡ refused c p → require code place good b ≡ refused c p
-test-refused code place true a b h e = h e
-test-refused code place false a b h e = e
-
 module _ (bytes : List ℕ) where
-  -- refused: so it is whatever follows
-  pub headed-refused : (next : Verdict) {c p : ℕ} → headed bytes accepted ≡ refused c p → headed bytes next ≡ refused c p
-  headed-refused next {c} {p} =
-      test-refused 14 (length bytes) (leb 24 (length bytes)) _ _ (test-refused 14 0 (eqb (field 2 0 bytes) 1) _ _ (test-refused 14 2 (between 1 (nIn bytes) 4096) _ _
-      (test-refused 14 4 (leb (mIn bytes) (nIn bytes)) _ _ (test-refused 14 6 (leb (eIn bytes) 16384) accepted next never))))
-    where
-      never : accepted ≡ refused c p → next ≡ refused c p
-      never q = let z : _≡_ {A = ℕ} 0 1 = cc in absurd (omega arith)
-
-  module _ (head : headed bytes accepted ≡ accepted) where
-    -- accepted: what follows decides
-    pub headed-next : (next : Verdict) → headed bytes next ≡ next
-    headed-next next =
-        let a = require-rest 14 (length bytes) (leb 24 (length bytes)) _ head in
-        let b = require-rest 14 0 (eqb (field 2 0 bytes) 1) _ a in
-        let c = require-rest 14 2 (between 1 (nIn bytes) 4096) _ b in
-        let d = require-rest 14 4 (leb (mIn bytes) (nIn bytes)) _ c in
-        require-next 14 (length bytes) (leb 24 (length bytes)) _ (require-held 14 (length bytes) (leb 24 (length bytes)) _ head)
-        ∙ require-next 14 0 (eqb (field 2 0 bytes) 1) _ (require-held 14 0 (eqb (field 2 0 bytes) 1) _ a)
-        ∙ require-next 14 2 (between 1 (nIn bytes) 4096) _ (require-held 14 2 (between 1 (nIn bytes) 4096) _ b)
-        ∙ require-next 14 4 (leb (mIn bytes) (nIn bytes)) _ (require-held 14 4 (leb (mIn bytes) (nIn bytes)) _ c)
-        ∙ require-next 14 6 (leb (eIn bytes) 16384) next (require-held 14 6 (leb (eIn bytes) 16384) _ d)
-
+  module _ (head : headed version1 bytes accepted ≡ accepted) where
     pub rows-most : mIn bytes ≤ nIn bytes
-    rows-most =
-        let a = require-rest 14 (length bytes) (leb 24 (length bytes)) _ head in
-        let b = require-rest 14 0 (eqb (field 2 0 bytes) 1) _ a in
-        let c = require-rest 14 2 (between 1 (nIn bytes) 4096) _ b in
-        leb-true (mIn bytes) (nIn bytes) (require-held 14 4 (leb (mIn bytes) (nIn bytes)) _ c)
+    rows-most = counted-facts version1 bytes head .m-most
 
     pub entries-most : eIn bytes ≤ 16384
-    entries-most =
-        let a = require-rest 14 (length bytes) (leb 24 (length bytes)) _ head in
-        let b = require-rest 14 0 (eqb (field 2 0 bytes) 1) _ a in
-        let c = require-rest 14 2 (between 1 (nIn bytes) 4096) _ b in
-        let d = require-rest 14 4 (leb (mIn bytes) (nIn bytes)) _ c in
-        leb-true (eIn bytes) 16384 (require-held 14 6 (leb (eIn bytes) 16384) _ d)
+    entries-most = counted-facts version1 bytes head .e-most
 
     -- ── what stands is sound ──
     pub rows-stand : Rows (given bytes) (those (isSaved bytes) (mIn bytes))
@@ -91,14 +55,14 @@ module _ (bytes : List ℕ) where
     abbrev fits : Bool
     fits = leb (length (savedFile bytes)) (length file) && leb (length (savedList bytes)) (length list)
 
-    pub salvage-headed : {c p : ℕ} → headed bytes accepted ≡ refused c p → leftBySalvage (Refused c p) file list ≡ salvage (lendsToSalvage bytes file list)
+    pub salvage-headed : {c p : ℕ} → headed version1 bytes accepted ≡ refused c p → leftBySalvage (Refused c p) file list ≡ salvage (lendsToSalvage bytes file list)
     unfolding salvage salvageVerdict
-    salvage-headed h = simp (headed-refused (require 1 0 fits accepted) h)
+    salvage-headed h = simp (counted-stops version1 bytes h (require 1 0 fits accepted))
 
-    module _ (head : headed bytes accepted ≡ accepted) where
+    module _ (head : headed version1 bytes accepted ≡ accepted) where
       verdict-is : salvageVerdict (lendsToSalvage bytes file list) ≡ require 1 0 fits accepted
       unfolding salvageVerdict
-      verdict-is = headed-next head (require 1 0 fits accepted)
+      verdict-is = counted-next version1 bytes head (require 1 0 fits accepted)
 
       pub salvage-short : fits ≡ false → leftBySalvage (Refused 1 0) file list ≡ salvage (lendsToSalvage bytes file list)
       unfolding salvage
@@ -135,12 +99,16 @@ module _ (bytes : List ℕ) (m : ℕ) (t : Tables) (starts : List ℤ) (row take
   starts-long : t .n ≤ length starts
   starts-long = let h = ap length (R .values) ∙ length-below (λ v. cond (startKept bytes v) (getD (startGiven bytes) v (pos 0)) (pos 0)) (nIn bytes) in let e = n-is in omega arith
 
-  file-is : savedFile bytes ≡ fileBytes t starts
+  file-is : savedFile bytes ≡ fileBytes version1 (unboundedContents t starts)
   unfolding savedFile
-  file-is = sym (ap₂ fileBytes (R .tables) (R .values))
+  file-is = sym (ap₂ (λ t s. fileBytes version1 (unboundedContents t s)) (R .tables) (R .values))
 
-  long-is : length (savedFile bytes) ≡ endsAt (t .n) (t .m) (t .e)
-  long-is = ap length file-is ∙ file-length version1 (unboundedContents t starts)
+  file-ends : length (savedFile bytes) ≡ endsAt version1 (t .n) (t .m) (t .e)
+  file-ends = ap length file-is ∙ file-length version1 (unboundedContents t starts)
+
+  -- there are no bounds
+  long-is : length (savedFile bytes) ≡ boundsFrom 24 (t .n) (t .m) (t .e)
+  long-is = let end = file-ends in omega arith
 
   rows-are : droppedRows bytes ≡ flagged false row m
   rows-are = sym (those-same (λ r. not (getD row r false)) (λ r. not (isSaved bytes r)) m (λ r l. ap not (R .standing r l)) ∙ ap (those (λ r. not (isSaved bytes r))) (R .rows))
@@ -152,7 +120,7 @@ module _ (bytes : List ℕ) (m : ℕ) (t : Tables) (starts : List ℤ) (row take
   unfolding savedList
   list-is = ap₂ _++_ rows-are values-are
 
-  module _ (file list : List ℕ) {size rows values : ℕ} (e : size ≡ endsAt (t .n) (t .m) (t .e)) (p : rows ≡ length (flagged false row m)) (q : values ≡ length (flagged false taken (t .n))) where
+  module _ (file list : List ℕ) {size rows values : ℕ} (e : size ≡ boundsFrom 24 (t .n) (t .m) (t .e)) (p : rows ≡ length (flagged false row m)) (q : values ≡ length (flagged false taken (t .n))) where
     fits-is : (leb size (length file) && leb (rows + values) (length list)) ≡ fits bytes file list
     fits-is =
         let l : rows + values ≡ length (savedList bytes) = ap₂ _+_ p q ∙ sym (length-append (flagged false row m) (flagged false taken (t .n))) ∙ ap length (sym list-is) in
@@ -168,14 +136,14 @@ module _ (bytes : List ℕ) (m : ℕ) (t : Tables) (starts : List ℤ) (row take
 
       pub ready-done : {v : Verdict} {after : List ℕ} {put : List ℕ}
           → put ≡ (flagged false row m ++ flagged false taken (t .n)) ++ drop (length (flagged false row m ++ flagged false taken (t .n))) list
-          → _≡_ {A = Verdict × List ℕ} (v, after) (write t starts file)
+          → _≡_ {A = Verdict × List ℕ} (v, after) (write version1 (unboundedContents t starts) file)
           → leftBySalvage (Accepted size rows values) after put ≡ salvage (lendsToSalvage bytes file list)
       ready-done {v} {after} {put} b w =
           let l = leb-true size (length file) (and-left (leb size (length file)) (leb (rows + values) (length list)) h) in
-          let whole = write-whole version1 (unboundedContents t starts) file (held-of t starts ready-sized starts-long) (omega arith) in
-          let written : after ≡ fileBytes t starts ++ drop (endsAt (t .n) (t .m) (t .e)) file = ap (λ (z : Verdict × List ℕ). z .1) (w ∙ sym whole) in
+          let whole = write-whole version1 (unboundedContents t starts) file (held-of version1 (unboundedContents t starts) (record { sized = ready-sized; starts = starts-long; lows = omega arith; highs = omega arith })) (omega arith) in
+          let written : after ≡ fileBytes version1 (unboundedContents t starts) ++ drop (endsAt version1 (t .n) (t .m) (t .e)) file = ap (λ (z : Verdict × List ℕ). z .1) (w ∙ sym whole) in
           same (e ∙ sym long-is) (p ∙ ap length (sym rows-are)) (q ∙ ap length (sym values-are))
-          (written ∙ ap₂ (λ f k. f ++ drop k file) (sym file-is) (sym long-is))
+          (written ∙ ap₂ (λ f k. f ++ drop k file) (sym file-is) (sym file-ends))
           (b ∙ ap (λ (f : List ℕ). f ++ drop (length f) list) (sym list-is))
           ∙ salvage-done bytes file list (R .head) (sym fits-is ∙ h)
         where

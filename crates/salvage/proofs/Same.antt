@@ -14,12 +14,12 @@ use borrow.Author.Tests.{le-leb}
 use Rattle.paper.specs.Lists.{any, total, nat, those}
 use Rattle.paper.specs.Tables.{Tables, lent, ends, valuesIn}
 use Rattle.paper.specs.Checks.{accepted, leaves, startGood, Sound}
-use Rattle.paper.specs.File.{version1, rowsAt, entriesAt, endsAt, unboundedContents, countedAs, fileBytes, nIn, mIn, eIn, header, laidAs}
-use Rattle.paper.specs.Demands.{cut}
+use Rattle.paper.specs.File.{version1, Contents, rowsFrom, entriesFrom, endsAt, unboundedContents, counted, fileBytes, nIn, mIn, eIn, header, laid, cut}
 use Rattle.paper.proofs.Lists.{all-yes}
 use Rattle.paper.proofs.Those.{those-same}
 use Rattle.paper.proofs.Buffers.{below-same, below-list}
 use Rattle.paper.proofs.Accept.{sound-row}
+use Rattle.paper.proofs.Bare.{bare-sound, bare-ends, bare-starts}
 use Rattle.paper.proofs.Closes.{opened}
 use Rattle.paper.proofs.Known.{BuildKnown, build-known}
 use Rattle.paper.proofs.Reading.{Headed, headed, read-headed}
@@ -29,7 +29,6 @@ use Rattle.salvage.specs.Promises.{Same, UndamagedSame}
 use Rattle.damage.proofs.Packed.{alone-good}
 use Rattle.damage.proofs.Given.{starts-long, laid-given}
 use Rattle.damage.proofs.KeptRows.{any-those}
-use Rattle.salvage.proofs.Bare.{bare-sound, bare-ends, bare-starts}
 use Rattle.salvage.proofs.All.{numbers, packed-all, sound-whole, sound-good, made-new, made-few}
 
 -- no number passes
@@ -37,7 +36,7 @@ those-none : (p : ℕ → Bool) (n : ℕ) → ((r : ℕ) → r < n → p r ≡ f
 those-none p zero h = refl
 those-none p (suc n) h = ap₂ (λ l b. l ++ cond b (n ∷ []) []) (those-none p n (λ r l. h r (omega arith))) (h n (le-refl (suc n)))
 
-module _ (bytes : List ℕ) (small : (i : ℕ) → nat bytes i < 256) (good : header bytes ≡ accepted) (sound : Sound (given bytes)) (chains : (v : ℕ) → ends (given bytes) v ≡ true)
+module _ (bytes : List ℕ) (small : (i : ℕ) → nat bytes i < 256) (good : header version1 bytes ≡ accepted) (sound : Sound (given bytes)) (chains : (v : ℕ) → ends (given bytes) v ≡ true)
     (starts : (v : ℕ) → v < nIn bytes → startGood (given bytes) (valuesIn (given bytes) (startGiven bytes)) v ≡ true) where
   abbrev t : Tables
   t = given bytes
@@ -52,8 +51,8 @@ module _ (bytes : List ℕ) (small : (i : ℕ) → nat bytes i < 256) (good : he
   keeps-row : (r : ℕ) → r < m → keptRows bytes r ≡ numbers r → canKeep bytes (keptRows bytes r) r ≡ true
   keeps-row r l e =
       let whole = head .whole in let inside = sound-row t sound r l .inside in let end = nat (t .firsts) r + nat (t .counts) r in
-      let row = le-leb (entriesAt (nIn bytes) (suc r)) (length bytes) (omega arith) in
-      let entries = ap₂ _&&_ (le-leb end (eIn bytes) inside) (le-leb (endsAt (nIn bytes) m end) (length bytes) (omega arith)) in
+      let row = le-leb (entriesFrom 24 (nIn bytes) (suc r)) (length bytes) (omega arith) in
+      let entries = ap₂ _&&_ (le-leb end (eIn bytes) inside) (le-leb (endsAt version1 (nIn bytes) m end) (length bytes) (omega arith)) in
       let alone = alone-good t r (sound-whole t sound r l) (sound-good t sound r l) in
       let new = ap (λ rows. not (any (λ q. eqb (nat (t .makes) q) (nat (t .makes) r)) rows)) e ∙ ap not (made-new t sound r l) in
       let few = ap (λ rows. leb (total (map (nat (t .counts)) rows) + nat (t .counts) r) 16384) e ∙ le-leb _ _ (made-few t sound r l) in
@@ -66,7 +65,7 @@ module _ (bytes : List ℕ) (small : (i : ℕ) → nat bytes i < 256) (good : he
       ap₂ (λ rows b. rows ++ cond b (k ∷ []) []) before (keeps-row k h before)
 
   all-packed : packed t (numbers m) ≡ t
-  all-packed = packed-all t sound ∙ ap (λ (x : Tables × List ℤ). x .0) (laid-given bytes (lent 0 0 0 [] [] [] [] [] [] []) [])
+  all-packed = packed-all t sound ∙ ap (λ (x : Contents). x .tables) (laid-given bytes (lent 0 0 0 [] [] [] [] [] [] []) [])
 
   stands-all : (r : ℕ) → r < m → isSaved bytes r ≡ true
   stands-all r l =
@@ -81,7 +80,7 @@ module _ (bytes : List ℕ) (small : (i : ℕ) → nat bytes i < 256) (good : he
   start-kept : (v : ℕ) → v < nIn bytes → startKept bytes v ≡ true
   start-kept v l =
       let size = head .whole in
-      ap₂ _&&_ (le-leb (rowsAt (suc v)) (length bytes) (omega arith)) (ap (λ p. startGood p (valuesIn p (startGiven bytes)) v) tables-same ∙ starts v l)
+      ap₂ _&&_ (le-leb (rowsFrom 24 (suc v)) (length bytes) (omega arith)) (ap (λ p. startGood p (valuesIn p (startGiven bytes)) v) tables-same ∙ starts v l)
 
   starts-same : savedStarts bytes ≡ startGiven bytes
   starts-same =
@@ -93,19 +92,19 @@ module _ (bytes : List ℕ) (small : (i : ℕ) → nat bytes i < 256) (good : he
   pub same : Same bytes
   unfolding savedFile savedList
   same = record {
-    file = ap₂ fileBytes tables-same starts-same ∙ rewritten version1 bytes good (unboundedContents (lent 0 0 0 [] [] [] [] [] [] []) []) small;
+    file = ap₂ (λ t s. fileBytes version1 (unboundedContents t s)) tables-same starts-same ∙ rewritten version1 bytes good (unboundedContents (lent 0 0 0 [] [] [] [] [] [] []) []) small;
     none = ap₂ _++_ (those-none (λ r. not (isSaved bytes r)) m (λ r l. ap not (stands-all r l))) (those-none (λ v. not (startKept bytes v)) (nIn bytes) (λ v l. ap not (start-kept v l)));
   }
 
 pub undamaged-same : UndamagedSame
 undamaged-same bytes small t₀ starts₀ ok b e straight v =
-    same bytes small (read-headed version1 bytes (unboundedContents t₀ starts₀) ok) (subst (λ p. Sound (p .0)) is (bare-sound (b .tables) (k .sound)))
-    (λ u. subst (λ p. ends (p .0) u ≡ true) is (bare-ends (b .tables) (k .sound) u ∙ opened (b .tables) (k .sound) straight .chains u))
-    (subst (λ p. (u : ℕ) → u < p .0 .n → startGood (p .0) (valuesIn (p .0) (p .1)) u ≡ true) is (λ u l. bare-starts (b .tables) (b .starts) u ∙ k .starts u l))
+    same bytes small (read-headed version1 bytes (unboundedContents t₀ starts₀) ok) (subst (λ p. Sound (p .tables)) is (bare-sound (b .tables) (k .sound)))
+    (λ u. subst (λ p. ends (p .tables) u ≡ true) is (bare-ends (b .tables) (k .sound) u ∙ opened (b .tables) (k .sound) straight .chains u))
+    (subst (λ p. (u : ℕ) → u < p .tables .n → startGood (p .tables) (valuesIn (p .tables) (p .starts)) u ≡ true) is (λ u l. bare-starts (b .tables) (b .starts) u ∙ k .starts u l))
   where
     k : BuildKnown b
     k = build-known b v
 
     -- what was read, without what the lent rows hold beyond the counts, is what the file gives
-    is : cut (b .tables, b .starts) ≡ (given bytes, startGiven bytes)
-    is = ap cut (e ∙ ap (λ w. let c = leaves w (laidAs bytes (nIn bytes) (mIn bytes) (eIn bytes) version1 (unboundedContents t₀ starts₀)) (countedAs 0 0 0 (unboundedContents t₀ starts₀)) in (c .tables, c .starts)) ok) ∙ laid-given bytes t₀ starts₀
+    is : cut version1 (unboundedContents (b .tables) (b .starts)) ≡ unboundedContents (given bytes) (startGiven bytes)
+    is = ap (cut version1) (e ∙ ap (λ w. leaves w (laid version1 bytes (nIn bytes) (mIn bytes) (eIn bytes) (unboundedContents t₀ starts₀)) (counted 0 0 0 (unboundedContents t₀ starts₀))) ok) ∙ laid-given bytes t₀ starts₀

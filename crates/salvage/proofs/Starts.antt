@@ -9,7 +9,7 @@ use lib.IntN.{ℤ, pos}
 use lib.ListN.{length, getD, take, drop}
 use lib.Seq.{getD-take}
 use Rattle.paper.specs.Checks.{Sound}
-use Rattle.paper.specs.File.{rowsAt, nIn}
+use Rattle.paper.specs.File.{rowsFrom, nIn}
 use Rattle.paper.specs.Lists.{nat, below, over}
 use Rattle.paper.specs.Tables.{Tables, isMade}
 use Rattle.paper.proofs.Buffers.{below-same, over-front, over-at}
@@ -43,7 +43,7 @@ module _ (bytes : List ℕ) (m : ℕ) (t : Tables) (starts : List ℤ) (row : Li
     taken-is : (v : ℕ) → v < t .n → startTaken (length bytes) by starts v ≡ startKept bytes v
     taken-is v l =
         let made : not (eqb (nat by v) 0) ≡ isMade (savedTables bytes) v = ap not (maker-zero t by M v l) ∙ not-not (isMade t v) ∙ ap (λ (s : Tables). isMade s v) (P .tables) in
-        ap₂ (startTest (leb (rowsAt (suc v)) (length bytes))) made (value-is v l ∙ sym (getD-take (nIn bytes) (startGiven bytes) v (pos 0) (let e = n-is in omega arith)))
+        ap₂ (startTest (leb (rowsFrom 24 (suc v)) (length bytes))) made (value-is v l ∙ sym (getD-take (nIn bytes) (startGiven bytes) v (pos 0) (let e = n-is in omega arith)))
 
     pub starts-ready : (taken : List Bool) {said : List Bool} {put : List ℤ} → said ≡ over (t .n) (startTaken (length bytes) by starts) taken
         → put ≡ over (t .n) (λ v. cond (startTaken (length bytes) by starts v) (getD starts v (pos 0)) (pos 0)) starts

@@ -10,14 +10,13 @@ use Rattle.paper.specs.Tables.{Tables}
 use Rattle.paper.specs.Chains.{closes}
 use Rattle.paper.specs.Checks.{accepted, Bounds, lowest, highest, low, high}
 use Rattle.paper.specs.Calls.{BuildLent, buildFits, buildVerdict}
-use Rattle.paper.specs.Demands.{cut}
-use Rattle.paper.specs.File.{held, counted, headed, read}
+use Rattle.paper.specs.File.{version1, Contents, unboundedContents, held, counted, headed, read, cut}
 use Rattle.damage.specs.Saved.{savedTables, savedStarts, savedFile, savedList}
 
 -- the bytes are bytes, and the header's version and counts are right
 pub record Readable (bytes : List ℕ) : Type 0 where
   pub small : (i : ℕ) → nat bytes i < 256
-  pub head : headed bytes accepted ≡ accepted
+  pub head : headed version1 bytes accepted ≡ accepted
 
 -- the bounds of the first n variables are full: the file has none
 abbrev pub AllFull : ℕ → Bounds → Type 0
@@ -26,9 +25,9 @@ AllFull n bs = (v : ℕ) → v < n → (low bs v ≡ lowest) × (high bs v ≡ h
 -- the saved file is read, by rows that hold it, to the saved tables and start values, and build accepts these with full bounds, in any rows that are
 -- long enough
 pub record Builds (bytes : List ℕ) : Type 0 where
-  pub reads : (t : Tables) (starts : List ℤ) → let s = savedTables bytes in held (counted (s .n) (s .m) (s .e) t) starts ≡ true
-      → (read (savedFile bytes) t starts .0 ≡ accepted) × (cut (read (savedFile bytes) t starts .1) ≡ cut (s, savedStarts bytes))
-  pub builds : (b : BuildLent) → cut (b .tables, b .starts) ≡ cut (savedTables bytes, savedStarts bytes) → AllFull (b .tables .n) (b .bounds)
+  pub reads : (c : Contents) → let s = savedTables bytes in held version1 (counted (s .n) (s .m) (s .e) c) ≡ true
+      → (read version1 (savedFile bytes) c .0 ≡ accepted) × (cut version1 (read version1 (savedFile bytes) c .1) ≡ cut version1 (unboundedContents s (savedStarts bytes)))
+  pub builds : (b : BuildLent) → cut version1 (unboundedContents (b .tables) (b .starts)) ≡ cut version1 (unboundedContents (savedTables bytes) (savedStarts bytes)) → AllFull (b .tables .n) (b .bounds)
       → buildFits b ≡ true → buildVerdict b ≡ accepted
 
 -- a file without a closed chain that reading and build accept comes back the same, and nothing is listed
@@ -41,5 +40,5 @@ SalvageBuilds = (bytes : List ℕ) → Readable bytes → Builds bytes
 
 abbrev pub UndamagedSame : Type 0
 UndamagedSame =
-    (bytes : List ℕ) → ((i : ℕ) → nat bytes i < 256) → (t : Tables) (starts : List ℤ) → read bytes t starts .0 ≡ accepted
-    → (b : BuildLent) → (b .tables, b .starts) ≡ read bytes t starts .1 → closes (b .tables) ≡ false → buildVerdict b ≡ accepted → Same bytes
+    (bytes : List ℕ) → ((i : ℕ) → nat bytes i < 256) → (t : Tables) (starts : List ℤ) → let left = read version1 bytes (unboundedContents t starts) in left .0 ≡ accepted
+    → (b : BuildLent) → unboundedContents (b .tables) (b .starts) ≡ left .1 → closes (b .tables) ≡ false → buildVerdict b ≡ accepted → Same bytes

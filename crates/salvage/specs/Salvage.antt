@@ -1,4 +1,4 @@
--- Salvage of a damaged model file, as one function from what the call is lent to what it leaves, accepted or refused. Of the header only the
+-- Salvage of a damaged model file of version 1, as one function from what the call is lent to what it leaves, accepted or refused. Of the header only the
 -- version and the counts are looked at, and everything is placed by these counts. Assumes nothing.
 use Prim.Native.Nat.{ℕ}
 use mathlib.Core.Bool.{_&&_}
@@ -6,7 +6,7 @@ use mathlib.Core.List.{List, _++_}
 use lib.Dec.{leb}
 use lib.ListN.{length, drop}
 use Rattle.paper.specs.Checks.{Verdict, accepted, refused, require, leaves}
-use Rattle.paper.specs.File.{headed}
+use Rattle.paper.specs.File.{version1, headed}
 use Rattle.damage.specs.Saved.{savedFile, droppedRows, resetValues, savedList}
 use Rattle.salvage.specs.declared.Salvaged.{Salvaged}
 use Rattle.salvage.specs.declared.Salvaged.the-variants.{Accepted, Refused}
@@ -25,7 +25,7 @@ pub record SalvageLeft : Type 0 where
 module _ (l : SalvageLent) where
   -- 14: the header's length, version and counts; then 1: room for the file and for the list
   unfoldable pub salvageVerdict : Verdict
-  salvageVerdict = headed (l .bytes) (require 1 0 (leb (length (savedFile (l .bytes))) (length (l .file)) && leb (length (savedList (l .bytes))) (length (l .list))) accepted)
+  salvageVerdict = headed version1 (l .bytes) (require 1 0 (leb (length (savedFile (l .bytes))) (length (l .file)) && leb (length (savedList (l .bytes))) (length (l .list))) accepted)
 
   -- the length of the file, and how many rows and how many start values the list has
   abbrev pub salvagedBy : Verdict → Salvaged

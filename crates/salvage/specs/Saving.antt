@@ -7,7 +7,7 @@ use lib.Dec.{eqb, leb}
 use lib.IntN.{ℤ, pos}
 use lib.ListN.{getD, take}
 use Rattle.paper.specs.Checks.{accepted}
-use Rattle.paper.specs.File.{rowsAt, mIn, headed}
+use Rattle.paper.specs.File.{version1, rowsFrom, mIn, headed}
 use Rattle.paper.specs.Lists.{nat}
 use Rattle.paper.specs.Tables.{Tables}
 use Rattle.damage.specs.Starts.{startTest}
@@ -16,19 +16,19 @@ use Rattle.damage.specs.Saved.{given, startGiven, isSaved, startKept, savedTabl
 -- ── start values ──
 -- v's is whole in a file of this size, and is one that build takes, where `by` is the row of makers
 abbrev pub startTaken : ℕ → List ℕ → List ℤ → ℕ → Bool
-startTaken size by starts v = startTest (leb (rowsAt (suc v)) size) (not (eqb (nat by v) 0)) (getD starts v (pos 0))
+startTaken size by starts v = startTest (leb (rowsFrom 24 (suc v)) size) (not (eqb (nat by v) 0)) (getD starts v (pos 0))
 
 -- ── what is to be saved ──
 -- what the file gives, and which of its rows stand
 pub record Judged (bytes : List ℕ) (t : Tables) (starts : List ℤ) (row : List Bool) : Type 0 where
-  pub head : headed bytes accepted ≡ accepted
+  pub head : headed version1 bytes accepted ≡ accepted
   pub tables : t ≡ given bytes
   pub values : take (t .n) starts ≡ startGiven bytes
   pub standing : (r : ℕ) → r < t .m → getD row r false ≡ isSaved bytes r
 
 -- the tables saved, and the start values given
 pub record Packed (bytes : List ℕ) (m : ℕ) (t : Tables) (starts : List ℤ) (row : List Bool) : Type 0 where
-  pub head : headed bytes accepted ≡ accepted
+  pub head : headed version1 bytes accepted ≡ accepted
   pub rows : m ≡ mIn bytes
   pub tables : t ≡ savedTables bytes
   pub values : take (t .n) starts ≡ startGiven bytes
@@ -36,7 +36,7 @@ pub record Packed (bytes : List ℕ) (m : ℕ) (t : Tables) (starts : List ℤ) 
 
 -- the tables and start values saved
 pub record SavedReady (bytes : List ℕ) (m : ℕ) (t : Tables) (starts : List ℤ) (row taken : List Bool) : Type 0 where
-  pub head : headed bytes accepted ≡ accepted
+  pub head : headed version1 bytes accepted ≡ accepted
   pub rows : m ≡ mIn bytes
   pub tables : t ≡ savedTables bytes
   pub values : starts ≡ savedStarts bytes

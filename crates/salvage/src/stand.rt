@@ -79,7 +79,7 @@ pub(crate) fn salvage_given(
     list: &mut [u16],
 ) -> Salvaged
     requires counts { ⌜ (n ≡ File.nIn (now bytes)) × (m ≡ File.mIn (now bytes)) × (e ≡ File.eIn (now bytes)) ⌝ }
-    requires head { ⌜ File.headed (now bytes) accepted ≡ accepted ⌝ }
+    requires head { ⌜ File.headed File.version1 (now bytes) accepted ≡ accepted ⌝ }
     ensures { λ r. ⌜ leftBySalvage r (now (file .exit)) (now (list .exit)) ≡ Salvage.salvage (lendsToSalvage (now (bytes .entry)) (now (file .entry)) (now (list .entry))) ⌝ }
 {
     let mut starts = [0i32; 4096];

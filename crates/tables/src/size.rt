@@ -1,7 +1,10 @@
 // Check 1, as far as every call asks it.
+ghost use mathlib.Core.Bool.{_&&_};
 ghost use mathlib.Core.Path.{_≡_};
+ghost use lib.Dec.{leb};
+ghost use lib.ListN.{length};
+ghost use Rattle.paper.specs.Checks.{sized};
 ghost use Rattle.paper.specs.Tables.{lent};
-ghost use Rattle.paper.specs.File.{held};
 
 // The counts are within their bounds, and neither a table nor the row of values is shorter than they ask. No test waits for another, so they
 // are joined by `&`.
@@ -18,8 +21,8 @@ pub fn sizes(
     coefs: &[i16],
     values: &[i32],
 ) -> bool
-    ensures { λ r. ⌜ r ≡ held (lent n m e (now (kinds .entry)) (now (makes .entry)) (now (params .entry)) (now (firsts .entry)) (now (counts .entry))
-        (now (vars .entry)) (now (coefs .entry))) (now (values .entry)) ⌝ }
+    ensures { λ r. ⌜ r ≡ (sized (lent n m e (now (kinds .entry)) (now (makes .entry)) (now (params .entry)) (now (firsts .entry)) (now (counts .entry))
+        (now (vars .entry)) (now (coefs .entry))) && leb n (length (now (values .entry)))) ⌝ }
 {
     (1 <= n)
         & (n <= 4096)

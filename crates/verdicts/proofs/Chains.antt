@@ -7,7 +7,7 @@ use Rattle.paper.specs.Lists.{nat, between}
 use Rattle.paper.specs.Tables.{Tables}
 use Rattle.paper.specs.Checks.{Bounds, Verdict, accepted, refused, check, require, Move}
 use Rattle.paper.specs.Log.{Log, logged, logGood}
-use Rattle.paper.specs.Calls.{Tried}
+use Rattle.paper.specs.Calls.{TrialLent}
 use Rattle.paper.proofs.Verdicts.{andThen, Chain, chain-after, check-then, require-then, require-stops, require-next}
 use Rattle.tables.specs.Answers.{answerOf}
 use Rattle.tables.specs.declared.Answer.{Answer}
@@ -32,7 +32,7 @@ module _ (v : Verdict) (r : Answer) (said : r ≡ answerOf 0 v) where
 
 -- ── from each chain a caller may go on with any check that comes next ──
 module _ (bs : Bounds) (t : Tables) where
-  pub ask-then : (c : Tried) → Chain (askChecks c t bs)
+  pub ask-then : (c : TrialLent) → Chain (askChecks c t bs)
   ask-then c =
       let asked : ℕ → Bool = λ i. ltb (nat (c .askedVars) i) (t .n) in
       chain-after (require 9 0 (between 1 (c .route) 3)) (λ next. pairChecks (c .move) bs t (check 13 (c .asked) asked next)) (require-then 9 0 (between 1 (c .route) 3))
@@ -46,7 +46,7 @@ module _ (bs : Bounds) (t : Tables) where
       chain-after (logChecks l t bs kept) (require 15 0 (ltb 0 (logged l))) (require-then 16 0 (logGood l t bs kept)) (require-then 15 0 (ltb 0 (logged l)))
 
 -- ── what is asked: checks 9 to 13 ──
-module _ (c : Tried) (bs : Bounds) (t : Tables) where
+module _ (c : TrialLent) (bs : Bounds) (t : Tables) where
   abbrev pub fromThirteen : Verdict
   fromThirteen = check 13 (c .asked) (λ i. ltb (nat (c .askedVars) i) (t .n)) accepted
 

@@ -5,11 +5,11 @@ use Rattle.paper.specs.Lists.{nat, between}
 use Rattle.paper.specs.Tables.{Tables}
 use Rattle.paper.specs.Checks.{Verdict, check, require, Bounds, Move}
 use Rattle.paper.specs.Log.{Log, logged, logGood}
-use Rattle.paper.specs.Calls.{Tried}
+use Rattle.paper.specs.Calls.{TrialLent}
 use Rattle.checks.specs.Moves.{pairChecks}
 
 -- checks 9 to 13 of a trial, 17 behind 12, and then what is next
-abbrev pub askChecks : Tried → Tables → Bounds → Verdict → Verdict
+abbrev pub askChecks : TrialLent → Tables → Bounds → Verdict → Verdict
 askChecks c t bs next = require 9 0 (between 1 (c .route) 3) (pairChecks (c .move) bs t (check 13 (c .asked) (λ i. ltb (nat (c .askedVars) i) (t .n)) next))
 
 -- check 16 of a log, and then what is next

@@ -4,15 +4,15 @@ use mathlib.Core.List.{List}
 use lib.IntN.{ℤ}
 use Rattle.paper.specs.Tables.{lent, indexIn}
 use Rattle.paper.specs.Checks.{boundsIn}
-use Rattle.paper.specs.Calls.{Session, BuildLent, Model, Tried, Kept}
+use Rattle.paper.specs.Calls.{Session, BuildLent, Model, TrialLent, KeepLent, TakeLent}
 
 -- a record that nobody holds
 abbrev pub noRecord : Session
 noRecord = record { kept = 0; evaluations = 0; blanks = 0 }
 
--- to build: the record, the tables, the bounds, start values, the rows to fill, and the sizes of the log
-abbrev pub toBuild : Session → ℕ → ℕ → ℕ → List ℕ → List ℕ → List ℤ → List ℕ → List ℕ → List ℕ → List ℤ → List ℤ → List ℤ → List ℤ → List ℕ → List ℕ → List ℤ → List ℕ → List ℕ → List ℕ → BuildLent
-toBuild session n m e kinds makes params firsts counts vars coefs lows highs starts numbers order stored readerStarts readerPlaces logSizes = record {
+-- to build: the record, the tables, the bounds, start values, the rows to fill, the reasons among them, and the sizes of the log
+abbrev pub toBuild : Session → ℕ → ℕ → ℕ → List ℕ → List ℕ → List ℤ → List ℕ → List ℕ → List ℕ → List ℤ → List ℤ → List ℤ → List ℤ → List ℕ → List ℕ → List ℤ → List ℕ → List ℕ → List ℕ → List ℕ → BuildLent
+toBuild session n m e kinds makes params firsts counts vars coefs lows highs starts numbers order stored readerStarts readerPlaces reasons logSizes = record {
   session = session;
   tables = lent n m e kinds makes params firsts counts vars coefs;
   bounds = boundsIn lows highs;
@@ -21,12 +21,13 @@ toBuild session n m e kinds makes params firsts counts vars coefs lows highs sta
   order = order;
   stored = stored;
   index = indexIn readerStarts readerPlaces;
+  reasons = reasons;
   logSizes = logSizes;
 }
 
 -- to trial, keep and taking back: the model
-abbrev pub toModel : ℕ → ℕ → ℕ → List ℕ → List ℕ → List ℤ → List ℕ → List ℕ → List ℕ → List ℤ → List ℤ → List ℤ → List ℕ → List ℕ → List ℤ → List ℕ → List ℕ → Model
-toModel n m e kinds makes params firsts counts vars coefs lows highs numbers order stored readerStarts readerPlaces =
+abbrev pub toModel : ℕ → ℕ → ℕ → List ℕ → List ℕ → List ℤ → List ℕ → List ℕ → List ℕ → List ℤ → List ℤ → List ℤ → List ℕ → List ℕ → List ℤ → List ℕ → List ℕ → List ℕ → Model
+toModel n m e kinds makes params firsts counts vars coefs lows highs numbers order stored readerStarts readerPlaces reasons =
     record {
       tables = lent n m e kinds makes params firsts counts vars coefs;
       bounds = boundsIn lows highs;
@@ -34,11 +35,12 @@ toModel n m e kinds makes params firsts counts vars coefs lows highs numbers ord
       order = order;
       stored = stored;
       index = indexIn readerStarts readerPlaces;
+      reasons = reasons;
     }
 
 -- to trial beside it: the move, what is asked, the route, and the rows to fill
-abbrev pub toTry : ℕ → List ℕ → List ℤ → ℕ → List ℕ → ℕ → List ℤ → List ℤ → List ℕ → Tried
-toTry pairs vars values asked askedVars route results trial flags = record {
+abbrev pub toTry : ℕ → List ℕ → List ℤ → ℕ → List ℕ → ℕ → List ℤ → List ℤ → List ℕ → List ℕ → TrialLent
+toTry pairs vars values asked askedVars route results trial flags why = record {
   move = record { pairs = pairs; vars = vars; values = values };
   asked = asked;
   askedVars = askedVars;
@@ -46,8 +48,13 @@ toTry pairs vars values asked askedVars route results trial flags = record {
   results = results;
   trial = trial;
   flags = flags;
+  why = why;
 }
 
 -- to keep beside it: the move, and the row of flags
-abbrev pub toKeep : ℕ → List ℕ → List ℤ → List ℕ → Kept
+abbrev pub toKeep : ℕ → List ℕ → List ℤ → List ℕ → KeepLent
 toKeep pairs vars values flags = record { move = record { pairs = pairs; vars = vars; values = values }; flags = flags }
+
+-- to taking back: the row of flags
+abbrev pub toTake : List ℕ → TakeLent
+toTake flags = record { flags = flags }

@@ -5,8 +5,8 @@ ghost use mathlib.Core.Path.{_≡_};
 ghost use lib.Dec.{leb};
 ghost use lib.ListN.{length};
 ghost use Rattle.paper.specs.Log.{Log, logIn, logFits};
-ghost use Rattle.paper.specs.Calls.{BuildLent, Model, Tried, Kept, buildFits, modelFits, trialFits, keepFits, takeFits};
-ghost use Rattle.verdicts.specs.Lent.{noRecord, toBuild, toModel, toTry, toKeep};
+ghost use Rattle.paper.specs.Calls.{BuildLent, Model, TrialLent, KeepLent, buildFits, modelFits, trialFits, keepFits, takeFits};
+ghost use Rattle.verdicts.specs.Lent.{noRecord, toBuild, toModel, toTry, toKeep, toTake};
 use checks::moves::move_sizes;
 use tables::sizes;
 
@@ -44,10 +44,11 @@ pub fn build_fits(
     stored: &[i32],
     reader_starts: &[u16],
     reader_places: &[u16],
+    reasons: &[u8],
     log_sizes: &[u16],
 ) -> bool
     ghost { BuildLent }
-    requires lent { λ w. ⌜ toBuild noRecord n m e (now kinds) (now makes) (now params) (now firsts) (now counts) (now vars) (now coefs) (now lows) (now highs) (now starts) (now numbers) (now order) (now stored) (now «reader_starts») (now «reader_places») (now «log_sizes») ≡ w ⌝ }
+    requires lent { λ w. ⌜ toBuild noRecord n m e (now kinds) (now makes) (now params) (now firsts) (now counts) (now vars) (now coefs) (now lows) (now highs) (now starts) (now numbers) (now order) (now stored) (now «reader_starts») (now «reader_places») (now reasons) (now «log_sizes») ≡ w ⌝ }
     ensures { λ build r. ⌜ r ≡ buildFits build ⌝ }
 {
     sizes(
@@ -69,6 +70,7 @@ pub fn build_fits(
         & index_fits(n, e, reader_starts, reader_places)
         & (65 <= log_sizes.len())
         & bounds_fit(n, lows, highs)
+        & (n <= reasons.len())
 }
 
 // Check 1 of the model that trial and keep are lent.
@@ -90,8 +92,9 @@ fn model_fits(
     stored: &[i32],
     reader_starts: &[u16],
     reader_places: &[u16],
+    reasons: &[u8],
 ) -> bool
-    ensures { λ r. ⌜ r ≡ modelFits (toModel n m e (now (kinds .entry)) (now (makes .entry)) (now (params .entry)) (now (firsts .entry)) (now (counts .entry)) (now (vars .entry)) (now (coefs .entry)) (now (lows .entry)) (now (highs .entry)) (now (numbers .entry)) (now (order .entry)) (now (stored .entry)) (now («reader_starts» .entry)) (now («reader_places» .entry))) ⌝ }
+    ensures { λ r. ⌜ r ≡ modelFits (toModel n m e (now (kinds .entry)) (now (makes .entry)) (now (params .entry)) (now (firsts .entry)) (now (counts .entry)) (now (vars .entry)) (now (coefs .entry)) (now (lows .entry)) (now (highs .entry)) (now (numbers .entry)) (now (order .entry)) (now (stored .entry)) (now («reader_starts» .entry)) (now («reader_places» .entry)) (now (reasons .entry))) ⌝ }
 {
     sizes(
         n,
@@ -110,6 +113,7 @@ fn model_fits(
         & (m <= order.len())
         & index_fits(n, e, reader_starts, reader_places)
         & bounds_fit(n, lows, highs)
+        & (n <= reasons.len())
 }
 
 // Check 1 of trial.
@@ -131,6 +135,7 @@ pub(crate) fn trial_fits(
     stored: &[i32],
     reader_starts: &[u16],
     reader_places: &[u16],
+    reasons: &[u8],
     pairs: usize,
     move_vars: &[u16],
     move_values: &[i32],
@@ -140,9 +145,10 @@ pub(crate) fn trial_fits(
     results: &[i32],
     trial: &[i32],
     flags: &[u8],
+    why: &[u8],
 ) -> bool
-    ghost { Model × Tried }
-    requires lent { λ w. ⌜ (toModel n m e (now kinds) (now makes) (now params) (now firsts) (now counts) (now vars) (now coefs) (now lows) (now highs) (now numbers) (now order) (now stored) (now «reader_starts») (now «reader_places»), toTry pairs (now «move_vars») (now «move_values») asked (now «asked_vars») route (now results) (now trial) (now flags)) ≡ w ⌝ }
+    ghost { Model × TrialLent }
+    requires lent { λ w. ⌜ (toModel n m e (now kinds) (now makes) (now params) (now firsts) (now counts) (now vars) (now coefs) (now lows) (now highs) (now numbers) (now order) (now stored) (now «reader_starts») (now «reader_places») (now reasons), toTry pairs (now «move_vars») (now «move_values») asked (now «asked_vars») route (now results) (now trial) (now flags) (now why)) ≡ w ⌝ }
     ensures { λ (model, tried) r. ⌜ r ≡ trialFits model tried ⌝ }
 {
     model_fits(
@@ -163,6 +169,7 @@ pub(crate) fn trial_fits(
         stored,
         reader_starts,
         reader_places,
+        reasons,
     )
         & move_sizes(pairs, move_vars, move_values)
         & (asked <= 32)
@@ -170,6 +177,7 @@ pub(crate) fn trial_fits(
         & (asked <= results.len())
         & (n <= trial.len())
         & (n <= flags.len())
+        & (asked <= why.len())
 }
 
 // Check 1 of a log: room for 64 moves of 64 pairs.
@@ -198,6 +206,7 @@ pub(crate) fn keep_fits(
     stored: &[i32],
     reader_starts: &[u16],
     reader_places: &[u16],
+    reasons: &[u8],
     pairs: usize,
     move_vars: &[u16],
     move_values: &[i32],
@@ -206,8 +215,8 @@ pub(crate) fn keep_fits(
     log_vars: &[u16],
     log_values: &[i32],
 ) -> bool
-    ghost { Log × Model × Kept }
-    requires lent { λ w. ⌜ (logIn (now «log_sizes») (now «log_vars») (now «log_values»), toModel n m e (now kinds) (now makes) (now params) (now firsts) (now counts) (now vars) (now coefs) (now lows) (now highs) (now numbers) (now order) (now stored) (now «reader_starts») (now «reader_places»), toKeep pairs (now «move_vars») (now «move_values») (now flags)) ≡ w ⌝ }
+    ghost { Log × Model × KeepLent }
+    requires lent { λ w. ⌜ (logIn (now «log_sizes») (now «log_vars») (now «log_values»), toModel n m e (now kinds) (now makes) (now params) (now firsts) (now counts) (now vars) (now coefs) (now lows) (now highs) (now numbers) (now order) (now stored) (now «reader_starts») (now «reader_places») (now reasons), toKeep pairs (now «move_vars») (now «move_values») (now flags)) ≡ w ⌝ }
     ensures { λ (log, model, keep) r. ⌜ r ≡ keepFits log model keep ⌝ }
 {
     model_fits(
@@ -228,6 +237,7 @@ pub(crate) fn keep_fits(
         stored,
         reader_starts,
         reader_places,
+        reasons,
     )
         & move_sizes(pairs, move_vars, move_values)
         & (n <= flags.len())
@@ -253,14 +263,15 @@ pub(crate) fn take_fits(
     stored: &[i32],
     reader_starts: &[u16],
     reader_places: &[u16],
+    reasons: &[u8],
     flags: &[u8],
     log_sizes: &[u16],
     log_vars: &[u16],
     log_values: &[i32],
 ) -> bool
     ghost { Log × Model }
-    requires lent { λ w. ⌜ (logIn (now «log_sizes») (now «log_vars») (now «log_values»), toModel n m e (now kinds) (now makes) (now params) (now firsts) (now counts) (now vars) (now coefs) (now lows) (now highs) (now numbers) (now order) (now stored) (now «reader_starts») (now «reader_places»)) ≡ w ⌝ }
-    ensures { λ (log, model) r. ⌜ r ≡ takeFits log model (now (flags .entry)) ⌝ }
+    requires lent { λ w. ⌜ (logIn (now «log_sizes») (now «log_vars») (now «log_values»), toModel n m e (now kinds) (now makes) (now params) (now firsts) (now counts) (now vars) (now coefs) (now lows) (now highs) (now numbers) (now order) (now stored) (now «reader_starts») (now «reader_places») (now reasons)) ≡ w ⌝ }
+    ensures { λ (log, model) r. ⌜ r ≡ takeFits log model (toTake (now (flags .entry))) ⌝ }
 {
     model_fits(
         n,
@@ -280,6 +291,7 @@ pub(crate) fn take_fits(
         stored,
         reader_starts,
         reader_places,
+        reasons,
     )
         & (n <= flags.len())
         & log_fits(log_sizes, log_vars, log_values)

@@ -4,9 +4,9 @@ mod back;
 
 ghost use mathlib.Core.Path.{_≡_};
 ghost use Rattle.paper.specs.Log.{Log, logIn};
-ghost use Rattle.paper.specs.Calls.{Model, Tried, Kept, trialVerdict, keepVerdict, takeVerdict};
+ghost use Rattle.paper.specs.Calls.{Model, TrialLent, KeepLent, trialVerdict, keepVerdict, takeVerdict};
 ghost use Rattle.tables.specs.Answers.{answerOf};
-ghost use Rattle.verdicts.specs.Lent.{toModel, toTry, toKeep};
+ghost use Rattle.verdicts.specs.Lent.{toModel, toTry, toKeep, toTake};
 use crate::fits::keep_fits;
 use crate::fits::take_fits;
 use crate::fits::trial_fits;
@@ -39,6 +39,7 @@ pub fn judge_trial(
     stored: &[i32],
     reader_starts: &[u16],
     reader_places: &[u16],
+    reasons: &[u8],
     pairs: usize,
     move_vars: &[u16],
     move_values: &[i32],
@@ -48,9 +49,10 @@ pub fn judge_trial(
     results: &[i32],
     trial: &[i32],
     flags: &[u8],
+    why: &[u8],
 ) -> Answer
-    ghost { Model × Tried }
-    requires lent { λ w. ⌜ (toModel n m e (now kinds) (now makes) (now params) (now firsts) (now counts) (now vars) (now coefs) (now lows) (now highs) (now numbers) (now order) (now stored) (now «reader_starts») (now «reader_places»), toTry pairs (now «move_vars») (now «move_values») asked (now «asked_vars») route (now results) (now trial) (now flags)) ≡ w ⌝ }
+    ghost { Model × TrialLent }
+    requires lent { λ w. ⌜ (toModel n m e (now kinds) (now makes) (now params) (now firsts) (now counts) (now vars) (now coefs) (now lows) (now highs) (now numbers) (now order) (now stored) (now «reader_starts») (now «reader_places») (now reasons), toTry pairs (now «move_vars») (now «move_values») asked (now «asked_vars») route (now results) (now trial) (now flags) (now why)) ≡ w ⌝ }
     ensures { λ (model, tried) r. ⌜ r ≡ answerOf 0 (trialVerdict (record { kept = 0; evaluations = 0; blanks = blanks }) model tried) ⌝ }
 {
     if !trial_fits(
@@ -71,6 +73,7 @@ pub fn judge_trial(
         stored,
         reader_starts,
         reader_places,
+        reasons,
         pairs,
         move_vars,
         move_values,
@@ -80,6 +83,7 @@ pub fn judge_trial(
         results,
         trial,
         flags,
+        why,
     ) {
         return refused(1, 0);
     }
@@ -103,6 +107,7 @@ pub fn judge_trial(
         stored,
         reader_starts,
         reader_places,
+        reasons,
         &mut by,
     );
     let Answer::Accepted { .. } = checked else {
@@ -164,6 +169,7 @@ pub fn judge_keep(
     stored: &[i32],
     reader_starts: &[u16],
     reader_places: &[u16],
+    reasons: &[u8],
     pairs: usize,
     move_vars: &[u16],
     move_values: &[i32],
@@ -172,8 +178,8 @@ pub fn judge_keep(
     log_vars: &[u16],
     log_values: &[i32],
 ) -> Answer
-    ghost { Log × Model × Kept }
-    requires lent { λ w. ⌜ (logIn (now «log_sizes») (now «log_vars») (now «log_values»), toModel n m e (now kinds) (now makes) (now params) (now firsts) (now counts) (now vars) (now coefs) (now lows) (now highs) (now numbers) (now order) (now stored) (now «reader_starts») (now «reader_places»), toKeep pairs (now «move_vars») (now «move_values») (now flags)) ≡ w ⌝ }
+    ghost { Log × Model × KeepLent }
+    requires lent { λ w. ⌜ (logIn (now «log_sizes») (now «log_vars») (now «log_values»), toModel n m e (now kinds) (now makes) (now params) (now firsts) (now counts) (now vars) (now coefs) (now lows) (now highs) (now numbers) (now order) (now stored) (now «reader_starts») (now «reader_places») (now reasons), toKeep pairs (now «move_vars») (now «move_values») (now flags)) ≡ w ⌝ }
     ensures { λ (log, model, keep) r. ⌜ r ≡ answerOf 0 (keepVerdict (record { kept = kept; evaluations = 0; blanks = blanks }) log model keep) ⌝ }
 {
     if !keep_fits(
@@ -194,6 +200,7 @@ pub fn judge_keep(
         stored,
         reader_starts,
         reader_places,
+        reasons,
         pairs,
         move_vars,
         move_values,
@@ -224,6 +231,7 @@ pub fn judge_keep(
         stored,
         reader_starts,
         reader_places,
+        reasons,
         &mut by,
     );
     let Answer::Accepted { .. } = checked else {
@@ -286,14 +294,15 @@ pub fn judge_take_back(
     stored: &[i32],
     reader_starts: &[u16],
     reader_places: &[u16],
+    reasons: &[u8],
     flags: &[u8],
     log_sizes: &[u16],
     log_vars: &[u16],
     log_values: &[i32],
 ) -> Answer
     ghost { Log × Model }
-    requires lent { λ w. ⌜ (logIn (now «log_sizes») (now «log_vars») (now «log_values»), toModel n m e (now kinds) (now makes) (now params) (now firsts) (now counts) (now vars) (now coefs) (now lows) (now highs) (now numbers) (now order) (now stored) (now «reader_starts») (now «reader_places»)) ≡ w ⌝ }
-    ensures { λ (log, model) r. ⌜ r ≡ answerOf 0 (takeVerdict (record { kept = kept; evaluations = 0; blanks = blanks }) log model (now (flags .entry))) ⌝ }
+    requires lent { λ w. ⌜ (logIn (now «log_sizes») (now «log_vars») (now «log_values»), toModel n m e (now kinds) (now makes) (now params) (now firsts) (now counts) (now vars) (now coefs) (now lows) (now highs) (now numbers) (now order) (now stored) (now «reader_starts») (now «reader_places») (now reasons)) ≡ w ⌝ }
+    ensures { λ (log, model) r. ⌜ r ≡ answerOf 0 (takeVerdict (record { kept = kept; evaluations = 0; blanks = blanks }) log model (toTake (now (flags .entry)))) ⌝ }
 {
     if !take_fits(
         n,
@@ -313,6 +322,7 @@ pub fn judge_take_back(
         stored,
         reader_starts,
         reader_places,
+        reasons,
         flags,
         log_sizes,
         log_vars,
@@ -340,6 +350,7 @@ pub fn judge_take_back(
         stored,
         reader_starts,
         reader_places,
+        reasons,
         &mut by,
     );
     let Answer::Accepted { .. } = checked else {

@@ -33,11 +33,12 @@ pub fn model_checks(
     stored: &[i32],
     reader_starts: &[u16],
     reader_places: &[u16],
+    reasons: &[u8],
     by: &mut [u16],
 ) -> Answer
-    requires { ⌜ modelFits (toModel n m e (now kinds) (now makes) (now params) (now firsts) (now counts) (now vars) (now coefs) (now lows) (now highs) (now numbers) (now order) (now stored) (now «reader_starts») (now «reader_places»)) ≡ true ⌝ }
+    requires { ⌜ modelFits (toModel n m e (now kinds) (now makes) (now params) (now firsts) (now counts) (now vars) (now coefs) (now lows) (now highs) (now numbers) (now order) (now stored) (now «reader_starts») (now «reader_places») (now reasons)) ≡ true ⌝ }
     requires { ⌜ n ≤ length (now by) ⌝ }
-    ensures { λ r. ⌜ ModelJudged (toModel n m e (now (kinds .entry)) (now (makes .entry)) (now (params .entry)) (now (firsts .entry)) (now (counts .entry)) (now (vars .entry)) (now (coefs .entry)) (now (lows .entry)) (now (highs .entry)) (now (numbers .entry)) (now (order .entry)) (now (stored .entry)) (now («reader_starts» .entry)) (now («reader_places» .entry))) blanks (now (by .exit)) r ⌝ }
+    ensures { λ r. ⌜ ModelJudged (toModel n m e (now (kinds .entry)) (now (makes .entry)) (now (params .entry)) (now (firsts .entry)) (now (counts .entry)) (now (vars .entry)) (now (coefs .entry)) (now (lows .entry)) (now (highs .entry)) (now (numbers .entry)) (now (order .entry)) (now (stored .entry)) (now («reader_starts» .entry)) (now («reader_places» .entry)) (now (reasons .entry))) blanks (now (by .exit)) r ⌝ }
 {
     let checked = table_checks(
         n,

@@ -32,7 +32,7 @@ pub fn ask_checks(
 ) -> Answer
     requires { ⌜ (n ≤ length (now by)) × (pairs ≤ 64) × (pairs ≤ length (now «move_vars»)) × (pairs ≤ length (now «move_values»)) ⌝ }
     requires { ⌜ (asked ≤ 32) × (asked ≤ length (now «asked_vars»)) ⌝ }
-    ensures { λ r. ⌜ OfMakers n (now (by .entry)) (λ t. r ≡ answerOf 0 (askChecks (toTry pairs (now («move_vars» .entry)) (now («move_values» .entry)) asked (now («asked_vars» .entry)) route [] [] []) t (boundsIn (now (lows .entry)) (now (highs .entry))) accepted)) ⌝ }
+    ensures { λ r. ⌜ OfMakers n (now (by .entry)) (λ t. r ≡ answerOf 0 (askChecks (toTry pairs (now («move_vars» .entry)) (now («move_values» .entry)) asked (now («asked_vars» .entry)) route [] [] [] []) t (boundsIn (now (lows .entry)) (now (highs .entry))) accepted)) ⌝ }
 {
     if !((1 <= route) & (route <= 3)) {
         return refused(9, 0);

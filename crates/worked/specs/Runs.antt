@@ -51,6 +51,7 @@ building t s = record {
   order = zeros (t .m);
   stored = zerosZ (t .n);
   index = record { starts = zeros (suc (t .n)); places = zeros (t .e) };
+  reasons = zeros (t .n);
   logSizes = zeros 65;
 }
 
@@ -69,7 +70,7 @@ comesOut (builds t s nums vals) =
 comesOut (refuses t number place) = answers (build (building t []) .answer) (Refused number place)
 comesOut (tries t s mv asked route vals count) =
     let built = build (building t s) in
-    let own : Model = record { tables = t; bounds = full (t .n); numbers = built .numbers; order = built .order; stored = built .stored; index = built .index } in
+    let own : Model = record { tables = t; bounds = full (t .n); numbers = built .numbers; order = built .order; stored = built .stored; index = built .index; reasons = built .reasons } in
     let move : Move = record { pairs = length mv; vars = map (λ p. p .0) mv; values = map (λ p. p .1) mv } in
     let left = trial (built .session) own (record {
       move = move;
@@ -79,6 +80,7 @@ comesOut (tries t s mv asked route vals count) =
       results = zerosZ (length asked);
       trial = zerosZ (t .n);
       flags = zeros (t .n);
+      why = zeros (length asked);
     }) in
     answers (left .answer) (Accepted count) && same eqZ (left .results) vals && eqb (left .session .kept) 0 && eqb (left .session .evaluations) count
 

@@ -4,7 +4,7 @@ ghost use Prim.Native.Nat.{_≤_, _<_};
 ghost use lib.ListN.{length};
 ghost use lib.Seq.{sets};
 ghost use mathlib.Core.List.{_++_};
-ghost use Rattle.paper.specs.File.{bytesOf, headOf, headBytesAs};
+ghost use Rattle.paper.specs.File.{bytesOf, versionOf, headOf, headBytes};
 use crate::places::bounds_at;
 use crate::places::ends_at;
 use crate::places::entries_at;
@@ -26,8 +26,8 @@ fn put_counts(bytes: &mut [u8], version: usize, n: usize, m: usize, e: usize)
 
 // Stores the header of a file with these counts. Where there are no bounds the last field has no bytes.
 pub fn put_header(bytes: &mut [u8], bounds: bool, n: usize, m: usize, e: usize)
-    requires { ⌜ (n < 65536) × (m < 65536) × (e < 65536) × (headOf bounds ≤ length (now bytes)) ⌝ }
-    ensures { λ _. ⌜ now (bytes .exit) ≡ sets (now (bytes .entry)) 0 (headBytesAs bounds n m e) ⌝ }
+    requires { ⌜ (n < 65536) × (m < 65536) × (e < 65536) × (headOf (versionOf bounds) ≤ length (now bytes)) ⌝ }
+    ensures { λ _. ⌜ now (bytes .exit) ≡ sets (now (bytes .entry)) 0 (headBytes (versionOf bounds) n m e) ⌝ }
 {
     let version = version_number(bounds);
     let head = head_length(bounds);

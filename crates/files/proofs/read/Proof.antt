@@ -38,7 +38,9 @@ same-length-8 : tie.Need-same-length-8
 same-length-8 c = search needs
 
 returns : tie.Need-returns
-returns c = read-plainly (c .before .before .before .before .before .before .before .before .before .before .before .before .before .before .before .read-as .result) _ (c .before .before .before .before .before .before .before .before .before .before .before .before .before .before .before .read-as .ensures)
+returns c =
+    let k = c .before .before .before .before .before .before .before .before .before .before .before .before .before .before .before in
+    read-plainly _ _ _ (k .read-as .result) _ (k .read-as .ensures)
 
 pub read-spec : {M : Type 1} → statement M
 read-spec =

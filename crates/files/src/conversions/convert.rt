@@ -1,14 +1,9 @@
 // A file of one version as one of another.
 ghost use mathlib.Core.Path.{_≡_};
-ghost use mathlib.Core.Bool.{_&&_};
 ghost use Prim.Native.Nat.{_+_, _*_, _≤_, _<_};
-ghost use lib.Dec.{eqb};
 ghost use lib.ListN.{length, take, drop};
 ghost use lib.Seq.{sets};
-ghost use mir.Syntax.{w32};
-ghost use mir.Val.{ofZ};
 ghost use Rattle.paper.specs.Lists.{joined, firstFail};
-ghost use Rattle.paper.specs.Checks.{accepted};
 ghost use Rattle.paper.specs.File as File;
 ghost use Rattle.files.specs.HeaderAnswers.{Stated};
 ghost use Rattle.files.specs.MoveAnswers.{hasConverted};
@@ -77,8 +72,8 @@ fn convert_headed(
     e: usize,
     file: &mut [u8],
 ) -> Converted
-    requires { ⌜ Stated (now bytes) (File.headerAs (now bytes) from) n m e ⌝ }
-    ensures { λ r. ⌜ hasConverted r (now (file .exit)) ≡ File.convert from to (now (bytes .entry)) (now (file .entry)) ⌝ }
+    requires { ⌜ Stated (now bytes) (File.header (File.versionOf from) (now bytes)) n m e ⌝ }
+    ensures { λ r. ⌜ hasConverted r (now (file .exit)) ≡ File.convert (File.versionOf from) (File.versionOf to) (now (bytes .entry)) (now (file .entry)) ⌝ }
 {
     let head = head_length(from);
     let behind = bounds_at(head, n, m, e);
@@ -107,7 +102,7 @@ fn convert_headed(
 
 // Stores a file as one of another version.
 pub fn convert(from: bool, to: bool, bytes: &[u8], file: &mut [u8]) -> Converted
-    ensures { λ r. ⌜ hasConverted r (now (file .exit)) ≡ File.convert from to (now (bytes .entry)) (now (file .entry)) ⌝ }
+    ensures { λ r. ⌜ hasConverted r (now (file .exit)) ≡ File.convert (File.versionOf from) (File.versionOf to) (now (bytes .entry)) (now (file .entry)) ⌝ }
 {
     match header_as(bytes, from) {
         Reading::Accepted { n, m, e } => convert_headed(from, to, bytes, n, m, e, file),

@@ -2,6 +2,7 @@
 use mathlib.Core.Path.{refl, _∙_}
 use borrow.Author.Needs.{needs}
 use Rattle.paper.specs.Tables.{lent}
+use Rattle.paper.specs.File.{unboundedContents}
 use Rattle.report.proofs.Told.{unread-left, long-left, read-left, refused-left}
 use Rattle.report.proofs.build_file.Statement.{statement}
 use Rattle.report.proofs.build_file.Tie as tie
@@ -22,7 +23,7 @@ returns-2 c =
     let l = at-read .read .last .1 in
     at-built .build-tables .ensures
     ∙ read-left (a .numbers .now) (a .stored .now) (a .reasons .now) (a .file .now) (at-read .read .result)
-    (lent 0 0 0 (l .1 .0) (l .1 .1 .0) (l .1 .1 .1 .0) (l .1 .1 .1 .1 .0) (l .1 .1 .1 .1 .1 .0) (l .1 .1 .1 .1 .1 .1 .0) (l .1 .1 .1 .1 .1 .1 .1 .0)) (l .0)
+    (unboundedContents (lent 0 0 0 (l .1 .0) (l .1 .1 .0) (l .1 .1 .1 .0) (l .1 .1 .1 .1 .0) (l .1 .1 .1 .1 .1 .0) (l .1 .1 .1 .1 .1 .1 .0) (l .1 .1 .1 .1 .1 .1 .1 .0)) (l .0))
     (at-read .read .ensures) (at-test .if1 .left) _ _ _ (at-told .told .given .1)
 
 returns-3 : tie.Need-returns-3
@@ -34,7 +35,7 @@ returns-3 c =
     let l = at-read .read .last .1 in
     unread-left (a .numbers .now) (a .stored .now) (a .reasons .now) (c .unread2 .result) _ _ (c .unread2 .ensures)
     ∙ refused-left (a .numbers .now) (a .stored .now) (a .reasons .now) (a .file .now) (at-read .read .result)
-    (lent 0 0 0 (l .1 .0) (l .1 .1 .0) (l .1 .1 .1 .0) (l .1 .1 .1 .1 .0) (l .1 .1 .1 .1 .1 .0) (l .1 .1 .1 .1 .1 .1 .0) (l .1 .1 .1 .1 .1 .1 .1 .0)) (l .0)
+    (unboundedContents (lent 0 0 0 (l .1 .0) (l .1 .1 .0) (l .1 .1 .1 .0) (l .1 .1 .1 .1 .0) (l .1 .1 .1 .1 .1 .0) (l .1 .1 .1 .1 .1 .1 .0) (l .1 .1 .1 .1 .1 .1 .1 .0)) (l .0))
     (at-read .read .ensures) (at-test .if1 .left) _ _ (at-told .told2 .given .1)
 
 pub build-file-spec : {M : Type 1} → statement M

@@ -12,11 +12,11 @@ returns c =
     let at-build = c .before .before .before .before .before .before .before .before .before in
     let at-lows = at-build .before .before .before .before .before .before .before .before .before in
     let a = at-lows .before .before .before .before .before .before .before .before .args in
-    let b = at-build .build-reasoned in
+    let b = at-build .build-core in
     let l = b .last .1 .1 .1 .1 .1 .1 .1 .1 .1 .1 .1 .1 .1 .1 in
     let t = lent (a .n) (a .m) (a .e) (a .kinds .now) (a .makes .now) (a .params .now) (a .firsts .now) (a .counts .now) (a .vars .now) (a .coefs .now) in
     tables-left (a .numbers .now) (a .stored .now) (a .reasons .now) t (a .starts .now)
-    (b .result) (l .0) (l .1 .0) (l .1 .1 .0) (l .1 .1 .1 .0) (l .1 .1 .1 .1 .0) (l .1 .1 .1 .1 .1 .1 .0) (l .1 .1 .1 .1 .1 .0) (b .ensures)
+    (b .result) (l .0) (l .1 .0) (l .1 .1 .0) (l .1 .1 .1 .0) (l .1 .1 .1 .1 .0) (l .1 .1 .1 .1 .1 .0) (l .1 .1 .1 .1 .1 .1 .0) (b .ensures)
 
 pub build-tables-spec : {M : Type 1} → statement M
 build-tables-spec =

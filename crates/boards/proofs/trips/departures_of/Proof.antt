@@ -50,6 +50,9 @@ slice-aggregate-build-new-12 c = search needs
 slice-aggregate-build-new-13 : tie.Need-slice-aggregate-build-new-13
 slice-aggregate-build-new-13 c = search needs
 
+slice-aggregate-build-new-14 : tie.Need-slice-aggregate-build-new-14
+slice-aggregate-build-new-14 c = search needs
+
 build-new-requires : tie.Need-build-new-requires
 build-new-requires c κs = search needs
 
@@ -62,8 +65,8 @@ again f = subst⁻¹ (SFits w32) (toZ-ofZ f) f
 
 returns : tie.Need-returns
 returns c =
-    let s = c .before .before .before .before .before .before .before .before .before .before .before .before .before .before .before .before .before .before .before .before in
-    toZ-ofZ (sfits-of (c .result .given)) ∙ ap (λ (x : BuildLeft). getD (x .stored) 3 (pos 0)) (c .before .before .before .before .before .before .build-new .ensures)
+    let s = c .before .before .before .before .before .before .before .before .before .before .before .before .before .before .before .before .before .before .before .before .before .before in
+    toZ-ofZ (sfits-of (c .result .given)) ∙ ap (λ (x : BuildLeft). getD (x .stored) 3 (pos 0)) (c .before .before .before .before .before .before .before .build-new .ensures)
     ∙ departures-stored (toZ w32 (ofZ w32 (s .args .start))) (toZ w32 (ofZ w32 (s .args .end))) (toZ w32 (ofZ w32 (s .args .headway))) (again (s .fits .start)) (again (s .fits .end)) (again (s .fits .headway))
     ∙ simp (toZ-ofZ (s .fits .start), toZ-ofZ (s .fits .end), toZ-ofZ (s .fits .headway))
 
@@ -84,6 +87,7 @@ departures-of-spec =
     slice-aggregate-build-new-11
     slice-aggregate-build-new-12
     slice-aggregate-build-new-13
+    slice-aggregate-build-new-14
     build-new-requires
     array-copy-out-result
     returns)

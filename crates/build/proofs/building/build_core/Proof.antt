@@ -21,10 +21,10 @@ use Rattle.build.proofs.building.build_core.Tie as tie
 abbrev lent : tie.Start → BuildLent
 lent s =
     let a = s .args in
-    toBuild (recordIn (a .session)) (a .n) (a .m) (a .e) (a .kinds .now) (a .makes .now) (a .params .now) (a .firsts .now) (a .counts .now) (a .vars .now) (a .coefs .now) (a .lows .now) (a .highs .now) (a .starts .now) (a .numbers .now) (a .order .now) (a .stored .now) (a .reader-starts .now) (a .reader-places .now) (a .log-sizes .now)
+    toBuild (recordIn (a .session)) (a .n) (a .m) (a .e) (a .kinds .now) (a .makes .now) (a .params .now) (a .firsts .now) (a .counts .now) (a .vars .now) (a .coefs .now) (a .lows .now) (a .highs .now) (a .starts .now) (a .numbers .now) (a .order .now) (a .stored .now) (a .reader-starts .now) (a .reader-places .now) (a .reasons .now) (a .log-sizes .now)
 
 abbrev start : tie.After-enum-told → tie.Start
-start c = c .before .before .before .before .before .before .before .before .before .before .before .before .before .before .before .before .before .before .before .before
+start c = c .before .before .before .before .before .before .before .before .before .before .before .before .before .before .before .before .before .before .before .before .before .before
 
 passed : (c : tie.After-enum-told) → buildVerdict (lent (start c)) ≡ accepted
 passed c = let said = c .enum-told .given in any-session (lent (start c)) noRecord ∙ accepted-is 0 (said .0 .0) _ (sym (c .before .before .judge-build .ensures .verdict) ∙ said .1)
@@ -60,15 +60,18 @@ same-length-5 c = refl
 same-length-6 : tie.Need-same-length-6
 same-length-6 c = refl
 
+same-length-7 : tie.Need-same-length-7
+same-length-7 c = refl
+
 returns : tie.Need-returns
 returns c =
-    let l = lent (c .before .before .before .before .before .before .before .before .before .before .before .before .before .before .before .before .before .before .before .before) in let said = c .enum-told2 .given in let v = any-session l noRecord ∙ refused-is 0 _ _ _ (sym (c .before .before .judge-build .ensures .verdict) ∙ said .1) in
+    let l = lent (c .before .before .before .before .before .before .before .before .before .before .before .before .before .before .before .before .before .before .before .before .before .before) in let said = c .enum-told2 .given in let v = any-session l noRecord ∙ refused-is 0 _ _ _ (sym (c .before .before .judge-build .ensures .verdict) ∙ said .1) in
     build-meets l _ (refused (said .0 .0) (said .0 .1 .0)) v
-    (ap answerIn (said .1)) refl refl refl refl refl refl
+    (ap answerIn (said .1)) refl refl refl refl refl refl refl
 
 fill-model-requires : tie.Need-fill-model-requires
 fill-model-requires c κs =
-    let e = c .before .before .before .before .before .before .before in let l = lent (start e) in let said = e .enum-told .given in let judged = e .before .before .judge-build .ensures in
+    let e = c .before .before .before .before .before .before .before .before in let l = lent (start e) in let said = e .enum-told .given in let judged = e .before .before .judge-build .ensures in
     let k = build-known l (passed e) in let fit = fitting l (k .fits) in
     record {
       sound = k .sound;
@@ -83,40 +86,44 @@ fill-model-requires c κs =
       in-stored = fit .stored;
       index-starts = fit .index-starts;
       index-places = fit .index-places;
+      in-reasons = fit .reasons;
       in-log = fit .log;
     }
 
 cast-evaluations : tie.Need-cast-evaluations
-cast-evaluations c = let z = few (c .before .before .before .before .before .before .before .before .before .before .before .before .before .before .before .before .before .before .before) in omega (arith, z .m-most, z .n-most)
+cast-evaluations c = let z = few (c .before .before .before .before .before .before .before .before .before .before .before .before .before .before .before .before .before .before .before .before .before .before) in omega (arith, z .m-most, z .n-most)
 
 blanks-among-requires : tie.Need-blanks-among-requires
 blanks-among-requires c κs =
-    let e = c .before .before .before .before .before .before .before .before .before .before .before .before .before .before .before .before .before .before .before .before in let l = lent (start e) in let fit = fitting l (build-known l (passed e) .fits) in
-    (filled-long (l .tables .n) (worth (l .tables) (startValues l)) (l .stored) _ (c .before .before .before .before .before .before .before .before .before .before .before .before .fill-model .ensures .1 .1 .0) (fit .stored), fit .held .n-most)
-
-same-length-7 : tie.Need-same-length-7
-same-length-7 c = c .before .before .before .before .before .before .before .before .before .before .before .before .numbers .given
+    let e = c .before .before .before .before .before .before .before .before .before .before .before .before .before .before .before .before .before .before .before .before .before .before .before in let l = lent (start e) in let fit = fitting l (build-known l (passed e) .fits) in
+    (filled-long (l .tables .n) (worth (l .tables) (startValues l)) (l .stored) _ (c .before .before .before .before .before .before .before .before .before .before .before .before .before .before .fill-model .ensures .1 .1 .0) (fit .stored), fit .held .n-most)
 
 same-length-8 : tie.Need-same-length-8
-same-length-8 c = c .before .before .before .before .before .before .before .before .before .before .order .given
+same-length-8 c = c .before .before .before .before .before .before .before .before .before .before .before .before .before .before .numbers .given
 
 same-length-9 : tie.Need-same-length-9
-same-length-9 c = c .before .before .before .before .before .before .before .before .stored .given
+same-length-9 c = c .before .before .before .before .before .before .before .before .before .before .before .before .order .given
 
 same-length-10 : tie.Need-same-length-10
-same-length-10 c = c .before .before .before .before .before .before .before .reader-starts .given
+same-length-10 c = c .before .before .before .before .before .before .before .before .before .before .stored .given
 
 same-length-11 : tie.Need-same-length-11
-same-length-11 c = c .before .before .before .before .before .reader-places .given
+same-length-11 c = c .before .before .before .before .before .before .before .before .before .reader-starts .given
 
 same-length-12 : tie.Need-same-length-12
-same-length-12 c = c .before .before .before .log-sizes .given
+same-length-12 c = c .before .before .before .before .before .before .before .reader-places .given
+
+same-length-13 : tie.Need-same-length-13
+same-length-13 c = c .before .before .before .before .before .reasons .given
+
+same-length-14 : tie.Need-same-length-14
+same-length-14 c = c .before .before .before .log-sizes .given
 
 returns-2 : tie.Need-returns-2
 returns-2 c =
-    let e = c .before .before .before .before .before .before .before .before .before .before .before .before .before .before .before .before .before .before .before .before .before in let l = lent (start e) in let left = c .before .before .before .before .before .before .before .before .before .before .before .before .before .fill-model .ensures in
+    let e = c .before .before .before .before .before .before .before .before .before .before .before .before .before .before .before .before .before .before .before .before .before .before .before .before in let l = lent (start e) in let left = c .before .before .before .before .before .before .before .before .before .before .before .before .before .before .before .fill-model .ensures in
     build-meets l _ accepted (passed e) refl (ap (λ k. record { kept = 0; evaluations = l .tables .m; blanks = k }) (c .blanks-among .ensures ∙ blanks-over (l .tables .n) (worth (l .tables) (startValues l)) (l .stored) _ (left .1 .1 .0)))
-    (left .0) (left .1 .0) (left .1 .1 .0) (left .1 .1 .1 .0) (left .1 .1 .1 .1)
+    (left .0) (left .1 .0) (left .1 .1 .0) (left .1 .1 .1 .0) (left .1 .1 .1 .1 .0) (left .1 .1 .1 .1 .1)
 
 pub build-core-spec : {M : Type 1} → statement M
 build-core-spec =
@@ -131,14 +138,16 @@ build-core-spec =
     same-length-4
     same-length-5
     same-length-6
+    same-length-7
     returns
     fill-model-requires
     cast-evaluations
     blanks-among-requires
-    same-length-7
     same-length-8
     same-length-9
     same-length-10
     same-length-11
     same-length-12
+    same-length-13
+    same-length-14
     returns-2)

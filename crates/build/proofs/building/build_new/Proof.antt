@@ -17,11 +17,11 @@ stay accepted = refl
 stay (refused number place) = refl
 
 left : (l : BuildLent) (x : BuildLeft) → l .logSizes ≡ none → x ≡ build l
-    → record { answer = x .answer; session = x .session; numbers = x .numbers; order = x .order; stored = x .stored; index = x .index; logSizes = none } ≡ build l
+    → record { answer = x .answer; session = x .session; numbers = x .numbers; order = x .order; stored = x .stored; index = x .index; reasons = x .reasons; logSizes = none } ≡ build l
 unfolding build
 left l x new e =
     let sizes : x .logSizes ≡ none = ap (λ (y : BuildLeft). y .logSizes) e ∙ ap (λ s. leaves (buildVerdict l) (set s 0 0) s) new ∙ stay (buildVerdict l) in
-    (λ i. record { answer = x .answer; session = x .session; numbers = x .numbers; order = x .order; stored = x .stored; index = x .index; logSizes = sym sizes i }) ∙ e
+    (λ i. record { answer = x .answer; session = x .session; numbers = x .numbers; order = x .order; stored = x .stored; index = x .index; reasons = x .reasons; logSizes = sym sizes i }) ∙ e
 
 slice-aggregate-build-core : tie.Need-slice-aggregate-build-core
 slice-aggregate-build-core c = refl
@@ -36,24 +36,27 @@ build-core-requires : tie.Need-build-core-requires
 build-core-requires c κs = tt
 
 same-length : tie.Need-same-length
-same-length c = c .before .before .before .before .before .before .before .before .before .numbers .given
+same-length c = c .before .before .before .before .before .before .before .before .before .before .before .numbers .given
 
 same-length-2 : tie.Need-same-length-2
-same-length-2 c = c .before .before .before .before .before .before .before .order .given
+same-length-2 c = c .before .before .before .before .before .before .before .before .before .order .given
 
 same-length-3 : tie.Need-same-length-3
-same-length-3 c = c .before .before .before .before .before .stored .given
+same-length-3 c = c .before .before .before .before .before .before .before .stored .given
 
 same-length-4 : tie.Need-same-length-4
-same-length-4 c = c .before .before .before .before .reader-starts .given
+same-length-4 c = c .before .before .before .before .before .before .reader-starts .given
 
 same-length-5 : tie.Need-same-length-5
-same-length-5 c = c .before .before .reader-places .given
+same-length-5 c = c .before .before .before .before .reader-places .given
+
+same-length-6 : tie.Need-same-length-6
+same-length-6 c = c .before .before .reasons .given
 
 returns : tie.Need-returns
 returns c =
-    let b = c .before .before .before .before .before .before .before .before .before .before in let a = b .before .before .before .before .before .before .before .before .before .before .before .before .before .before .before .before .before .before .args in
-    left (toBuild noRecord (a .n) (a .m) (a .e) (a .kinds .now) (a .makes .now) (a .params .now) (a .firsts .now) (a .counts .now) (a .vars .now) (a .coefs .now) (replicate 4096 lowest) (replicate 4096 highest) (a .starts .now) (a .numbers .now) (a .order .now) (a .stored .now) (a .reader-starts .now) (a .reader-places .now) none)
+    let b = c .before .before .before .before .before .before .before .before .before .before .before .before in let a = b .before .before .before .before .before .before .before .before .before .before .before .before .before .before .before .before .before .before .before .before .args in
+    left (toBuild noRecord (a .n) (a .m) (a .e) (a .kinds .now) (a .makes .now) (a .params .now) (a .firsts .now) (a .counts .now) (a .vars .now) (a .coefs .now) (replicate 4096 lowest) (replicate 4096 highest) (a .starts .now) (a .numbers .now) (a .order .now) (a .stored .now) (a .reader-starts .now) (a .reader-places .now) (a .reasons .now) none)
     _ refl (b .build-core .ensures)
 
 pub build-new-spec : {M : Type 1} → statement M
@@ -69,4 +72,5 @@ build-new-spec =
     same-length-3
     same-length-4
     same-length-5
+    same-length-6
     returns)

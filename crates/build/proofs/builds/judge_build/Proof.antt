@@ -31,7 +31,7 @@ use Rattle.build.proofs.builds.judge_build.Tie as tie
 abbrev asked : tie.Start → BuildLent
 asked s =
     let a = s .args in
-    toBuild noRecord (a .n) (a .m) (a .e) (a .kinds .now) (a .makes .now) (a .params .now) (a .firsts .now) (a .counts .now) (a .vars .now) (a .coefs .now) (a .lows .now) (a .highs .now) (a .starts .now) (a .numbers .now) (a .order .now) (a .stored .now) (a .reader-starts .now) (a .reader-places .now) (a .log-sizes .now)
+    toBuild noRecord (a .n) (a .m) (a .e) (a .kinds .now) (a .makes .now) (a .params .now) (a .firsts .now) (a .counts .now) (a .vars .now) (a .coefs .now) (a .lows .now) (a .highs .now) (a .starts .now) (a .numbers .now) (a .order .now) (a .stored .now) (a .reader-starts .now) (a .reader-places .now) (a .reasons .now) (a .log-sizes .now)
 
 build-fits-requires : tie.Need-build-fits-requires
 build-fits-requires c κs = search needs
@@ -41,12 +41,12 @@ refused-requires c κs = search needs
 
 returns : tie.Need-returns
 returns c =
-    let l = asked (c .before .before .before .before .before .before .before .before .before .before .before .before .before) in
+    let l = asked (c .before .before .before .before .before .before .before .before .before .before .before .before .before .before) in
     judged-refused l _ _ 1 0 (c .refused .ensures) (stops-1 l (sym (c .before .before .build-fits .ensures) ∙ not-true _ (c .before .if1 .taken)))
 
 -- ── past check 1 ──
 abbrev l₁ : tie.Else1 → BuildLent
-l₁ c = asked (c .before .before .before .before .before .before .before .before .before .before .before .before)
+l₁ c = asked (c .before .before .before .before .before .before .before .before .before .before .before .before .before)
 
 fits : (c : tie.Else1) → buildFits (l₁ c) ≡ true
 fits c = sym (c .before .build-fits .ensures) ∙ not-false _ (c .if1 .left)
@@ -85,7 +85,7 @@ slice-aggregate-number-all c = search needs
 number-all-requires : tie.Need-number-all-requires
 number-all-requires c κs =
     let e = c .before .before in let l = l₅ e in let t = l .tables in let held = fitting l (fits (e .before .before .before .before .before)) .held in let n = held .n-most in
-    let clean = c .before .before .before .before .before .before .before .before .before .before .before .before .before .before .before .before .before .before .before .pre in
+    let clean = c .before .before .before .before .before .before .before .before .before .before .before .before .before .before .before .before .before .before .before .before .pre in
     (formed-kinded t (formed-of t (sound e)), (held .kinds, (makers-kinded t _ (e .before .before .before .table-checks .ensures .makers (passed e)), record { long = omega (arith, clean .long); at = clean .at })))
 
 refused-requires-2 : tie.Need-refused-requires-2

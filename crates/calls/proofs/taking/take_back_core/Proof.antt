@@ -1,19 +1,20 @@
--- A refusal has written nothing; an acceptance is met field by field by what `fill_keep` with the latest move of the log and then `drop_move` leave. Assumes nothing.
-use Prim.Native.Nat.{ℕ}
+-- A refusal has written nothing; an acceptance is met field by field by what `fill_keep` with the latest move of the log and then `drop_move` leave, and by the reasons
+-- noted between. Assumes nothing.
 use native.Mathlib.Nat.{le-refl}
 use native.Mathlib.Omega.{arith}
-use mathlib.Core.List.{List}
 use mathlib.Core.Path.{_≡_, refl, sym, ap, _∙_}
-use Rattle.paper.specs.Checks.{accepted, refused}
+use Rattle.paper.specs.Net.{input-to-output, moved}
+use Rattle.paper.specs.Checks.{accepted, refused, movePairs}
 use Rattle.paper.specs.Log.{Log, logIn}
-use Rattle.paper.specs.Calls.{Session, Model, takeVerdict}
+use Rattle.paper.specs.Calls.{Session, Model, storedValues, TakeLent, latest, takeVerdict}
 use Rattle.paper.proofs.Outcomes.{take-meets}
 use Rattle.paper.proofs.Sizes.{sized-facts}
-use Rattle.paper.proofs.Known.{take-known}
+use Rattle.paper.proofs.Known.{model-meets, take-known}
 use Rattle.tables.proofs.Judged.{accepted-is, refused-is}
-use Rattle.verdicts.specs.Lent.{toModel}
+use Rattle.verdicts.specs.Lent.{toModel, toTake}
 use Rattle.records.specs.Left.{recordIn, answerIn}
-use Rattle.fills.proofs.Accepted.{take-by-kept, Latest, latest-at, latest-is, taking-of, filled-long, take-met}
+use Rattle.fills.proofs.Accepted.{take-by-kept, Latest, latest-at, latest-is, taking-of, filled-long, filled-same, take-met}
+use Rattle.fills.proofs.Given.{moved-given}
 use Rattle.calls.proofs.taking.take_back_core.Statement.{statement}
 use Rattle.calls.proofs.taking.take_back_core.Tie as tie
 
@@ -24,20 +25,20 @@ abbrev log : tie.Start → Log
 log s = let a = s .args in logIn (a .log-sizes .now) (a .log-vars .now) (a .log-values .now)
 
 abbrev model : tie.Start → Model
-model s = let a = s .args in toModel (a .n) (a .m) (a .e) (a .kinds .now) (a .makes .now) (a .params .now) (a .firsts .now) (a .counts .now) (a .vars .now) (a .coefs .now) (a .lows .now) (a .highs .now) (a .numbers .now) (a .order .now) (a .stored .now) (a .reader-starts .now) (a .reader-places .now)
+model s = let a = s .args in toModel (a .n) (a .m) (a .e) (a .kinds .now) (a .makes .now) (a .params .now) (a .firsts .now) (a .counts .now) (a .vars .now) (a .coefs .now) (a .lows .now) (a .highs .now) (a .numbers .now) (a .order .now) (a .stored .now) (a .reader-starts .now) (a .reader-places .now) (a .reasons .now)
 
-abbrev flags : tie.Start → List ℕ
-flags s = s .args .flags .now
+abbrev taking : tie.Start → TakeLent
+taking s = toTake (s .args .flags .now)
 
 abbrev start : tie.After-enum-told → tie.Start
-start c = c .before .before .before .before .before .before .before .before .before .before .before .before .before .before .before .before .before .before
+start c = c .before .before .before .before .before .before .before .before .before .before .before .before .before .before .before .before .before .before .before .before
 
-passed : (c : tie.After-enum-told) → takeVerdict (session (start c)) (log (start c)) (model (start c)) (flags (start c)) ≡ accepted
-passed c = let s = start c in let said = c .enum-told .given in take-by-kept (session s) (log s) (model s) (flags s) ∙ accepted-is 0 (said .0 .0) _ (sym (c .before .before .judge-take-back .ensures) ∙ said .1)
+passed : (c : tie.After-enum-told) → takeVerdict (session (start c)) (log (start c)) (model (start c)) (taking (start c)) ≡ accepted
+passed c = let s = start c in let said = c .enum-told .given in take-by-kept (session s) (log s) (model s) (taking s) ∙ accepted-is 0 (said .0 .0) _ (sym (c .before .before .judge-take-back .ensures) ∙ said .1)
 
 -- where the latest move stands
 found : (c : tie.After-latest-move) → Latest (log (start (c .before .before))) (c .latest-move .result)
-found c = let e = c .before .before in let s = start e in latest-at (session s) (log s) (model s) (flags s) (passed e) (c .latest-move .ensures)
+found c = let e = c .before .before in let s = start e in latest-at (session s) (log s) (model s) (taking s) (passed e) (c .latest-move .ensures)
 
 judge-take-back-requires : tie.Need-judge-take-back-requires
 judge-take-back-requires c κs = tt
@@ -57,15 +58,18 @@ same-length-2 c = refl
 same-length-3 : tie.Need-same-length-3
 same-length-3 c = refl
 
+same-length-4 : tie.Need-same-length-4
+same-length-4 c = refl
+
 returns : tie.Need-returns
 returns c =
-    let s = c .before .before .before .before .before .before .before .before .before .before .before .before .before .before .before .before .before .before in let said = c .enum-told2 .given in
-    let v = take-by-kept (session s) (log s) (model s) (flags s) ∙ refused-is 0 _ _ _ (sym (c .before .before .judge-take-back .ensures) ∙ said .1) in
-    take-meets (session s) (log s) (model s) _ (refused (said .0 .0) (said .0 .1 .0)) (flags s) v
-    (ap answerIn (said .1)) refl refl refl refl
+    let s = c .before .before .before .before .before .before .before .before .before .before .before .before .before .before .before .before .before .before .before .before in let said = c .enum-told2 .given in
+    let v = take-by-kept (session s) (log s) (model s) (taking s) ∙ refused-is 0 _ _ _ (sym (c .before .before .judge-take-back .ensures) ∙ said .1) in
+    take-meets (session s) (log s) (model s) _ (refused (said .0 .0) (said .0 .1 .0)) (taking s) v
+    (ap answerIn (said .1)) refl refl refl refl refl
 
 latest-move-requires : tie.Need-latest-move-requires
-latest-move-requires c κs = let e = c .before in let s = start e in let k = latest-at (session s) (log s) (model s) (flags s) (passed e) refl .in-sizes in omega arith
+latest-move-requires c κs = let e = c .before in let s = start e in let k = latest-at (session s) (log s) (model s) (taking s) (passed e) refl .in-sizes in omega arith
 
 add-wide : tie.Need-add-wide
 add-wide c = let k = found (c .before) .few in omega arith
@@ -112,33 +116,45 @@ part-fill-keep-end-2 c = le-refl _
 fill-keep-requires : tie.Need-fill-keep-requires
 fill-keep-requires c κs =
     let e = c .before .before .before .before .before .before .before .before in let s = start e in
-    taking-of (session s) (log s) (model s) (flags s) (passed e) _ (latest-is (log s) (flags s) _ _ (c .before .before .before .before .before .before .latest-move .ensures) (c .before .before .before .wide .ensures .0))
+    taking-of (session s) (log s) (model s) (taking s) (passed e) _ (latest-is (log s) (taking s) _ _ (c .before .before .before .before .before .before .latest-move .ensures) (c .before .before .before .wide .ensures .0))
+
+note-reasons-requires : tie.Need-note-reasons-requires
+note-reasons-requires c κs =
+    let e = c .before .before .before .before .before .before .before .before .before .before .before .before .before .before .before in let s = start e in let n = model s .tables .n in let f = c .before .before .before .before .before .before .fill-keep .ensures in
+    let k = take-known (session s) (log s) (model s) (taking s) (passed e) .model in let ready = taking-of (session s) (log s) (model s) (taking s) (passed e) (latest (log s) (taking s)) refl in
+    (k .sound, (filled-long n _ (model s .stored) _ (f .stored-is) (ready .in-stored), filled-long n _ (s .args .flags .now) _ (f .flags-are) (ready .in-flags), k .reasons-long))
 
 drop-move-requires : tie.Need-drop-move-requires
-drop-move-requires c κs = let k = found (c .before .before .before .before .before .before .before .before .before .before .before) .in-sizes in omega arith
+drop-move-requires c κs = let k = found (c .before .before .before .before .before .before .before .before .before .before .before .before .before .before .before .before .before) .in-sizes in omega arith
 
 blanks-among-requires : tie.Need-blanks-among-requires
 blanks-among-requires c κs =
-    let e = c .before .before .before .before .before .before .before .before .before .before .before .before .before .before .before .before .before in let s = start e in let k = take-known (session s) (log s) (model s) (flags s) (passed e) .model in
-    (filled-long _ _ _ _ (c .before .before .before .before .before .before .before .before .fill-keep .ensures .stored-is) (k .stored-long), sized-facts (model s .tables) (k .sound .sized) .n-most)
+    let e = c .before .before .before .before .before .before .before .before .before .before .before .before .before .before .before .before .before .before .before .before .before .before .before in let s = start e in let k = take-known (session s) (log s) (model s) (taking s) (passed e) .model in
+    (filled-long _ _ _ _ (c .before .before .before .before .before .before .before .before .before .before .before .before .before .before .fill-keep .ensures .stored-is) (k .stored-long), sized-facts (model s .tables) (k .sound .sized) .n-most)
 
 kept-once-less-requires : tie.Need-kept-once-less-requires
 kept-once-less-requires c κs = tt
 
-same-length-4 : tie.Need-same-length-4
-same-length-4 c = c .before .before .before .before .before .before .before .before .before .stored .given
-
 same-length-5 : tie.Need-same-length-5
-same-length-5 c = c .before .before .before .before .before .before .before .before .flags .given
+same-length-5 c = c .before .before .before .before .before .before .before .before .before .before .before .before .before .before .before .stored .given
 
 same-length-6 : tie.Need-same-length-6
-same-length-6 c = c .before .before .before .before .log-sizes .given
+same-length-6 c = c .before .before .before .before .before .before .before .before .reasons .given
+
+same-length-7 : tie.Need-same-length-7
+same-length-7 c = c .before .before .before .before .before .before .before .before .before .before .before .before .before .before .flags .given
+
+same-length-8 : tie.Need-same-length-8
+same-length-8 c = c .before .before .before .before .log-sizes .given
 
 returns-2 : tie.Need-returns-2
 returns-2 c =
-    let e = c .before .before .before .before .before .before .before .before .before .before .before .before .before .before .before .before .before .before .before in let s = start e in
-    take-met (session s) (log s) (model s) _ _ _ _ _ _ (flags s) _ (latest-is (log s) (flags s) _ _ (c .before .before .before .before .before .before .before .before .before .before .before .before .before .before .before .before .before .latest-move .ensures) (c .before .before .before .before .before .before .before .before .before .before .before .before .before .before .wide .ensures .0)) (passed e)
-    (c .before .before .before .before .before .before .before .before .before .before .fill-keep .ensures) (c .kept-once-less .ensures) (c .before .blanks-among .ensures) (ap (λ sizes. logIn sizes (log s .vars) (log s .values)) (c .before .before .before .before .before .drop-move .ensures))
+    let e = c .before .before .before .before .before .before .before .before .before .before .before .before .before .before .before .before .before .before .before .before .before .before .before .before .before in let s = start e in let k = take-known (session s) (log s) (model s) (taking s) (passed e) in
+    let f = filled-same (latest-is (log s) (taking s) _ _ (c .before .before .before .before .before .before .before .before .before .before .before .before .before .before .before .before .before .before .before .before .before .before .before .latest-move .ensures) (c .before .before .before .before .before .before .before .before .before .before .before .before .before .before .before .before .before .before .before .before .wide .ensures .0)) (c .before .before .before .before .before .before .before .before .before .before .before .before .before .before .before .before .fill-keep .ensures) in
+    take-met (session s) (log s) (model s) _ _ _ _ _ _ _ (taking s) (passed e) f (c .kept-once-less .ensures) (c .before .blanks-among .ensures)
+    (moved-given (model s .tables) (k .model .sound) (model s .stored) (latest (log s) (taking s))
+    (model-meets (model s) (k .model) (k .fresh) (moved (movePairs (latest (log s) (taking s) .move)) (storedValues (model s))) (k .determined) input-to-output) _ (f .stored-is) _ (f .flags-are) (s .args .reasons .now) _ (c .before .before .before .before .before .before .before .before .before .note-reasons .ensures))
+    (ap (λ sizes. logIn sizes (log s .vars) (log s .values)) (c .before .before .before .before .before .drop-move .ensures))
 
 pub take-back-core-spec : {M : Type 1} → statement M
 take-back-core-spec =
@@ -150,6 +166,7 @@ take-back-core-spec =
     same-length
     same-length-2
     same-length-3
+    same-length-4
     returns
     latest-move-requires
     add-wide
@@ -167,10 +184,12 @@ take-back-core-spec =
     part-fill-keep-start-2
     part-fill-keep-end-2
     fill-keep-requires
+    note-reasons-requires
     drop-move-requires
     blanks-among-requires
     kept-once-less-requires
-    same-length-4
     same-length-5
     same-length-6
+    same-length-7
+    same-length-8
     returns-2)

@@ -1,5 +1,6 @@
 -- What `read_bounded` leaves, with its answer put as five numbers; the counts of a file that it accepts are small. Assumes nothing.
-use Rattle.capi.proofs.Read.{small-bounded, read-bounded-out}
+use Rattle.paper.specs.File.{version2}
+use Rattle.capi.proofs.Read.{small-read, read-out}
 use Rattle.capi.proofs.bounded.lukhandro_read_bounded.Statement.{statement}
 use Rattle.capi.proofs.bounded.lukhandro_read_bounded.Tie as tie
 
@@ -7,7 +8,7 @@ read-bounded-requires : tie.Need-read-bounded-requires
 read-bounded-requires c κs = tt
 
 read-numbers-requires : tie.Need-read-numbers-requires
-read-numbers-requires c κs = let r = c .before .before .before .before .before .before .before .before .before .before .before .before .before .before .before .read-bounded in small-bounded _ (r .result) _ _ (r .ensures)
+read-numbers-requires c κs = let r = c .before .before .before .before .before .before .before .before .before .before .before .before .before .before .before .read-bounded in small-read _ version2 (r .result) _ _ (r .ensures)
 
 same-length : tie.Need-same-length
 same-length c = c .before .before .before .before .before .before .before .before .before .before .before .before .before .before .before .starts .given
@@ -40,7 +41,7 @@ same-length-10 : tie.Need-same-length-10
 same-length-10 c = c .before .highs .given
 
 returns : tie.Need-returns
-returns c = let r = c .before .before .before .before .before .before .before .before .before .before .before .before .before .before .before .before .read-bounded in read-bounded-out _ (r .result) (c .read-numbers .ensures) (r .ensures)
+returns c = let r = c .before .before .before .before .before .before .before .before .before .before .before .before .before .before .before .before .read-bounded in read-out _ (r .result) (c .read-numbers .ensures) (r .ensures)
 
 pub lukhandro-read-bounded-spec : {M : Type 1} → statement M
 lukhandro-read-bounded-spec =

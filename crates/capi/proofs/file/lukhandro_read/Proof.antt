@@ -1,4 +1,5 @@
 -- What `read` leaves, with its answer put as five numbers; the counts of a file that it accepts are small. Assumes nothing.
+use Rattle.paper.specs.File.{version1}
 use Rattle.capi.proofs.Read.{small-read, read-out}
 use Rattle.capi.proofs.file.lukhandro_read.Statement.{statement}
 use Rattle.capi.proofs.file.lukhandro_read.Tie as tie
@@ -7,7 +8,7 @@ read-requires : tie.Need-read-requires
 read-requires c κs = tt
 
 read-numbers-requires : tie.Need-read-numbers-requires
-read-numbers-requires c κs = small-read _ _ _ _ _ _ _ _ (c .before .before .before .before .before .before .before .before .before .before .before .before .before .read .result) _ _ _ (c .before .before .before .before .before .before .before .before .before .before .before .before .before .read .ensures)
+read-numbers-requires c κs = let r = c .before .before .before .before .before .before .before .before .before .before .before .before .before .read in small-read _ version1 (r .result) _ _ (r .ensures)
 
 same-length : tie.Need-same-length
 same-length c = c .before .before .before .before .before .before .before .before .before .before .before .before .before .starts .given
@@ -34,7 +35,7 @@ same-length-8 : tie.Need-same-length-8
 same-length-8 c = c .before .coefs .given
 
 returns : tie.Need-returns
-returns c = read-out _ _ _ _ _ _ _ _ (c .before .before .before .before .before .before .before .before .before .before .before .before .before .before .read .result) (c .read-numbers .ensures) (c .before .before .before .before .before .before .before .before .before .before .before .before .before .before .read .ensures)
+returns c = let r = c .before .before .before .before .before .before .before .before .before .before .before .before .before .before .read in read-out _ (r .result) (c .read-numbers .ensures) (r .ensures)
 
 pub lukhandro-read-spec : {M : Type 1} → statement M
 lukhandro-read-spec =

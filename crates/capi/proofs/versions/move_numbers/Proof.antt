@@ -1,6 +1,6 @@
 -- Each variant is spelled out. Assumes nothing.
 use mathlib.Core.Path.{ap, sym}
-use Rattle.capi.specs.Versions.{moveInNumbers}
+use Rattle.capi.specs.Outcomes.{moveInNumbers}
 use borrow.Author.Needs.{needs}
 use Rattle.capi.proofs.versions.move_numbers.Statement.{statement}
 use Rattle.capi.proofs.versions.move_numbers.Tie as tie

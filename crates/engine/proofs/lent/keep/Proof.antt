@@ -1,25 +1,25 @@
--- `engine::keep` meets its contract: a walk of its MIR, by hand. The record's value is passed to `keep_reasoned` with the other parameters as they are, and the record is lent again to `set_kept`, `set_evaluations` and `set_blanks`, each of which sets one counter to what came back.
+-- `engine::keep` meets its contract: a walk of its MIR, by hand. The record's value is passed to `keep_core` with the other parameters as they are, and the record is lent again to `set_kept`, `set_evaluations` and `set_blanks`, each of which sets one counter to what came back.
 -- The record is the first parameter, so what the others own, their tokens and what is said of their last values are one thing each, the same in both contracts: the walk takes none of them apart.
 -- Assumes nothing.
 use Rattle.engine.proofs.Walking.{refl, [], _∷_, URA, SProp, emp, flft, Memory, Routine, Heap, Calls, Loops, Atoms, Lfts, Shares, AllOutlive, Fun, givenOf, tables, FmC, Valss, flat, owns, valss, now, typesAt, Args, alive, Triple, cited, Con, Walked, walked, framed}
 use Rattle.engine.proofs.Walking.{Given, ‵, raw, _⊛_, _$_, _∵_, !, qed, move, keep, drop, split, join, fsplit, fsplit3, fjoin, suffices, done, look, look-raw, init, stop, hop, fld, from, load, of-opd, no-more, assigns, land, returns, enter, alloc1, alloc0, params1, pass1, pass0, free0, whole, sub, look-in, ends-said}
 use Rattle.engine.proofs.Walking.{calls-said, id⊢, takes-number, takes-slice, hands, frees-local, lends-slice, sets-counters, svals, answered, is-answer, opens-record, closes-record, record-typed, done-typed, answer-typed, hears-done, spells-done, owns-answer, leaves-record, Known, sets-known}
-use Rattle.engine.proofs.Spelled.{keep-spells as spells, keep-tells as tells}
-use Rattle.reasoning.proofs.storing.keep_reasoned as core
-use Rattle.reasoning.proofs.storing.keep_reasoned.Symbol as core-def
-use Rattle.reasoning.proofs.storing.keep_reasoned.Symbol.{name as #storing·keep-reasoned}
-use Rattle.reasoning.proofs.storing.keep_reasoned.Met as core-thm
+use Rattle.engine.proofs.Spelled.{keep-spells, keep-tells}
+use Rattle.calls.proofs.keeping.keep_core as core
+use Rattle.calls.proofs.keeping.keep_core.Symbol as core-def
+use Rattle.calls.proofs.keeping.keep_core.Symbol.{name as #keeping·keep-core}
+use Rattle.calls.proofs.keeping.keep_core.Met as core-thm
 use Rattle.engine.proofs.lent.keep.Key.{name as #engine·keep}
 use Rattle.engine.proofs.lent.keep as here
 use Rattle.engine.proofs.lent.keep.Statement as stated
 use Rattle.engine.proofs.lent.keep.Code as code
 
-module _ {M : Type 1} (𝓤 : URA M) (H : Heap 𝓤) (A : Atoms 𝓤) (W : Given 𝓤 H A) (mem : Memory → SProp 𝓤) (run : Routine → Fun 𝓤) (C : Calls 𝓤 H) (Λ : Loops 𝓤 H) (fm : FmC 𝓤 H (W .laws) C) (known : Triple 𝓤 (C #storing·keep-reasoned) (Con 𝓤 H A core.ended (core.clauses 𝓤 H A mem run))) (sets : Known 𝓤 H A C)
+module _ {M : Type 1} (𝓤 : URA M) (H : Heap 𝓤) (A : Atoms 𝓤) (W : Given 𝓤 H A) (mem : Memory → SProp 𝓤) (run : Routine → Fun 𝓤) (C : Calls 𝓤 H) (Λ : Loops 𝓤 H) (fm : FmC 𝓤 H (W .laws) C) (known : Triple 𝓤 (C #keeping·keep-core) (Con 𝓤 H A core.ended (core.clauses 𝓤 H A mem run))) (sets : Known 𝓤 H A C)
     (κs : Lfts (here.signature .lifetimes)) (qs : Shares (here.signature .lifetimes)) (bounds : AllOutlive (here.signature .lifetimes) (here.signature .outlives) κs) (a : Args here.signature κs) where
   abbrev vss : Valss (typesAt (here.signature .params) κs)
-  vss = valss (typesAt (here.signature .params) κs) (spells κs) a
+  vss = valss (typesAt (here.signature .params) κs) (keep-spells κs) a
 
-  walk : Walked 𝓤 H A here.ended (here.clauses 𝓤 H A mem run) C Λ code.function spells κs qs bounds a tt
+  walk : Walked 𝓤 H A here.ended (here.clauses 𝓤 H A mem run) C Λ code.function keep-spells κs qs bounds a tt
   walk are =
       qed W ((‵ (flft (κs .0) (qs .0)) ⊛ raw (alive 𝓤 H A core.signature (κs .1) (qs .1))) ∷ ‵ (owns (typesAt (here.signature .params) κs) a vss) ∷ []) ∵ split ! $ move ! (2 ∷ []) $ fsplit ! $ fsplit3 ! $ drop ! $ move ! (0 ∷ 1 ∷ 3 ∷ []) $
       -- [obs; the borrow; its token; what the others own; their tokens]
@@ -37,7 +37,7 @@ module _ {M : Type 1} (𝓤 : URA M) (H : Heap 𝓤) (A : Atoms 𝓤) (W : Given
       lends-slice ! 44 22 20 refl refl (are .1 .1 .1 .1 .1 .1 .1 .1 .1 .1 .1 .1 .1 .1 .1 .1 .1 .1 .1 .1 .1 .1 .1 .0 .0 .1 .0) $
       lends-slice ! 42 18 16 refl refl (are .1 .1 .1 .1 .1 .1 .1 .1 .1 .1 .1 .1 .1 .1 .1 .1 .1 .1 .1 .1 .1 .1 .1 .1 .0 .0 .1 .0) $
       lends-slice ! 40 14 12 refl refl (are .1 .1 .1 .1 .1 .1 .1 .1 .1 .1 .1 .1 .1 .1 .1 .1 .1 .1 .1 .1 .1 .1 .1 .1 .1 .0 .0 .1 .0) $
-      -- `keep_reasoned`
+      -- `keep_core`
       move ! (3 ∷ 94 ∷ []) $ fjoin ! $ move ! (94 ∷ 0 ∷ []) $ calls-said 𝓤 H A core.ended (core.clauses 𝓤 H A mem run) ! fm known ((κs .1, qs .1, tt, (now (a .0), a .1), (svals (now (a .0)), vss .1)), tt) (id⊢ 𝓤 (emp 𝓤))
       (hands ! 36 refl (hands ! 88 refl (hands ! 86 refl (hands ! 84 refl (hands ! 82 refl (hands ! 80 refl (hands ! 78 refl (hands ! 76 refl (hands ! 74 refl (hands ! 72 refl (hands ! 70 refl (hands ! 68 refl (hands ! 66 refl (hands ! 64 refl (hands ! 62 refl (hands ! 32 refl (hands ! 58 refl (hands ! 56 refl (hands ! 28 refl (hands ! 52 refl (hands ! 50 refl (hands ! 48 refl (hands ! 24 refl (hands ! 20 refl (hands ! 16 refl (hands ! 12 refl (no-more !))))))))))))))))))))))))))) (λ v r ws. fsplit ! $ drop ! $ move ! (3 ∷ []) $ hears-done ! r v (λ is.
       -- [the others' last values; the `ensures`; their tokens; obs; the borrow; its token; locals]
@@ -55,7 +55,7 @@ module _ {M : Type 1} (𝓤 : URA M) (H : Heap 𝓤) (A : Atoms 𝓤) (W : Given
 pub keep-spec : {M : Type 1} → stated.statement M
 unfolding code.routine
 keep-spec 𝓤 H 𝓜 𝓖 𝓡 =
-    walked 𝓤 H 𝓜 𝓖 𝓡 code.env here.ended (here.clauses 𝓤 H (𝓖 .A) (𝓜 .mem) (𝓡 .run)) spells tells #engine·keep code.function (code.unfolded 𝓤 H 𝓜 𝓡)
+    walked 𝓤 H 𝓜 𝓖 𝓡 code.env here.ended (here.clauses 𝓤 H (𝓖 .A) (𝓜 .mem) (𝓡 .run)) keep-spells keep-tells #engine·keep code.function (code.unfolded 𝓤 H 𝓜 𝓡)
     (λ κs qs bounds a _. walk 𝓤 H (𝓖 .A) (givenOf 𝓤 H 𝓜 𝓖) (𝓜 .mem) (𝓡 .run) (tables 𝓤 H 𝓜 𝓡 code.env .C) (tables 𝓤 H 𝓜 𝓡 code.env .Λ) (framed 𝓤 H 𝓜 𝓖 𝓡 code.env)
-    (cited 𝓤 H (Con 𝓤 H (𝓖 .A) core.ended (core.clauses 𝓤 H (𝓖 .A) (𝓜 .mem) (𝓡 .run))) 𝓜 𝓡 code.env #storing·keep-reasoned core-def.routine code.calls-reasoning·storing·keep-reasoned (core-thm.met 𝓤 H 𝓜 𝓖 𝓡))
+    (cited 𝓤 H (Con 𝓤 H (𝓖 .A) core.ended (core.clauses 𝓤 H (𝓖 .A) (𝓜 .mem) (𝓡 .run))) 𝓜 𝓡 code.env #keeping·keep-core core-def.routine code.calls-calls·keeping·keep-core (core-thm.met 𝓤 H 𝓜 𝓖 𝓡))
     (sets-known 𝓤 H 𝓜 𝓖 𝓡 code.env code.calls-engine·counters·set-kept code.calls-engine·counters·set-evaluations code.calls-engine·counters·set-blanks) κs qs bounds a)

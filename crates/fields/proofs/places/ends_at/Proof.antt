@@ -1,7 +1,5 @@
--- The bounds take 8 bytes for each variable that has them (`ends-is`). Assumes nothing.
-use mathlib.Core.Path.{sym, _∙_}
+-- The bounds take 8 bytes for each variable that has them. Assumes nothing.
 use borrow.Author.Needs.{needs}
-use Rattle.paper.proofs.Written.{ends-is}
 use Rattle.fields.proofs.places.ends_at.Statement.{statement}
 use Rattle.fields.proofs.places.ends_at.Tie as tie
 
@@ -21,9 +19,7 @@ add-result : tie.Need-add-result
 add-result c = search needs
 
 returns : tie.Need-returns
-returns c =
-    let a = c .before .before .before .args in
-    rw (c .before .bounds-at .ensures, c .before .before .head-length .ensures .0, c .bounded-count .ensures .0) (sym (ends-is (a .bounds) (a .n) (a .m) (a .e)))
+returns c = rw (c .before .bounds-at .ensures, c .before .before .head-length .ensures .0, c .bounded-count .ensures .0)
 
 pub ends-at-spec : {M : Type 1} → statement M
 ends-at-spec =

@@ -1,4 +1,5 @@
 -- The test is the one of the definition; past it all moves are tried, and short of it nothing is written. Assumes nothing.
+use lib.ListN.{replicate}
 use borrow.Author.Tests.{not-true, not-false}
 use Rattle.paper.specs.Calls.{Session, Model}
 use Rattle.verdicts.specs.Lent.{toModel}
@@ -13,7 +14,7 @@ abbrev session : tie.Start → Session
 session s = recordIn (s .args .session)
 
 abbrev model : tie.Start → Model
-model s = let a = s .args in toModel (a .n) (a .m) (a .e) (a .kinds .now) (a .makes .now) (a .params .now) (a .firsts .now) (a .counts .now) (a .vars .now) (a .coefs .now) (a .lows .now) (a .highs .now) (a .numbers .now) (a .order .now) (a .stored .now) (a .reader-starts .now) (a .reader-places .now)
+model s = let a = s .args in toModel (a .n) (a .m) (a .e) (a .kinds .now) (a .makes .now) (a .params .now) (a .firsts .now) (a .counts .now) (a .vars .now) (a .coefs .now) (a .lows .now) (a .highs .now) (a .numbers .now) (a .order .now) (a .stored .now) (a .reader-starts .now) (a .reader-places .now) (replicate 4096 0)
 
 abbrev batch : tie.Start → Batch
 batch s = let a = s .args in batchOf (a .moves) (a .move-pairs .now) (a .move-vars .now) (a .move-values .now)

@@ -2,6 +2,7 @@
 use Prim.Native.Nat.{_-_, _≤_}
 use native.Mathlib.Omega.{arith}
 use mathlib.Core.Path.{ap₂, _∙_}
+use lib.ListN.{replicate}
 use borrow.Author.Needs.{needs}
 use Rattle.paper.specs.Calls.{Session, Model}
 use Rattle.checks.specs.Moves.{moveOf}
@@ -15,7 +16,7 @@ use Rattle.figures.proofs.batch.try_all.Tie as tie
 
 abbrev Inv-loop : tie.InvT-loop
 Inv-loop session n m e kinds makes params firsts counts vars coefs lows highs numbers order stored reader-starts reader-places moves move-pairs move-vars move-values asked by-number₀ totals₀ at₀ i₀ by-number totals at i =
-    Going (recordIn session) (toModel n m e kinds makes params firsts counts vars coefs lows highs numbers order stored reader-starts reader-places) asked (batchOf moves move-pairs move-vars move-values) by-number₀ by-number totals at i × (i ≤ moves)
+    Going (recordIn session) (toModel n m e kinds makes params firsts counts vars coefs lows highs numbers order stored reader-starts reader-places (replicate 4096 0)) asked (batchOf moves move-pairs move-vars move-values) by-number₀ by-number totals at i × (i ≤ moves)
 
 abbrev μ-loop : tie.MeasureT-loop
 μ-loop session n m e kinds makes params firsts counts vars coefs lows highs numbers order stored reader-starts reader-places moves move-pairs move-vars move-values asked by-number₀ totals₀ at₀ i₀ by-number totals at i = moves - i
@@ -24,7 +25,7 @@ abbrev session : tie.Start Inv-loop μ-loop → Session
 session s = recordIn (s .args .session)
 
 abbrev model : tie.Start Inv-loop μ-loop → Model
-model s = let a = s .args in toModel (a .n) (a .m) (a .e) (a .kinds .now) (a .makes .now) (a .params .now) (a .firsts .now) (a .counts .now) (a .vars .now) (a .coefs .now) (a .lows .now) (a .highs .now) (a .numbers .now) (a .order .now) (a .stored .now) (a .reader-starts .now) (a .reader-places .now)
+model s = let a = s .args in toModel (a .n) (a .m) (a .e) (a .kinds .now) (a .makes .now) (a .params .now) (a .firsts .now) (a .counts .now) (a .vars .now) (a .coefs .now) (a .lows .now) (a .highs .now) (a .numbers .now) (a .order .now) (a .stored .now) (a .reader-starts .now) (a .reader-places .now) (replicate 4096 0)
 
 abbrev batch : tie.Start Inv-loop μ-loop → Batch
 batch s = let a = s .args in batchOf (a .moves) (a .move-pairs .now) (a .move-vars .now) (a .move-values .now)

@@ -1,6 +1,7 @@
 -- The rows that the trial is lent are those of the definition. Assumes nothing.
 use native.Mathlib.Omega.{arith}
 use mathlib.Core.Path.{ap}
+use lib.ListN.{replicate}
 use borrow.Author.Needs.{needs, sfits-of}
 use mir.Syntax.{w32}
 use mir.Facts.{toZ-ofZ}
@@ -26,6 +27,12 @@ slice-aggregate-trial-core-3 c = search needs
 slice-aggregate-trial-core-4 : tie.Need-slice-aggregate-trial-core-4
 slice-aggregate-trial-core-4 c = search needs
 
+slice-aggregate-trial-core-5 : tie.Need-slice-aggregate-trial-core-5
+slice-aggregate-trial-core-5 c = search needs
+
+slice-aggregate-trial-core-6 : tie.Need-slice-aggregate-trial-core-6
+slice-aggregate-trial-core-6 c = search needs
+
 trial-core-requires : tie.Need-trial-core-requires
 trial-core-requires c κs = search needs
 
@@ -35,17 +42,17 @@ number-of-requires c κs = search needs
 evaluations-of-requires : tie.Need-evaluations-of-requires
 evaluations-of-requires c κs = search needs
 
-array-copy-out-t42 : tie.Need-array-copy-out-t42
-array-copy-out-t42 c = search needs
+array-copy-out-t48 : tie.Need-array-copy-out-t48
+array-copy-out-t48 c = search needs
 
 abbrev model : tie.Start → Model
-model s = let a = s .args in toModel (a .n) (a .m) (a .e) (a .kinds .now) (a .makes .now) (a .params .now) (a .firsts .now) (a .counts .now) (a .vars .now) (a .coefs .now) (a .lows .now) (a .highs .now) (a .numbers .now) (a .order .now) (a .stored .now) (a .reader-starts .now) (a .reader-places .now)
+model s = let a = s .args in toModel (a .n) (a .m) (a .e) (a .kinds .now) (a .makes .now) (a .params .now) (a .firsts .now) (a .counts .now) (a .vars .now) (a .coefs .now) (a .lows .now) (a .highs .now) (a .numbers .now) (a .order .now) (a .stored .now) (a .reader-starts .now) (a .reader-places .now) (replicate 4096 0)
 
 returns : tie.Need-returns
 returns c =
-    let s = c .before .before .before .before .before .before .before .before .before .before .before .before .before .before .before .before .before .before .before .before .before in let a = s .args in
-    let fits = sfits-of (c .t42 .given) in let mv = moveOf (a .pairs) (a .move-vars .now) (a .move-values .now) in
-    let is = tried-is (recordIn (a .session)) (model s) (a .asked) (a .route) mv _ _ (c .before .before .before .before .before .before .trial-core .ensures) (c .before .before .number-of .ensures) (c .before .evaluations-of .ensures) (toZ-ofZ fits) in
+    let s = c .before .before .before .before .before .before .before .before .before .before .before .before .before .before .before .before .before .before .before .before .before .before .before .before in let a = s .args in
+    let fits = sfits-of (c .t48 .given) in let mv = moveOf (a .pairs) (a .move-vars .now) (a .move-values .now) in
+    let is = tried-is (recordIn (a .session)) (model s) (a .asked) (a .route) mv _ _ (c .before .before .before .before .before .before .before .trial-core .ensures) (c .before .before .number-of .ensures) (c .before .evaluations-of .ensures) (toZ-ofZ fits) in
     let low = tried-low (recordIn (a .session)) (model s) (a .asked) (a .route) mv in
     (is, omega (arith, low .0, ap (λ (x : Tried). x .number) is), omega (arith, low .1, ap (λ (x : Tried). x .evaluations) is), simp (toZ-ofZ fits) (fits-away w32 _ fits))
 
@@ -57,8 +64,10 @@ try-by-spec =
     slice-aggregate-trial-core-2
     slice-aggregate-trial-core-3
     slice-aggregate-trial-core-4
+    slice-aggregate-trial-core-5
+    slice-aggregate-trial-core-6
     trial-core-requires
     number-of-requires
     evaluations-of-requires
-    array-copy-out-t42
+    array-copy-out-t48
     returns)

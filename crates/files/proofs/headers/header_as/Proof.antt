@@ -2,7 +2,7 @@
 use native.Mathlib.Omega.{arith}
 use borrow.Author.Needs.{needs}
 use Rattle.paper.specs.Checks.{accepted}
-use Rattle.paper.specs.File.{headedAs, headerAs}
+use Rattle.paper.specs.File.{versionOf, headed, header}
 use Rattle.files.specs.HeaderAnswers.{Stated}
 use Rattle.files.proofs.Counted.{Counted, counted-next}
 use Rattle.files.proofs.HeaderAnswered.{answer-require, refused-counts, given-counts}
@@ -11,10 +11,10 @@ use Rattle.files.proofs.headers.header_as.Tie as tie
 
 -- what the answer to the counts says
 says : (c : tie.After-head-length) → let k = c .before .before .told .given .0 in let a = c .before .before .before .before .before .before .args in
-    Stated (a .bytes .now) (headedAs (a .bytes .now) (a .bounds) accepted) (k .0) (k .1 .0) (k .1 .1 .0) × Counted (a .bounds) (a .bytes .now)
+    Stated (a .bytes .now) (headed (versionOf (a .bounds)) (a .bytes .now) accepted) (k .0) (k .1 .0) (k .1 .1 .0) × Counted (versionOf (a .bounds)) (a .bytes .now)
 says c =
     let a = c .before .before .before .before .before .before .args in
-    given-counts (a .bounds) (a .bytes .now) (c .before .before .before .before .counts-as .ensures) (c .before .before .told .given .1)
+    given-counts (versionOf (a .bounds)) (a .bytes .now) (c .before .before .before .before .counts-as .ensures) (c .before .before .told .given .1)
 
 counts-as-requires : tie.Need-counts-as-requires
 counts-as-requires c κs = search needs
@@ -26,7 +26,7 @@ enum-told : tie.Need-enum-told
 enum-told c = search needs
 
 returns : tie.Need-returns
-returns c = let a = c .before .before .before .before .args in refused-counts (a .bounds) (a .bytes .now) (c .before .before .counts-as .ensures) (c .enum-told .given .1)
+returns c = let a = c .before .before .before .before .args in refused-counts (versionOf (a .bounds)) (a .bytes .now) (c .before .before .counts-as .ensures) (c .enum-told .given .1)
 
 head-length-requires : tie.Need-head-length-requires
 head-length-requires c κs = search needs
@@ -73,7 +73,7 @@ right-requires-5 : tie.Need-right-requires-5
 right-requires-5 c κs = search needs
 
 returns-2 : tie.Need-returns-2
-unfolding headerAs
+unfolding header
 returns-2 c =
     let r = c .before .before .before .before .before .before in let g = r .before .before .before in let k = g .before .before .before .before in
     let h = says k in let a = k .before .before .before .before .before .before .args in
@@ -95,7 +95,7 @@ returns-2 c =
       h .0 .n-is,
       h .0 .m-is,
       h .0 .e-is,
-      counted-next (a .bounds) (a .bytes .now) (h .0 .good),
+      counted-next (versionOf (a .bounds)) (a .bytes .now) (h .0 .good),
       answer-require,
     )
 

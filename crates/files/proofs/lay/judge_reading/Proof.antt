@@ -1,7 +1,7 @@
 -- A wrong header is refused, then short rows; else the counts are told. Assumes nothing.
 use borrow.Author.Tests.{not-true, not-false}
 use Rattle.paper.specs.Tables.{lent}
-use Rattle.paper.specs.File.{Contents, contents}
+use Rattle.paper.specs.File.{versionOf, Contents, contents}
 use Rattle.files.proofs.Answered.{refused-header, short-rows, room-enough}
 use Rattle.files.proofs.lay.judge_reading.Statement.{statement}
 use Rattle.files.proofs.lay.judge_reading.Tie as tie
@@ -24,7 +24,7 @@ enum-told c = c .match .keys2
 returns : tie.Need-returns
 returns c =
     let s = c .before .before .before .before .before .before .before .before .before in
-    refused-header (s .args .bounds) (s .args .bytes .now) (given s) (c .before .before .header-as .ensures) (c .enum-told .given .1)
+    refused-header (versionOf (s .args .bounds)) (s .args .bytes .now) (given s) (c .before .before .header-as .ensures) (c .enum-told .given .1)
 
 rows-held-requires : tie.Need-rows-held-requires
 rows-held-requires c κs = tt
@@ -32,13 +32,13 @@ rows-held-requires c κs = tt
 returns-2 : tie.Need-returns-2
 returns-2 c =
     let s = c .before .before .before .before .before .before .before .before .before .before .before .before in
-    short-rows (s .args .bounds) (s .args .bytes .now) (given s) (c .before .before .before .before .before .header-as .ensures) (c .before .before .before .told .given .1)
+    short-rows (versionOf (s .args .bounds)) (s .args .bytes .now) (given s) (c .before .before .before .before .before .header-as .ensures) (c .before .before .before .told .given .1)
     (rw (← (c .before .rows-held .ensures)) (not-true _ (c .if1 .taken)))
 
 returns-3 : tie.Need-returns-3
 returns-3 c =
     let s = c .before .before .before .before .before .before .before .before .before .before .before .before in
-    room-enough (s .args .bounds) (s .args .bytes .now) (given s) (c .before .before .before .before .before .header-as .ensures) (c .before .before .before .told .given .1)
+    room-enough (versionOf (s .args .bounds)) (s .args .bytes .now) (given s) (c .before .before .before .before .before .header-as .ensures) (c .before .before .before .told .given .1)
     (rw (← (c .before .rows-held .ensures)) (not-false _ (c .if1 .left)))
 
 pub judge-reading-spec : {M : Type 1} → statement M

@@ -1,13 +1,11 @@
 -- What is refused changes nothing (`nothing-read`); else each column is laid over its row, and the file is long enough for all (`all-read`). Assumes nothing.
-use Prim.Native.Nat.{_+_, _*_}
 use native.Mathlib.Omega.{arith}
-use mathlib.Core.Path.{_≡_, _∙_}
+use mathlib.Core.Path.{_≡_}
 use borrow.Author.Needs.{needs}
 use lib.ListN.{length}
 use Rattle.paper.specs.Tables.{lent}
-use Rattle.paper.specs.File.{Contents, contents, headOf, bounded, boundsFrom, countedAs}
-use Rattle.paper.proofs.Sizes.{Held, held-as-facts}
-use Rattle.paper.proofs.Written.{ends-is}
+use Rattle.paper.specs.File.{versionOf, endsAt, Contents, contents, counted}
+use Rattle.paper.proofs.Sizes.{Held, held-facts}
 use Rattle.files.proofs.Answered.{nothing-read, roomy, all-read}
 use Rattle.files.proofs.lay.read_as.Statement.{statement}
 use Rattle.files.proofs.lay.read_as.Tie as tie
@@ -24,14 +22,14 @@ begun c = c .before .before .before .before .before .before .before .before .bef
 
 -- under the counts that the file states
 abbrev model : tie.After-known-told → Contents
-model c = let k = c .before .told .given .0 in countedAs (k .0) (k .1 .0) (k .1 .1 .0) (given (begun c))
+model c = let k = c .before .told .given .0 in counted (k .0) (k .1 .0) (k .1 .1 .0) (given (begun c))
 
 says : (c : tie.After-known-told) → let a = begun c .args in let t = model c .tables in
-    Held (a .bounds) (model c) × (length (a .bytes .now) ≡ boundsFrom (headOf (a .bounds)) (t .n) (t .m) (t .e) + 8 * bounded (a .bounds) (t .n))
+    Held (versionOf (a .bounds)) (model c) × (length (a .bytes .now) ≡ endsAt (versionOf (a .bounds)) (t .n) (t .m) (t .e))
 says c =
-    let a = begun c .args in let t = model c .tables in
-    let r = roomy (a .bounds) (a .bytes .now) (given (begun c)) (c .before .before .before .judge-reading .ensures) (c .before .told .given .1) in
-    (held-as-facts (a .bounds) (model c) (r .0), r .1 ∙ ends-is (a .bounds) (t .n) (t .m) (t .e))
+    let a = begun c .args in
+    let r = roomy (versionOf (a .bounds)) (a .bytes .now) (given (begun c)) (c .before .before .before .judge-reading .ensures) (c .before .told .given .1) in
+    (held-facts (versionOf (a .bounds)) (model c) (r .0), r .1)
 
 judge-reading-requires : tie.Need-judge-reading-requires
 judge-reading-requires c κs = search needs
@@ -75,7 +73,7 @@ same-length-10 c = search needs
 returns : tie.Need-returns
 returns c =
     let s = c .before .before .before .before .before .before .before .before .before .before .before .before .before .before .before .before .before .before .before in
-    nothing-read (s .args .bounds) (s .args .bytes .now) (given s) (c .before .before .judge-reading .ensures) (c .enum-told .given .1)
+    nothing-read (versionOf (s .args .bounds)) (s .args .bytes .now) (given s) (c .before .before .judge-reading .ensures) (c .enum-told .given .1)
 
 head-length-requires : tie.Need-head-length-requires
 head-length-requires c κs = search needs
@@ -134,7 +132,7 @@ returns-2 c =
     let rows = c .before .before .before .before .before .before .before .before .before .before .before .before .before .before .before .before .before .before .before .before .lay-rows .ensures in
     let entries = c .before .before .before .before .before .before .before .before .lay-entries .ensures in
     let bounds = c .before .before .lay-bounds .ensures in
-    all-read (s .args .bounds) (s .args .bytes .now) (given s) (c .before .before .before .before .before .before .before .before .before .before .before .before .before .before .before .before .before .before .before .before .before .before .before .before .before .before .before .before .before .before .before .before .before .before .before .judge-reading .ensures) (c .before .before .before .before .before .before .before .before .before .before .before .before .before .before .before .before .before .before .before .before .before .before .before .before .before .before .before .before .before .before .before .before .before .told .given .1)
+    all-read (versionOf (s .args .bounds)) (s .args .bytes .now) (given s) (c .before .before .before .before .before .before .before .before .before .before .before .before .before .before .before .before .before .before .before .before .before .before .before .before .before .before .before .before .before .before .before .before .before .before .before .judge-reading .ensures) (c .before .before .before .before .before .before .before .before .before .before .before .before .before .before .before .before .before .before .before .before .before .before .before .before .before .before .before .before .before .before .before .before .before .told .given .1)
     (c .before .before .before .before .before .before .before .before .before .before .before .before .before .before .before .before .before .before .before .before .before .before .before .before .before .before .before .before .before .before .before .head-length .ensures .0) (c .before .before .before .before .before .before .before .before .before .before .before .before .before .before .before .before .before .before .before .before .before .before .before .before .before .before .before .before .before .before .bounds-at .ensures) (c .before .before .before .before .before .before .before .before .before .before .before .before .before .before .before .before .before .before .before .before .before .before .before .before .before .before .before .before .before .bounded-count .ensures .0)
     (c .before .before .before .before .before .before .before .before .before .before .before .before .before .before .before .before .before .before .before .before .before .before .before .before .before .before .before .lay-starts .ensures) (rows .0) (rows .1 .0) (rows .1 .1 .0) (rows .1 .1 .1 .0) (rows .1 .1 .1 .1) (entries .0) (entries .1) (bounds .0) (bounds .1)
 

@@ -3,7 +3,7 @@ use Prim.Native.Nat.{_≤_}
 use native.Mathlib.Omega.{arith}
 use mathlib.Core.Path.{refl, sym, _∙_}
 use Rattle.paper.specs.Tables.{Tables, Index, indexIn, lent}
-use Rattle.paper.specs.Calls.{Kept}
+use Rattle.paper.specs.Calls.{KeepLent}
 use Rattle.verdicts.specs.Lent.{toKeep}
 use Rattle.fills.proofs.Written.{held, count-fits, keep-filled}
 use Rattle.fills.proofs.Ran.{moves-long, begun, running, named}
@@ -15,7 +15,7 @@ tables s =
     let a = s .args in
     lent (a .n) (a .m) (a .e) (a .kinds .now) (a .makes .now) (a .params .now) (a .firsts .now) (a .counts .now) (a .vars .now) (a .coefs .now)
 
-abbrev kept : tie.Start → Kept
+abbrev kept : tie.Start → KeepLent
 kept s = let a = s .args in toKeep (a .pairs) (a .move-vars .now) (a .move-values .now) (a .flags .now)
 
 abbrev index : tie.Start → Index

@@ -1,10 +1,11 @@
 -- The move is put into the trial row and worked out there by its route, and the asked values are read from it (`trial-filled`). Assumes nothing.
 use Prim.Native.Nat.{_≤_}
 use native.Mathlib.Omega.{arith}
+use mathlib.Core.List.{[]}
 use mathlib.Core.Path.{sym, _∙_}
 use borrow.Author.Needs.{needs}
 use Rattle.paper.specs.Tables.{Tables, Index, indexIn, lent}
-use Rattle.paper.specs.Calls.{Tried, Kept}
+use Rattle.paper.specs.Calls.{TrialLent, KeepLent}
 use Rattle.verdicts.specs.Lent.{toTry}
 use Rattle.fills.proofs.Written.{held, count-fits, asked-long, asked-within, trial-filled}
 use Rattle.fills.proofs.Ran.{moves-long, begun, running, named}
@@ -16,12 +17,12 @@ tables s =
     let a = s .args in
     lent (a .n) (a .m) (a .e) (a .kinds .now) (a .makes .now) (a .params .now) (a .firsts .now) (a .counts .now) (a .vars .now) (a .coefs .now)
 
-abbrev tried : tie.Start → Tried
+abbrev tried : tie.Start → TrialLent
 tried s =
     let a = s .args in
-    toTry (a .pairs) (a .move-vars .now) (a .move-values .now) (a .asked) (a .asked-vars .now) (a .route) (a .results .now) (a .trial .now) (a .flags .now)
+    toTry (a .pairs) (a .move-vars .now) (a .move-values .now) (a .asked) (a .asked-vars .now) (a .route) (a .results .now) (a .trial .now) (a .flags .now) []
 
-abbrev kept : tie.Start → Kept
+abbrev kept : tie.Start → KeepLent
 kept s = record { move = tried s .move; flags = tried s .flags }
 
 abbrev index : tie.Start → Index

@@ -4,7 +4,7 @@ use mathlib.Core.Path.{_≡_, refl}
 use native.Mathlib.Omega.{arith}
 use lib.ListN.{length}
 use borrow.Author.Needs.{needs}
-use Rattle.paper.specs.Net.{number}
+use Rattle.paper.specs.Straight.{number}
 use Rattle.paper.specs.Tables.{net}
 use Rattle.paper.proofs.Buffers.{Filled, filled-start, filled-next, filled-end}
 use Rattle.order.specs.Formed.{bare}

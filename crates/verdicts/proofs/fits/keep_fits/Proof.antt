@@ -19,7 +19,7 @@ log-fits-requires c κs = search needs
 
 returns : tie.Need-returns
 returns c =
-    let a = c .before .before .before .before .before .before .before .before .before .before .before .before .before .before .before .before .args in
+    let a = c .before .before .before .before .before .before .before .before .before .before .before .before .before .before .before .before .before .args in
     (λ i. joined (c .before .before .model-fits .ensures i) (c .before .move-sizes .ensures i ∷ leb (a .n) (length (a .flags .now)) ∷ c .log-fits .ensures i ∷ [])) ∙ joined-every _ _
 
 pub keep-fits-spec : {M : Type 1} → statement M

@@ -17,7 +17,7 @@ log-fits-requires c κs = search needs
 
 returns : tie.Need-returns
 returns c =
-    let a = c .before .before .before .before .before .before .before .before .before .before .before .before .before .before .args in
+    let a = c .before .before .before .before .before .before .before .before .before .before .before .before .before .before .before .args in
     ap₂ (λ (x y : Bool). joined x (leb (a .n) (length (a .flags .now)) ∷ y ∷ [])) (c .before .model-fits .ensures) (c .log-fits .ensures) ∙ joined-every _ _
 
 pub take-fits-spec : {M : Type 1} → statement M

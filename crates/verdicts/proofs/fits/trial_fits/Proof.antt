@@ -17,10 +17,10 @@ move-sizes-requires c κs = search needs
 
 returns : tie.Need-returns
 returns c =
-    let a = c .before .before .before .before .before .before .before .before .before .before .before .before .before .before .args in
+    let a = c .before .before .before .before .before .before .before .before .before .before .before .before .before .before .before .before .args in
     ap₂ (λ (x y : Bool). joined x (
     y ∷ leb (a .asked) 32 ∷ leb (a .asked) (length (a .asked-vars .now)) ∷ leb (a .asked) (length (a .results .now)) ∷ leb (a .n) (length (a .trial .now))
-    ∷ leb (a .n) (length (a .flags .now)) ∷ []))
+    ∷ leb (a .n) (length (a .flags .now)) ∷ leb (a .asked) (length (a .why .now)) ∷ []))
     (c .before .model-fits .ensures) (c .move-sizes .ensures)
     ∙ joined-every _ _
 

@@ -7,7 +7,7 @@ use borrow.Author.Tests.{not-true, not-false}
 use Rattle.paper.specs.Tables.{Tables}
 use Rattle.paper.specs.Checks.{Verdict}
 use Rattle.paper.specs.Log.{Log, logIn}
-use Rattle.paper.specs.Calls.{Model, Kept, keepFits, keepVerdict}
+use Rattle.paper.specs.Calls.{Model, KeepLent, keepFits, keepVerdict}
 use Rattle.paper.proofs.Lists.{each}
 use Rattle.paper.proofs.Verdicts.{Chain}
 use Rattle.verdicts.specs.Lent.{toModel, toKeep}
@@ -21,12 +21,12 @@ use Rattle.verdicts.proofs.judges.judge_keep.Tie as tie
 abbrev model : tie.Start → Model
 model s =
     let a = s .args in
-    toModel (a .n) (a .m) (a .e) (a .kinds .now) (a .makes .now) (a .params .now) (a .firsts .now) (a .counts .now) (a .vars .now) (a .coefs .now) (a .lows .now) (a .highs .now) (a .numbers .now) (a .order .now) (a .stored .now) (a .reader-starts .now) (a .reader-places .now)
+    toModel (a .n) (a .m) (a .e) (a .kinds .now) (a .makes .now) (a .params .now) (a .firsts .now) (a .counts .now) (a .vars .now) (a .coefs .now) (a .lows .now) (a .highs .now) (a .numbers .now) (a .order .now) (a .stored .now) (a .reader-starts .now) (a .reader-places .now) (a .reasons .now)
 
 abbrev log : tie.Start → Log
 log s = let a = s .args in logIn (a .log-sizes .now) (a .log-vars .now) (a .log-values .now)
 
-abbrev kept : tie.Start → Kept
+abbrev kept : tie.Start → KeepLent
 kept s = let a = s .args in toKeep (a .pairs) (a .move-vars .now) (a .move-values .now) (a .flags .now)
 
 -- checks 10 to 12, 17 and 16
@@ -45,18 +45,18 @@ refused-requires c κs = search needs
 returns : tie.Need-returns
 unfolding keepVerdict
 returns c =
-    let s = c .before .before .before .before .before .before .before .before .before .before .before .before .before .before .before .before in
+    let s = c .before .before .before .before .before .before .before .before .before .before .before .before .before .before .before .before .before in
     call-stops-1 (model s) (s .args .blanks) (keepFits (log s) (model s) (kept s)) (rest s) (chain s) (kept s .move) _ (c .refused .ensures) (sym (c .before .before .keep-fits .ensures) ∙ not-true _ (c .before .if1 .taken))
 
 -- ── past check 1 ──
-fits : (c : tie.Else1) → let s = c .before .before .before .before .before .before .before .before .before .before .before .before .before .before .before in keepFits (log s) (model s) (kept s) ≡ true
+fits : (c : tie.Else1) → let s = c .before .before .before .before .before .before .before .before .before .before .before .before .before .before .before .before in keepFits (log s) (model s) (kept s) ≡ true
 fits c = sym (c .before .keep-fits .ensures) ∙ not-false _ (c .if1 .left)
 
 slice-aggregate-model-checks : tie.Need-slice-aggregate-model-checks
 slice-aggregate-model-checks c = search needs
 
 model-checks-requires : tie.Need-model-checks-requires
-model-checks-requires c κs = let h = each _ (fits (c .before)) .0 in let n = model-fitting (model (c .before .before .before .before .before .before .before .before .before .before .before .before .before .before .before .before)) (c .before .before .before .before .before .before .before .before .before .before .before .before .before .before .before .before .args .blanks) h .held .n-most in (h, omega arith)
+model-checks-requires c κs = let h = each _ (fits (c .before)) .0 in let n = model-fitting (model (c .before .before .before .before .before .before .before .before .before .before .before .before .before .before .before .before .before)) (c .before .before .before .before .before .before .before .before .before .before .before .before .before .before .before .before .before .args .blanks) h .held .n-most in (h, omega arith)
 
 enum-told : tie.Need-enum-told
 enum-told c = search needs
@@ -67,7 +67,7 @@ enum-told-2 c = search needs
 returns-2 : tie.Need-returns-2
 unfolding keepVerdict
 returns-2 c =
-    let s = c .before .before .before .before .before .before .before .before .before .before .before .before .before .before .before .before .before .before .before .before in let said = c .enum-told2 .given in
+    let s = c .before .before .before .before .before .before .before .before .before .before .before .before .before .before .before .before .before .before .before .before .before in let said = c .enum-told2 .given in
     call-stops (model s) (s .args .blanks) (keepFits (log s) (model s) (kept s)) (rest s) (chain s) (kept s .move) (fits (c .before .before .before .before .before)) _ _ (c .before .before .before .model-checks .ensures) (said .0 .0) (said .0 .1 .0) (said .1)
 
 -- ── the model accepted ──
@@ -76,7 +76,7 @@ slice-aggregate-keep-checks c = search needs
 
 keep-checks-requires : tie.Need-keep-checks-requires
 keep-checks-requires c κs =
-    let s = c .before .before .before .before .before .before .before .before .before .before .before .before .before .before .before .before .before .before .before .before .before in let said = c .before .enum-told .given in let f = each _ (fits (c .before .before .before .before .before .before)) in
+    let s = c .before .before .before .before .before .before .before .before .before .before .before .before .before .before .before .before .before .before .before .before .before .before in let said = c .before .enum-told .given in let f = each _ (fits (c .before .before .before .before .before .before)) in
     (move-ready (model s) (s .args .blanks) _ _ (c .before .before .before .before .model-checks .ensures) (said .0 .0) (said .1) (kept s .move) (f .1 .0), f .1 .1 .1 .0)
 
 enum-told-3 : tie.Need-enum-told-3
@@ -88,7 +88,7 @@ enum-told-4 c = search needs
 returns-3 : tie.Need-returns-3
 unfolding keepVerdict
 returns-3 c =
-    let s = c .before .before .before .before .before .before .before .before .before .before .before .before .before .before .before .before .before .before .before .before .before .before .before .before in let said = c .before .before .before .before .enum-told .given in let refusal = c .enum-told4 .given in
+    let s = c .before .before .before .before .before .before .before .before .before .before .before .before .before .before .before .before .before .before .before .before .before .before .before .before .before in let said = c .before .before .before .before .enum-told .given in let refusal = c .enum-told4 .given in
     call-stops-2 (model s) (s .args .blanks) (keepFits (log s) (model s) (kept s)) (rest s) (chain s) (kept s .move) (fits (c .before .before .before .before .before .before .before .before .before)) _ _ (c .before .before .before .before .before .before .before .model-checks .ensures) (said .0 .0) (said .1) _ (c .before .before .keep-checks .ensures) (refusal .0 .0) (refusal .0 .1 .0) (refusal .1)
 
 -- ── and what comes next ──
@@ -97,7 +97,7 @@ slice-aggregate-fresh-checks c = search needs
 
 fresh-checks-requires : tie.Need-fresh-checks-requires
 fresh-checks-requires c κs =
-    let s = c .before .before .before .before .before .before .before .before .before .before .before .before .before .before .before .before .before .before .before .before .before .before .before .before .before in let said = c .before .before .before .before .before .enum-told .given in let more = c .before .enum-told3 .given in
+    let s = c .before .before .before .before .before .before .before .before .before .before .before .before .before .before .before .before .before .before .before .before .before .before .before .before .before .before in let said = c .before .before .before .before .before .enum-told .given in let more = c .before .enum-told3 .given in
     let judged = c .before .before .before .before .before .before .before .before .model-checks .ensures in let f = each _ (fits (c .before .before .before .before .before .before .before .before .before .before)) in
     let passed = call-passed (model s) (s .args .blanks) (keepFits (log s) (model s) (kept s)) (rest s) (chain s) (kept s .move) (fits (c .before .before .before .before .before .before .before .before .before .before)) _ _ (c .before .before .before .before .before .before .before .before .model-checks .ensures) (said .0 .0) (said .1) _ (c .before .before .before .keep-checks .ensures) (more .0 .0) (more .1) in (
       model-sound (model s) (s .args .blanks) _ _ judged (said .0 .0) (said .1),
@@ -116,7 +116,7 @@ fresh-checks-requires c κs =
 returns-4 : tie.Need-returns-4
 unfolding keepVerdict
 returns-4 c =
-    let s = c .before .before .before .before .before .before .before .before .before .before .before .before .before .before .before .before .before .before .before .before .before .before .before .before .before .before in let said = c .before .before .before .before .before .before .enum-told .given in let more = c .before .before .enum-told3 .given in
+    let s = c .before .before .before .before .before .before .before .before .before .before .before .before .before .before .before .before .before .before .before .before .before .before .before .before .before .before .before in let said = c .before .before .before .before .before .before .enum-told .given in let more = c .before .before .enum-told3 .given in
     call-last (model s) (s .args .blanks) (keepFits (log s) (model s) (kept s)) (rest s) (chain s) (kept s .move) (fits (c .before .before .before .before .before .before .before .before .before .before .before)) _ _ (c .before .before .before .before .before .before .before .before .before .model-checks .ensures) (said .0 .0) (said .1) _ (c .before .before .before .before .keep-checks .ensures) (more .0 .0) (more .1) _ (c .fresh-checks .ensures)
 
 pub judge-keep-spec : {M : Type 1} → statement M

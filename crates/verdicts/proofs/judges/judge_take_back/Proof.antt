@@ -13,7 +13,7 @@ use Rattle.paper.specs.Calls.{Model, takeFits, takeVerdict}
 use Rattle.paper.proofs.Lists.{each}
 use Rattle.paper.proofs.Verdicts.{Chain, require-held, require-rest}
 use Rattle.paper.proofs.Known.{log-known}
-use Rattle.verdicts.specs.Lent.{toModel}
+use Rattle.verdicts.specs.Lent.{toModel, toTake}
 use Rattle.verdicts.specs.Chains.{takeChecks}
 use Rattle.verdicts.proofs.Chains.{take-then}
 use Rattle.verdicts.proofs.ModelJudging.{model-fitting}
@@ -25,7 +25,7 @@ use Rattle.verdicts.proofs.judges.judge_take_back.Tie as tie
 abbrev model : tie.Start → Model
 model s =
     let a = s .args in
-    toModel (a .n) (a .m) (a .e) (a .kinds .now) (a .makes .now) (a .params .now) (a .firsts .now) (a .counts .now) (a .vars .now) (a .coefs .now) (a .lows .now) (a .highs .now) (a .numbers .now) (a .order .now) (a .stored .now) (a .reader-starts .now) (a .reader-places .now)
+    toModel (a .n) (a .m) (a .e) (a .kinds .now) (a .makes .now) (a .params .now) (a .firsts .now) (a .counts .now) (a .vars .now) (a .coefs .now) (a .lows .now) (a .highs .now) (a .numbers .now) (a .order .now) (a .stored .now) (a .reader-starts .now) (a .reader-places .now) (a .reasons .now)
 
 abbrev log : tie.Start → Log
 log s = let a = s .args in logIn (a .log-sizes .now) (a .log-vars .now) (a .log-values .now)
@@ -46,18 +46,18 @@ refused-requires c κs = search needs
 returns : tie.Need-returns
 unfolding takeVerdict
 returns c =
-    let s = c .before .before .before .before .before .before .before .before .before .before .before .before .before .before .before in
-    call-stops-1 (model s) (s .args .blanks) (takeFits (log s) (model s) (s .args .flags .now)) (rest s) (chain s) (back (log s) (pred (logged (log s)))) _ (c .refused .ensures) (sym (c .before .before .take-fits .ensures) ∙ not-true _ (c .before .if1 .taken))
+    let s = c .before .before .before .before .before .before .before .before .before .before .before .before .before .before .before .before in
+    call-stops-1 (model s) (s .args .blanks) (takeFits (log s) (model s) (toTake (s .args .flags .now))) (rest s) (chain s) (back (log s) (pred (logged (log s)))) _ (c .refused .ensures) (sym (c .before .before .take-fits .ensures) ∙ not-true _ (c .before .if1 .taken))
 
 -- ── past check 1 ──
-fits : (c : tie.Else1) → let s = c .before .before .before .before .before .before .before .before .before .before .before .before .before .before in takeFits (log s) (model s) (s .args .flags .now) ≡ true
+fits : (c : tie.Else1) → let s = c .before .before .before .before .before .before .before .before .before .before .before .before .before .before .before in takeFits (log s) (model s) (toTake (s .args .flags .now)) ≡ true
 fits c = sym (c .before .take-fits .ensures) ∙ not-false _ (c .if1 .left)
 
 slice-aggregate-model-checks : tie.Need-slice-aggregate-model-checks
 slice-aggregate-model-checks c = search needs
 
 model-checks-requires : tie.Need-model-checks-requires
-model-checks-requires c κs = let h = each _ (fits (c .before)) .0 in let n = model-fitting (model (c .before .before .before .before .before .before .before .before .before .before .before .before .before .before .before)) (c .before .before .before .before .before .before .before .before .before .before .before .before .before .before .before .args .blanks) h .held .n-most in (h, omega arith)
+model-checks-requires c κs = let h = each _ (fits (c .before)) .0 in let n = model-fitting (model (c .before .before .before .before .before .before .before .before .before .before .before .before .before .before .before .before)) (c .before .before .before .before .before .before .before .before .before .before .before .before .before .before .before .before .args .blanks) h .held .n-most in (h, omega arith)
 
 enum-told : tie.Need-enum-told
 enum-told c = search needs
@@ -68,8 +68,8 @@ enum-told-2 c = search needs
 returns-2 : tie.Need-returns-2
 unfolding takeVerdict
 returns-2 c =
-    let s = c .before .before .before .before .before .before .before .before .before .before .before .before .before .before .before .before .before .before .before in let said = c .enum-told2 .given in
-    call-stops (model s) (s .args .blanks) (takeFits (log s) (model s) (s .args .flags .now)) (rest s) (chain s) (back (log s) (pred (logged (log s)))) (fits (c .before .before .before .before .before)) _ _ (c .before .before .before .model-checks .ensures) (said .0 .0) (said .0 .1 .0) (said .1)
+    let s = c .before .before .before .before .before .before .before .before .before .before .before .before .before .before .before .before .before .before .before .before in let said = c .enum-told2 .given in
+    call-stops (model s) (s .args .blanks) (takeFits (log s) (model s) (toTake (s .args .flags .now))) (rest s) (chain s) (back (log s) (pred (logged (log s)))) (fits (c .before .before .before .before .before)) _ _ (c .before .before .before .model-checks .ensures) (said .0 .0) (said .0 .1 .0) (said .1)
 
 -- ── the model accepted ──
 slice-aggregate-take-checks : tie.Need-slice-aggregate-take-checks
@@ -77,7 +77,7 @@ slice-aggregate-take-checks c = search needs
 
 take-checks-requires : tie.Need-take-checks-requires
 take-checks-requires c κs =
-    let s = c .before .before .before .before .before .before .before .before .before .before .before .before .before .before .before .before .before .before .before .before in let said = c .before .enum-told .given in let f = each _ (fits (c .before .before .before .before .before .before)) in
+    let s = c .before .before .before .before .before .before .before .before .before .before .before .before .before .before .before .before .before .before .before .before .before in let said = c .before .enum-told .given in let f = each _ (fits (c .before .before .before .before .before .before)) in
     (model-makers (model s) (s .args .blanks) _ _ (c .before .before .before .before .model-checks .ensures) (said .0 .0) (said .1) .long, f .1 .1 .0)
 
 enum-told-3 : tie.Need-enum-told-3
@@ -89,8 +89,8 @@ enum-told-4 c = search needs
 returns-3 : tie.Need-returns-3
 unfolding takeVerdict
 returns-3 c =
-    let s = c .before .before .before .before .before .before .before .before .before .before .before .before .before .before .before .before .before .before .before .before .before .before .before in let said = c .before .before .before .before .enum-told .given in let refusal = c .enum-told4 .given in
-    call-stops-2 (model s) (s .args .blanks) (takeFits (log s) (model s) (s .args .flags .now)) (rest s) (chain s) (back (log s) (pred (logged (log s)))) (fits (c .before .before .before .before .before .before .before .before .before)) _ _ (c .before .before .before .before .before .before .before .model-checks .ensures) (said .0 .0) (said .1) _ (c .before .before .take-checks .ensures) (refusal .0 .0) (refusal .0 .1 .0) (refusal .1)
+    let s = c .before .before .before .before .before .before .before .before .before .before .before .before .before .before .before .before .before .before .before .before .before .before .before .before in let said = c .before .before .before .before .enum-told .given in let refusal = c .enum-told4 .given in
+    call-stops-2 (model s) (s .args .blanks) (takeFits (log s) (model s) (toTake (s .args .flags .now))) (rest s) (chain s) (back (log s) (pred (logged (log s)))) (fits (c .before .before .before .before .before .before .before .before .before)) _ _ (c .before .before .before .before .before .before .before .model-checks .ensures) (said .0 .0) (said .1) _ (c .before .before .take-checks .ensures) (refusal .0 .0) (refusal .0 .1 .0) (refusal .1)
 
 -- ── and what comes next ──
 slice-aggregate-back-checks : tie.Need-slice-aggregate-back-checks
@@ -98,9 +98,9 @@ slice-aggregate-back-checks c = search needs
 
 back-checks-requires : tie.Need-back-checks-requires
 back-checks-requires c κs =
-    let s = c .before .before .before .before .before .before .before .before .before .before .before .before .before .before .before .before .before .before .before .before .before .before .before .before in let said = c .before .before .before .before .before .enum-told .given in let more = c .before .enum-told3 .given in
+    let s = c .before .before .before .before .before .before .before .before .before .before .before .before .before .before .before .before .before .before .before .before .before .before .before .before .before in let said = c .before .before .before .before .before .enum-told .given in let more = c .before .enum-told3 .given in
     let judged = c .before .before .before .before .before .before .before .before .model-checks .ensures in let f = each _ (fits (c .before .before .before .before .before .before .before .before .before .before)) in
-    let passed = call-passed (model s) (s .args .blanks) (takeFits (log s) (model s) (s .args .flags .now)) (rest s) (chain s) (back (log s) (pred (logged (log s)))) (fits (c .before .before .before .before .before .before .before .before .before .before)) _ _ (c .before .before .before .before .before .before .before .before .model-checks .ensures) (said .0 .0) (said .1) _ (c .before .before .before .take-checks .ensures) (more .0 .0) (more .1) in (
+    let passed = call-passed (model s) (s .args .blanks) (takeFits (log s) (model s) (toTake (s .args .flags .now))) (rest s) (chain s) (back (log s) (pred (logged (log s)))) (fits (c .before .before .before .before .before .before .before .before .before .before)) _ _ (c .before .before .before .before .before .before .before .before .model-checks .ensures) (said .0 .0) (said .1) _ (c .before .before .before .take-checks .ensures) (more .0 .0) (more .1) in (
       model-sound (model s) (s .args .blanks) _ _ judged (said .0 .0) (said .1),
       (
         model-makers (model s) (s .args .blanks) _ _ judged (said .0 .0) (said .1),
@@ -119,8 +119,8 @@ back-checks-requires c κs =
 returns-4 : tie.Need-returns-4
 unfolding takeVerdict
 returns-4 c =
-    let s = c .before .before .before .before .before .before .before .before .before .before .before .before .before .before .before .before .before .before .before .before .before .before .before .before .before in let said = c .before .before .before .before .before .before .enum-told .given in let more = c .before .before .enum-told3 .given in
-    call-last (model s) (s .args .blanks) (takeFits (log s) (model s) (s .args .flags .now)) (rest s) (chain s) (back (log s) (pred (logged (log s)))) (fits (c .before .before .before .before .before .before .before .before .before .before .before)) _ _ (c .before .before .before .before .before .before .before .before .before .model-checks .ensures) (said .0 .0) (said .1) _ (c .before .before .before .before .take-checks .ensures) (more .0 .0) (more .1) _ (c .back-checks .ensures)
+    let s = c .before .before .before .before .before .before .before .before .before .before .before .before .before .before .before .before .before .before .before .before .before .before .before .before .before .before in let said = c .before .before .before .before .before .before .enum-told .given in let more = c .before .before .enum-told3 .given in
+    call-last (model s) (s .args .blanks) (takeFits (log s) (model s) (toTake (s .args .flags .now))) (rest s) (chain s) (back (log s) (pred (logged (log s)))) (fits (c .before .before .before .before .before .before .before .before .before .before .before)) _ _ (c .before .before .before .before .before .before .before .before .before .model-checks .ensures) (said .0 .0) (said .1) _ (c .before .before .before .before .take-checks .ensures) (more .0 .0) (more .1) _ (c .back-checks .ensures)
 
 pub judge-take-back-spec : {M : Type 1} → statement M
 judge-take-back-spec =

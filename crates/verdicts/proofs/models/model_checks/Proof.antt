@@ -23,13 +23,13 @@ use Rattle.verdicts.proofs.models.model_checks.Tie as tie
 abbrev model : tie.Start → Model
 model s =
     let a = s .args in
-    toModel (a .n) (a .m) (a .e) (a .kinds .now) (a .makes .now) (a .params .now) (a .firsts .now) (a .counts .now) (a .vars .now) (a .coefs .now) (a .lows .now) (a .highs .now) (a .numbers .now) (a .order .now) (a .stored .now) (a .reader-starts .now) (a .reader-places .now)
+    toModel (a .n) (a .m) (a .e) (a .kinds .now) (a .makes .now) (a .params .now) (a .firsts .now) (a .counts .now) (a .vars .now) (a .coefs .now) (a .lows .now) (a .highs .now) (a .numbers .now) (a .order .now) (a .stored .now) (a .reader-starts .now) (a .reader-places .now) (a .reasons .now)
 
 long : (s : tie.Start) → ModelFitting (model s) (s .args .blanks)
 long s = model-fitting (model s) (s .args .blanks) (s .pre .0)
 
 table-checks-requires : tie.Need-table-checks-requires
-table-checks-requires c κs = let s = c .before .before .before .before .before .before .before .before .before .before .before in let z = long s in (z .held, (z .lows, z .highs, s .pre .1))
+table-checks-requires c κs = let s = c .before .before .before .before .before .before .before .before .before .before .before .before in let z = long s in (z .held, (z .lows, z .highs, s .pre .1))
 
 enum-told : tie.Need-enum-told
 enum-told c = search needs
@@ -42,12 +42,12 @@ same-length c = search needs
 
 returns : tie.Need-returns
 returns c =
-    let s = c .before .before .before .before .before .before .before .before .before .before .before .before .before .before .before .before in let w = model s in let said = c .enum-told2 .given in
+    let s = c .before .before .before .before .before .before .before .before .before .before .before .before .before .before .before .before .before in let w = model s in let said = c .enum-told2 .given in
     model-refused w (s .args .blanks) _ _ (said .0 .0) (said .0 .1 .0) (said .1) (stops-tables w (s .args .blanks) _ _ (refused-is 0 _ _ (tableChecks (w .tables) (w .bounds) accepted) (sym (c .before .before .before .before .table-checks .ensures .verdict) ∙ said .1)))
 
 -- ── past check 5 ──
 abbrev start₅ : tie.After-enum-told → tie.Start
-start₅ c = c .before .before .before .before .before .before .before .before .before .before .before .before .before .before .before .before
+start₅ c = c .before .before .before .before .before .before .before .before .before .before .before .before .before .before .before .before .before
 
 -- the verdict of checks 2 to 5, and what it leaves
 passed : (c : tie.After-enum-told) → let w = model (start₅ c) in tableChecks (w .tables) (w .bounds) accepted ≡ accepted

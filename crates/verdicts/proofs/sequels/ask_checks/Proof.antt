@@ -8,7 +8,7 @@ use borrow.Author.Tests.{not-true, not-false}
 use Rattle.paper.specs.Lists.{between, nat, firstFail}
 use Rattle.paper.specs.Tables.{Tables}
 use Rattle.paper.specs.Checks.{accepted, Bounds, boundsIn}
-use Rattle.paper.specs.Calls.{Tried}
+use Rattle.paper.specs.Calls.{TrialLent}
 use Rattle.paper.proofs.Verdicts.{check-stops, check-passes}
 use Rattle.tables.specs.Answers.{answerOf}
 use Rattle.tables.specs.Makers.{Makers}
@@ -19,8 +19,8 @@ use Rattle.verdicts.proofs.Chains.{answer-stops, answer-next, answer-ac
 use Rattle.verdicts.proofs.sequels.ask_checks.Statement.{statement}
 use Rattle.verdicts.proofs.sequels.ask_checks.Tie as tie
 
-abbrev tried : tie.Start → Tried
-tried s = let a = s .args in toTry (a .pairs) (a .move-vars .now) (a .move-values .now) (a .asked) (a .asked-vars .now) (a .route) [] [] []
+abbrev tried : tie.Start → TrialLent
+tried s = let a = s .args in toTry (a .pairs) (a .move-vars .now) (a .move-values .now) (a .asked) (a .asked-vars .now) (a .route) [] [] [] []
 
 abbrev bounds : tie.Start → Bounds
 bounds s = let a = s .args in boundsIn (a .lows .now) (a .highs .now)

@@ -1,10 +1,10 @@
 -- The buffer holds what the file holds, as far as the counts reach, and each column is laid from it (`laid-padded`). Assumes nothing.
 use Prim.Native.Nat.{ℕ, _≤_}
 use native.Mathlib.Omega.{arith}
-use mathlib.Core.Path.{sym}
+use mathlib.Core.Path.{refl, sym}
 use lib.ListN.{length, length-replicate}
 use Rattle.paper.specs.Tables.{lent}
-use Rattle.paper.proofs.Reading.{same-rows}
+use Rattle.paper.proofs.Reading.{same-contents}
 use Rattle.paper.specs.File.{version1}
 use Rattle.files.proofs.Counted.{Counted, counted-facts}
 use Rattle.damage.proofs.Padded.{laid-padded}
@@ -50,7 +50,7 @@ returns c =
     let h = says s in let long = slice-aggregate-lay-starts (l .before .before) in
     laid-padded (a .bytes .now) (l .before .before .before .before .fill .ensures) (a .n) (a .m) (a .e) (omega arith) (s .pre .1) (s .pre .0)
     (lent 0 0 0 (a .kinds .now) (a .makes .now) (a .params .now) (a .firsts .now) (a .counts .now) (a .vars .now) (a .coefs .now)) (a .starts .now)
-    (same-rows (l .lay-starts .ensures) (rows .0) (rows .1 .0) (rows .1 .1 .0) (rows .1 .1 .1 .0) (rows .1 .1 .1 .1) (c .lay-entries .ensures .0) (c .lay-entries .ensures .1))
+    (same-contents (l .lay-starts .ensures) (rows .0) (rows .1 .0) (rows .1 .1 .0) (rows .1 .1 .1 .0) (rows .1 .1 .1 .1) (c .lay-entries .ensures .0) (c .lay-entries .ensures .1) refl refl)
 
 pub lay-given-spec : {M : Type 1} → statement M
 lay-given-spec =

@@ -1,6 +1,7 @@
 -- The version and the counts, and behind them the places, are the header; where there are no bounds the last field is empty (`head-run`). Assumes nothing.
 use native.Mathlib.Omega.{arith}
 use borrow.Author.Needs.{needs}
+use Rattle.paper.specs.File.{versionOf}
 use Rattle.fields.proofs.Runs.{none, call}
 use Rattle.fields.proofs.Heads.{head-run}
 use Rattle.fields.proofs.lines.header.put_header.Statement.{statement}
@@ -60,7 +61,7 @@ returns c =
     let b = k .before .before .before .before in
     let h = b .before .before .before .before in
     let a = h .before .before .before .args in
-    head-run (a .bounds) (a .n) (a .m) (a .e) (a .bytes .now) (rw (h .before .version-number .ensures) at (k .before .before .put-counts .ensures))
+    head-run (versionOf (a .bounds)) (a .n) (a .m) (a .e) (a .bytes .now) (rw (h .before .version-number .ensures) at (k .before .before .put-counts .ensures))
     (call (rw (h .head-length .ensures .0) at (c1 .before .before .put .ensures))
     (call (rw (b .before .before .before .rows-at .ensures, h .head-length .ensures .0) at (c2 .before .before .put2 .ensures))
     (call (rw (b .before .before .entries-at .ensures, h .head-length .ensures .0) at (c3 .before .before .put3 .ensures))

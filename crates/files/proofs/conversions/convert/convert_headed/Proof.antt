@@ -1,28 +1,27 @@
 -- Bounds that would be lost are refused, then a short buffer; else the three parts are stored one behind the other (`all-moved`). Assumes nothing.
-use Prim.Native.Nat.{_+_, _*_, _≤_}
+use Prim.Native.Nat.{_≤_}
 use native.Mathlib.Omega.{arith}
-use mathlib.Core.Path.{_≡_, _∙_}
+use mathlib.Core.Path.{_≡_}
 use lib.ListN.{length}
 use borrow.Author.Needs.{needs}
 use Rattle.paper.specs.Lists.{firstFail}
-use Rattle.paper.specs.File.{headOf, bounded, boundsFrom, endsAs}
-use Rattle.paper.proofs.Written.{ends-is}
+use Rattle.paper.specs.File.{versionOf, headOf, bounded, boundsFrom, endsAt}
 use Rattle.files.specs.Moving.{fullAt}
 use Rattle.files.proofs.Moving.{Facts, facts, lost-bounds, short-file, all-moved}
 use Rattle.files.proofs.conversions.convert.convert_headed.Statement.{statement}
 use Rattle.files.proofs.conversions.convert.convert_headed.Tie as tie
 
 -- ── what later answers look back to ──
-says : (c : tie.Start) → let a = c .args in Facts (a .from) (a .bytes .now) (a .n) (a .m) (a .e)
-says c = facts (c .args .from) (c .args .bytes .now) (c .pre)
+says : (c : tie.Start) → let a = c .args in Facts (versionOf (a .from)) (a .bytes .now) (a .n) (a .m) (a .e)
+says c = facts (versionOf (c .args .from)) (c .args .bytes .now) (c .pre)
 
 -- the first variable whose bounds are not full, as the paper counts
 found : (c : tie.After-first-narrow) → let a = c .before .before .before .before .before .before .args in
-    c .first-narrow .result ≡ firstFail (fullAt (a .bytes .now) (boundsFrom (headOf (a .from)) (a .n) (a .m) (a .e))) (bounded (a .from) (a .n))
+    c .first-narrow .result ≡ firstFail (fullAt (a .bytes .now) (boundsFrom (headOf (versionOf (a .from))) (a .n) (a .m) (a .e))) (bounded (versionOf (a .from)) (a .n))
 found c = rw (c .before .before .bounds-at .ensures, c .before .before .before .head-length .ensures .0, c .before .bounded-count .ensures .0) at (c .first-narrow .ensures .0)
 
-fits : (c : tie.Else2) → let a = c .before .before .before .before .before .before .before .before .before .args in boundsFrom (headOf (a .to)) (a .n) (a .m) (a .e) + 8 * bounded (a .to) (a .n) ≤ length (a .file .now)
-fits c = let a = c .before .before .before .before .before .before .before .before .before .args in rw (← (ends-is (a .to) (a .n) (a .m) (a .e))) (rw (c .before .ends-at .ensures) at (c .if2 .left))
+fits : (c : tie.Else2) → let a = c .before .before .before .before .before .before .before .before .before .args in endsAt (versionOf (a .to)) (a .n) (a .m) (a .e) ≤ length (a .file .now)
+fits c = rw (c .before .ends-at .ensures) at (c .if2 .left)
 
 head-length-requires : tie.Need-head-length-requires
 head-length-requires c κs = search needs
@@ -42,7 +41,7 @@ cast-t16 c = let h = says (c .before .before .before .before .before .before .be
 returns : tie.Need-returns
 returns c =
     let s = c .before .before .before .before .before .before .before in let a = s .args in
-    lost-bounds (a .from) (a .to) (a .bytes .now) (s .pre) (a .file .now) _ (found (c .before)) (rw (c .before .before .bounded-count .ensures .0) at (c .if1 .taken))
+    lost-bounds (versionOf (a .from)) (versionOf (a .to)) (a .bytes .now) (s .pre) (a .file .now) _ (found (c .before)) (rw (c .before .before .bounded-count .ensures .0) at (c .if1 .taken))
 
 ends-at-requires : tie.Need-ends-at-requires
 ends-at-requires c κs = let h = says (c .before .before .before .before .before .before .before) in omega arith
@@ -50,7 +49,7 @@ ends-at-requires c κs = let h = says (c .before .before .before .before .before
 returns-2 : tie.Need-returns-2
 returns-2 c =
     let s = c .before .before .before .before .before .before .before .before .before in let a = s .args in
-    short-file (a .from) (a .to) (a .bytes .now) (s .pre) (a .file .now) _ (found (c .before .before .before)) (rw (c .before .before .before .before .bounded-count .ensures .0) at (c .before .before .if1 .left)) (rw (c .before .ends-at .ensures) at (c .if2 .taken))
+    short-file (versionOf (a .from)) (versionOf (a .to)) (a .bytes .now) (s .pre) (a .file .now) _ (found (c .before .before .before)) (rw (c .before .before .before .before .bounded-count .ensures .0) at (c .before .before .if1 .left)) (rw (c .before .ends-at .ensures) at (c .if2 .taken))
 
 head-length-requires-2 : tie.Need-head-length-requires-2
 head-length-requires-2 c κs = search needs
@@ -84,7 +83,7 @@ returns-3 : tie.Need-returns-3
 returns-3 c =
     let s = c .before .before .before .before .before .before .before .before .before .before .before .before .before .before .before .before .before .before .before .before .before .before .before .before in let a = s .args in
     rw (c .before .before .before .before .before .before .before .before .before .before .before .before .before .before .before .before .ends-at .ensures)
-    (all-moved (a .from) (a .to) (a .bytes .now) (s .pre) (a .file .now) _ (found (c .before .before .before .before .before .before .before .before .before .before .before .before .before .before .before .before .before .before)) (rw (c .before .before .before .before .before .before .before .before .before .before .before .before .before .before .before .before .before .before .before .bounded-count .ensures .0) at (c .before .before .before .before .before .before .before .before .before .before .before .before .before .before .before .before .before .if1 .left)) (rw (c .before .before .before .before .before .before .before .before .before .before .before .before .before .before .before .before .ends-at .ensures) at (c .before .before .before .before .before .before .before .before .before .before .before .before .before .before .before .if2 .left))
+    (all-moved (versionOf (a .from)) (versionOf (a .to)) (a .bytes .now) (s .pre) (a .file .now) _ (found (c .before .before .before .before .before .before .before .before .before .before .before .before .before .before .before .before .before .before)) (rw (c .before .before .before .before .before .before .before .before .before .before .before .before .before .before .before .before .before .before .before .bounded-count .ensures .0) at (c .before .before .before .before .before .before .before .before .before .before .before .before .before .before .before .before .before .if1 .left)) (rw (c .before .before .before .before .before .before .before .before .before .before .before .before .before .before .before .before .ends-at .ensures) at (c .before .before .before .before .before .before .before .before .before .before .before .before .before .before .before .if2 .left))
     (c .before .before .before .before .before .before .before .before .before .before .before .put-header .ensures)
     (rw (c .before .before .before .before .before .before .before .before .before .before .before .before .before .before .before .before .before .before .before .before .bounds-at .ensures, c .before .before .before .before .before .before .before .before .before .before .before .before .before .before .before .before .before .before .before .before .before .head-length .ensures .0, c .before .before .before .before .before .before .before .before .before .before .before .before .before .before .head-length2 .ensures .0) at (c .before .before .before .before .before .before .before .copy .ensures))
     (rw (c .before .before .before .before .before .before .before .before .before .before .before .before .before .bounds-at2 .ensures, c .before .before .before .before .before .before .before .before .before .before .before .before .before .before .head-length2 .ensures .0, c .before .before .before .bounded-count2 .ensures .0) at (c .before .before .put-full .ensures)))

@@ -4,21 +4,35 @@ use Prim.Native.Nat.{ℕ, zero, suc, _+_, _≤_, _<_}
 use native.Mathlib.Nat.{le-refl}
 use native.Mathlib.Omega.{arith}
 use mathlib.Core.Bool.{Bool, true, false, cond, not}
-use mathlib.Core.List.{List, [], _∷_}
+use mathlib.Core.List.{List, [], _∷_, _++_}
 use mathlib.Core.Path.{_≡_, refl, ap, ap₂, sym, _∙_, fun-ext}
-use lib.Dec.{eqb, ltb}
+use lib.Dec.{eqb, leb, ltb}
 use lib.IntN.{ℤ, pos}
-use lib.ListN.{length, getD, take, drop}
-use lib.Seq.{length-take-le, getD-take, take-take}
+use lib.ListN.{length, getD, take, drop, length-take}
+use lib.Seq.{getD-take, take-take}
+use borrow.Author.Tests.{leb-true, leb-false, le-leb, lt-leb}
 use Rattle.integers.specs.Integers.{eqZ}
-use Rattle.paper.specs.Lists.{total, nat, seek}
+use Rattle.paper.specs.Lists.{every, total, nat, seek}
 use Rattle.paper.specs.Formula.{blank}
 use Rattle.paper.specs.Net.{able}
-use Rattle.paper.specs.Tables.{Tables, part, rowOf, isMade, inputsOf, ends, valuesIn}
+use Rattle.paper.specs.Tables.{Tables, bare, part, rowOf, isMade, inputsOf, ends, valuesIn}
 use Rattle.paper.specs.Checks.{sized, kindGood, shapeGood, numberGood, madeOnce, startGood, Sound}
-use Rattle.paper.specs.Demands.{cut}
-use Rattle.paper.proofs.Sizes.{sized-facts, sized-of}
 use Rattle.paper.proofs.Accept.{sound-row, made-row}
+
+-- a list cut at k is as long as k asks exactly if it was
+pub cut-long : {A : Type 0} (k : ℕ) (l : List A) → leb k (length (take k l)) ≡ leb k (length l)
+cut-long k l = go (leb k (length l)) refl
+  where
+    go : (b : Bool) → leb k (length l) ≡ b → leb k (length (take k l)) ≡ b
+    go true e = let h = leb-true k (length l) e in le-leb k (length (take k l)) (simp length-take (omega arith))
+    go false e = let h = leb-false k (length l) e in lt-leb k (length (take k l)) (simp length-take (omega arith))
+
+-- a conjunction whose last test fails
+last-fails : (bs : List Bool) → every (bs ++ (false ∷ [])) ≡ false
+unfolding every
+last-fails [] = refl
+last-fails (true ∷ bs) = last-fails bs
+last-fails (false ∷ bs) = refl
 
 -- a part that lies within the first e entries
 part-front : {A : Type 0} (a c e : ℕ) (l : List A) → a + c ≤ e → take c (drop a (take e l)) ≡ take c (drop a l)
@@ -27,20 +41,16 @@ part-front (suc a) c zero l h = absurd (omega arith)
 part-front (suc a) c (suc e) [] h = refl
 part-front (suc a) c (suc e) (x ∷ l) h = part-front a c e l (omega arith)
 
--- tables without what their rows hold beyond the counts
-abbrev pub bare : Tables → Tables
-bare t = cut (t, []) .0
-
 module _ (t : Tables) where
   abbrev m : ℕ
   m = t .m
 
   -- ── each row is as good ──
   module _ (r : ℕ) (l : r < m) where
-    kind-at : nat (bare t .kinds) r ≡ nat (t .kinds) r
+    pub kind-at : nat (bare t .kinds) r ≡ nat (t .kinds) r
     kind-at = getD-take m (t .kinds) r 0 l
 
-    makes-at : nat (bare t .makes) r ≡ nat (t .makes) r
+    pub makes-at : nat (bare t .makes) r ≡ nat (t .makes) r
     makes-at = getD-take m (t .makes) r 0 l
 
     first-at : nat (bare t .firsts) r ≡ nat (t .firsts) r
@@ -49,49 +59,50 @@ module _ (t : Tables) where
     count-at : nat (bare t .counts) r ≡ nat (t .counts) r
     count-at = getD-take m (t .counts) r 0 l
 
-    kind-same : kindGood (bare t) r ≡ kindGood t r
+    pub kind-same : kindGood (bare t) r ≡ kindGood t r
     kind-same = rw kind-at
 
     module _ (inside : nat (t .firsts) r + nat (t .counts) r ≤ t .e) where
-      part-same : {A : Type 0} (entries : List A) → part (bare t) r (take (t .e) entries) ≡ part t r entries
+      pub part-same : {A : Type 0} (entries : List A) → part (bare t) r (take (t .e) entries) ≡ part t r entries
       part-same entries = rw (first-at, count-at) (part-front (nat (t .firsts) r) (nat (t .counts) r) (t .e) entries inside)
 
-      shape-same : shapeGood (bare t) r ≡ shapeGood t r
-      shape-same = rw (makes-at, part-same (t .vars), kind-at, count-at, first-at, take-take r m (t .counts) (omega arith))
+      shape-inside : shapeGood (bare t) r ≡ shapeGood t r
+      shape-inside = rw (makes-at, part-same (t .vars), kind-at, count-at, first-at, take-take r m (t .counts) (omega arith))
 
-      number-same : numberGood (bare t) r ≡ numberGood t r
+      pub number-same : numberGood (bare t) r ≡ numberGood t r
       number-same = rw (kind-at, getD-take m (t .params) r (pos 0) l, part-same (t .coefs))
 
-    once-same : madeOnce (bare t) r ≡ madeOnce t r
+    -- a part that does not end within e is bad either way
+    pub shape-same : shapeGood (bare t) r ≡ shapeGood t r
+    shape-same = go (leb (nat (t .firsts) r + nat (t .counts) r) (t .e)) refl
+      where
+        go : (b : Bool) → leb (nat (t .firsts) r + nat (t .counts) r) (t .e) ≡ b → shapeGood (bare t) r ≡ shapeGood t r
+        go true e = shape-inside (leb-true (nat (t .firsts) r + nat (t .counts) r) (t .e) e)
+        go false e = rw (first-at, count-at, e) (last-fails (_ ∷ _ ∷ _ ∷ _ ∷ []) ∙ sym (last-fails (_ ∷ _ ∷ _ ∷ _ ∷ [])))
+
+    pub once-same : madeOnce (bare t) r ≡ madeOnce t r
     once-same = rw (makes-at, take-take r m (t .makes) (omega arith))
 
-  counts-same : total (take m (bare t .counts)) ≡ total (take m (t .counts))
+  pub counts-same : total (take m (bare t .counts)) ≡ total (take m (t .counts))
   counts-same = ap total (take-take m m (t .counts) (le-refl m))
 
   -- ── so are the tables ──
-  bare-sized : sized t ≡ true → sized (bare t) ≡ true
-  bare-sized h = let s = sized-facts t h in sized-of (bare t) (record {
-    n-some = s .n-some;
-    n-most = s .n-most;
-    m-most = s .m-most;
-    e-most = s .e-most;
-    kinds = front m (t .kinds) (s .kinds);
-    makes = front m (t .makes) (s .makes);
-    params = front m (t .params) (s .params);
-    firsts = front m (t .firsts) (s .firsts);
-    counts = front m (t .counts) (s .counts);
-    vars = front (t .e) (t .vars) (s .vars);
-    coefs = front (t .e) (t .coefs) (s .coefs);
-  })
-    where
-      front : {A : Type 0} (n : ℕ) (l : List A) → n ≤ length l → n ≤ length (take n l)
-      front n l k = rw (length-take-le n l k) (le-refl n)
+  pub sized-same : sized (bare t) ≡ sized t
+  sized-same = rw (
+    cut-long m (t .kinds),
+    cut-long m (t .makes),
+    cut-long m (t .params),
+    cut-long m (t .firsts),
+    cut-long m (t .counts),
+    cut-long (t .e) (t .vars),
+    cut-long (t .e) (t .coefs),
+  )
 
   pub bare-sound : Sound t → Sound (bare t)
   bare-sound s = record {
-    sized = bare-sized (s .sized);
+    sized = sized-same ∙ s .sized;
     kinds = λ r l. kind-same r l ∙ s .kinds r l;
-    shapes = λ r l. shape-same r l (sound-row t s r l .inside) ∙ s .shapes r l;
+    shapes = λ r l. shape-same r l ∙ s .shapes r l;
     whole = ap (λ (x : ℕ). eqb x (t .e)) counts-same ∙ s .whole;
     numbers = λ r l. number-same r l (sound-row t s r l .inside) ∙ s .numbers r l;
     once = λ r l. once-same r l ∙ s .once r l;
@@ -101,7 +112,7 @@ module _ (t : Tables) where
   sound-bare h s = record {
     sized = h;
     kinds = λ r l. sym (kind-same r l) ∙ s .kinds r l;
-    shapes = λ r l. sym (shape-same r l (inside r l)) ∙ s .shapes r l;
+    shapes = λ r l. sym (shape-same r l) ∙ s .shapes r l;
     whole = ap (λ (x : ℕ). eqb x (t .e)) (sym counts-same) ∙ s .whole;
     numbers = λ r l. sym (number-same r l (inside r l)) ∙ s .numbers r l;
     once = λ r l. sym (once-same r l) ∙ s .once r l;
@@ -111,14 +122,14 @@ module _ (t : Tables) where
       inside r l = rw (first-at r l, count-at r l) at (sound-row (bare t) s r l .inside)
 
   -- ── the same model ──
-  bare-row : (v : ℕ) → rowOf (bare t) v ≡ rowOf t v
+  pub bare-row : (v : ℕ) → rowOf (bare t) v ≡ rowOf t v
   unfolding rowOf
   bare-row v = ap (seek v) (take-take m m (t .makes) (le-refl m))
 
-  bare-made : (v : ℕ) → isMade (bare t) v ≡ isMade t v
+  pub bare-made : (v : ℕ) → isMade (bare t) v ≡ isMade t v
   bare-made v = ap (λ r. ltb r m) (bare-row v)
 
-  bare-inputs : Sound t → (v : ℕ) → inputsOf (bare t) v ≡ inputsOf t v
+  pub bare-inputs : Sound t → (v : ℕ) → inputsOf (bare t) v ≡ inputsOf t v
   bare-inputs s v = ap₂ (λ b r. cond b (part (bare t) r (bare t .vars)) []) (bare-made v) (bare-row v) ∙ go (isMade t v) refl
     where
       go : (b : Bool) → isMade t v ≡ b → cond b (part (bare t) (rowOf t v) (bare t .vars)) [] ≡ cond b (part t (rowOf t v) (t .vars)) []
