@@ -1,4 +1,4 @@
--- Values worked out along the order are those worked out afresh where no chain closes, since build's order is then that of before; and values found by following
+-- Values worked out along the order are those worked out afresh where no chain closes, since build's order is then that of `Straight`; and values found by following
 -- the choices are, wherever every variable is determined. Assumes nothing.
 use Prim.Native.Nat.{ℕ}
 use mathlib.Core.Bool.{Bool, false, cond}

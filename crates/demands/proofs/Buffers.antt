@@ -13,10 +13,11 @@ use Rattle.paper.specs.Lists.{nat}
 use Rattle.paper.specs.Formula.{places}
 use Rattle.paper.specs.Checks.{Verdict, accepted, refused, Move}
 use Rattle.paper.specs.Moves.{Moves}
-use Rattle.paper.specs.Calls.{numberOf, BuildLent, BuildLeft}
+use Rattle.paper.specs.Calls.{numberOf, BuildLent, BuildLeft, Model, TrialLeft}
 use Rattle.paper.specs.File.{version1, unboundedContents, counted, headed, read, cut}
 use Rattle.paper.proofs.Sizes.{sized-facts}
 use Rattle.paper.proofs.Outcomes.{build-judged}
+use Rattle.paper.proofs.UpTo.{trial-up-to}
 use Rattle.damage.specs.Saved.{savedFile, savedList, droppedRows, resetValues}
 use Rattle.salvage.specs.Salvage.{SalvageLent, SalvageLeft, salvage}
 use Rattle.salvage.specs.declared.Salvaged.{Salvaged}
@@ -34,9 +35,9 @@ use Rattle.boards.specs.declared.Listed.{Listed}
 use Rattle.boards.specs.declared.Listed.the-variants as listed
 use Rattle.figures.specs.Outcomes.{asOneTrial, triedOnce}
 use Rattle.figures.proofs.Order.{order-changes-nothing}
-use Rattle.figures.proofs.Routes.{any-reasons}
+use Rattle.figures.proofs.Routes.{reasonsAs, any-reasons}
 use Rattle.demands.specs.Stated.{BuildOutcome, leftBuilt}
-use Rattle.demands.specs.Runs.{State, mine, Run}
+use Rattle.demands.specs.Runs.{State, mine, Mine, Run}
 use Rattle.demands.specs.Demands.{renewed}
 use Rattle.demands.proofs.Standing.{known}
 use Rattle.demands.proofs.Three.{built-ok, own-trial-fresh, reasons-long}
@@ -130,14 +131,16 @@ listed-right b o size e = go (outcome b (record { answer = o .answer; row = o .r
 -- ── a batch after a run: its own row of reasons changes neither the answer nor the results ──
 batch-results : {b : BuildLent} (start : BuildOutcome b) (room : List ℕ × List ℤ) → numberOf (leftBuilt start .answer) ≡ 0
     → (calls : ℕ) (moves : Moves) (now : State) → Run start room calls moves now → (asked : ℕ) (mv : Move) (route : ℕ)
-    → let w = mine start room (record { session = now .session; stored = now .stored; reasons = replicate 4096 0; log = now .log }) in
-    triedOnce (now .session) w asked route mv .number ≡ 0 → triedOnce (now .session) w asked route mv .result ≡ renewed start room moves now mv asked
+    → (w : Model) → Mine start (record { session = now .session; stored = now .stored; reasons = replicate 4096 0; log = now .log }) w
+    → triedOnce (now .session) w asked route mv .number ≡ 0 → triedOnce (now .session) w asked route mv .result ≡ renewed b moves mv asked
 unfolding triedOnce
-batch-results {b} start room ok calls moves now r asked mv route z =
-    let own = mine start room now in let c = asOneTrial (now .session) own asked route mv in
+batch-results {b} start room ok calls moves now r asked mv route w like z =
+    let own = mine start now in let c = asOneTrial (now .session) own asked route mv in
     let long : b .tables .n ≤ 4096 = sized-facts (b .tables) (known b (built-ok start room ok) .sound .sized) .n-most in
     let same = any-reasons (now .session) own c (replicate 4096 0) (rw (length-replicate {A = ℕ} 4096 0) long) (reasons-long start room ok calls moves now r) in
-    ap (λ (l : List ℤ). getD l 0 (pos 0)) (same .1 ∙ own-trial-fresh start room ok calls moves now r c (sym (ap numberOf (same .0)) ∙ z) .results)
+    let up = trial-up-to (now .session) w (reasonsAs own (replicate 4096 0)) like c .1 in
+    ap (λ (x : TrialLeft). getD (x .results) 0 (pos 0)) up
+    ∙ ap (λ (l : List ℤ). getD l 0 (pos 0)) (same .1 ∙ own-trial-fresh start room ok calls moves now r c (sym (ap numberOf (same .0)) ∙ sym (ap (λ (x : TrialLeft). numberOf (x .answer)) up) ∙ z) .results)
 
 pub buffers-right : BuffersRight
 buffers-right = record {

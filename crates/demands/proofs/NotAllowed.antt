@@ -1,33 +1,21 @@
--- Wrong calls that were tried against the statements: none is an outcome that they allow. `Refuted` proves it. What the statements on two planners ask for is needed too: that their moves have no variable in common, and, where a chain closes, that each is accepted
--- after the other. Assumes nothing.
+-- Wrong calls that were tried against the statements: none is an outcome that they allow. `Refuted` proves it. What the statements on two planners ask for is
+-- needed too: that their moves have no variable in common, and, where a chain closes, that each is accepted after the other. Assumes nothing.
 use Prim.Native.Nat.{ℕ, _<_}
-use native.Mathlib.Omega.{arith}
 use mathlib.Core.List.{List, [], _∷_}
-use mathlib.Core.Path.{_≡_, refl, ap, ap₂, sym, _∙_}
-use lib.IntN.{ℤ, pos, natAbs}
+use mathlib.Core.Path.{_≡_}
+use lib.IntN.{ℤ, pos}
 use lib.ListN.{getD}
-use lib.Seq.{getD-take}
-use Rattle.paper.specs.Lists.{nat, every, size, over}
-use Rattle.paper.specs.Formula.{formula, looked}
-use Rattle.paper.specs.Net.{Values, runs, input-to-output}
-use Rattle.paper.specs.Tables.{Tables, lent, rowOf}
-use Rattle.paper.specs.Chains.{groupNumber, determined}
-use Rattle.paper.specs.Checks.{accepted}
+use Rattle.paper.specs.Lists.{nat, size}
+use Rattle.paper.specs.Net.{Values, input-to-output}
+use Rattle.paper.specs.Tables.{Tables, lent}
 use Rattle.paper.specs.Log.{Log, logIn, logged}
 use Rattle.paper.specs.Moves.{Moves}
 use Rattle.paper.specs.Reason.{reasonOf}
-use Rattle.paper.specs.Calls.{Session, Accepted, Refused, numberOf, evaluationsOf, BuildLent, BuildLeft, buildVerdict, build, Model, TrialLent, TrialLeft, askedList, routeOf, trialVerdict, trial, KeepLent, KeepLeft, keepVerdict, storedValues, keepLeaves, keep, latest, TakeLent, takeVerdict, takeBack}
+use Rattle.paper.specs.Calls.{Session, Accepted, Refused, numberOf, evaluationsOf, BuildLent, BuildLeft, Model, TrialLent, TrialLeft, trial, KeepLent, KeepLeft, keep, latest, TakeLent, takeBack}
 use Rattle.worked.specs.Runs.{building, modelA, startA, zeros, zerosZ, ones}
-use Rattle.paper.proofs.Buffers.{over-at}
-use Rattle.paper.proofs.Known.{KeepKnown, keep-known, take-known}
-use Rattle.paper.proofs.Outcomes.{keep-judged, take-judged}
 use Rattle.demands.specs.Stated.{BuildOutcome, leftBuilt, TrialOutcome, leftTried, KeepOutcome, leftKept, TakeOutcome, leftTaken}
 use Rattle.demands.specs.Runs.{State, mine, Run}
-use Rattle.demands.specs.Planners.{handsOn, Keeping}
-use Rattle.demands.specs.Demands.{old, renewed, restored, evaluatedBy, RunRight}
-use Rattle.demands.proofs.One.{demand1}
-use Rattle.demands.proofs.Three.{demand3}
-use Rattle.demands.proofs.Logs.{noted-value}
+use Rattle.demands.specs.Demands.{old, renewed, restored, evaluatedBy}
 
 -- ── keeps and a taking back after a build ──
 abbrev pub rows : List ℕ × List ℤ
@@ -63,16 +51,16 @@ module _ {b : BuildLent} (start : BuildOutcome b) where
   begun = record { session = leftBuilt start .session; stored = start .stored; reasons = start .reasons; log = logIn (start .logSizes) (rows .0) (rows .1) }
 
   abbrev pub Kept-first : KeepLent → Type 0
-  Kept-first c = Keeping start rows begun (c .move) (c .flags)
+  Kept-first c = KeepOutcome (begun .session) (begun .log) (mine start begun) c
 
   abbrev pub handed : {c : KeepLent} → Kept-first c → State
-  handed o = handsOn start rows begun o
+  handed o = record { session = leftKept o .session; stored = o .stored; reasons = o .reasons; log = o .log }
 
   abbrev pub Kept-next : {c : KeepLent} → Kept-first c → KeepLent → Type 0
-  Kept-next o c = Keeping start rows (handed o) (c .move) (c .flags)
+  Kept-next o c = KeepOutcome (handed o .session) (handed o .log) (mine start (handed o)) c
 
   abbrev pub Taken-next : {c : KeepLent} → Kept-first c → TakeLent → Type 0
-  Taken-next o c = TakeOutcome (handed o .session) (handed o .log) (mine start rows (handed o)) c
+  Taken-next o c = TakeOutcome (handed o .session) (handed o .log) (mine start (handed o)) c
 
 -- ── two models ──
 -- A has 3 rows and is accepted; a move of the end to 28500 is accepted too, and 2 rows are evaluated, and again when it is taken back
@@ -95,7 +83,7 @@ B = building eachOther (pos 0 ∷ pos 0 ∷ pos 7 ∷ [])
 pub record OfModels : Type 0 where
   -- a build, trial, keep or taking back that refuses everything, and a count fixed at m
   pub built : (start : BuildOutcome A) → leftBuilt start .answer ≡ Accepted 3
-  pub tried : (start : BuildOutcome A) (o : TrialOutcome (begun start .session) (mine start rows (begun start)) askFive) → leftTried o .answer ≡ Accepted 2
+  pub tried : (start : BuildOutcome A) (o : TrialOutcome (begun start .session) (mine start (begun start)) askFive) → leftTried o .answer ≡ Accepted 2
   pub kept : (start : BuildOutcome A) (o : Kept-first start (endTo 28500)) → leftKept o .answer ≡ Accepted 2
   pub taken : (start : BuildOutcome A) (o : Kept-first start (endTo 28500)) (q : Taken-next start o sixFlags) → leftTaken q .answer ≡ Accepted 2
   -- two moves of one variable, the end to 28500 and to 28801: who keeps first does matter
@@ -107,10 +95,10 @@ pub record OfModels : Type 0 where
   pub both : (start : BuildOutcome B) (o : Kept-first start (moveTo 0 1)) (q : Kept-next start o (moveTo 1 1)) → leftKept q .answer ≡ Refused 20 3
 
 -- ── after any run ──
-module _ {b : BuildLent} (start : BuildOutcome b) (room : List ℕ × List ℤ) (calls : ℕ) (moves : Moves) (now : State) where
+module _ {b : BuildLent} (start : BuildOutcome b) (moves : Moves) (now : State) where
   -- each call is lent the model's own, and a keep or a taking back the session's log
   abbrev pub own : Model
-  own = mine start room now
+  own = mine start now
 
   abbrev pub Tries : TrialLent → Type 0
   Tries c = TrialOutcome (now .session) own c
@@ -123,13 +111,13 @@ module _ {b : BuildLent} (start : BuildOutcome b) (room : List ℕ × List ℤ) 
 
   -- the fresh values now, with one more move, and without the latest
   abbrev pub oldAt : Values
-  oldAt = old start room moves now
+  oldAt = old b moves
 
   abbrev pub newAt : {c : KeepLent} → Keeps c → Values
-  newAt {c} o = renewed start room moves now (c .move)
+  newAt {c} o = renewed b moves (c .move)
 
   abbrev pub triedAt : {c : TrialLent} → Tries c → ℕ → ℤ
-  triedAt {c} o i = renewed start room moves now (c .move) (nat (c .askedVars) i)
+  triedAt {c} o i = renewed b moves (c .move) (nat (c .askedVars) i)
 
   pub record AfterRun : Type 0 where
     -- a keep that does nothing, at the first keep or at any later one, where its move changes the fresh value of some v
@@ -138,7 +126,7 @@ module _ {b : BuildLent} (start : BuildOutcome b) (room : List ℕ × List ℤ) 
     pub idle-reasons : (c : KeepLent) (o : Keeps c) → numberOf (leftKept o .answer) ≡ 0
         → (v : ℕ) → v < b .tables .n → (reasonOf (b .tables) v (newAt o) ≡ reasonOf (b .tables) v oldAt → ⊥) → o .reasons ≡ now .reasons → ⊥
     -- a taking back that does nothing, where the latest move changed the fresh value of some v
-    pub idle-take : (c : TakeLent) (o : Takes c) → numberOf (leftTaken o .answer) ≡ 0 → (v : ℕ) → v < b .tables .n → (restored start room moves now v ≡ oldAt v → ⊥) → o .stored ≡ now .stored → ⊥
+    pub idle-take : (c : TakeLent) (o : Takes c) → numberOf (leftTaken o .answer) ≡ 0 → (v : ℕ) → v < b .tables .n → (restored b moves v ≡ oldAt v → ⊥) → o .stored ≡ now .stored → ⊥
     -- or that leaves its move in the log, so that the next one would take the same back again
     pub move-left-in : (c : TakeLent) (o : Takes c) → numberOf (leftTaken o .answer) ≡ 0 → logged (leftTaken o .log) ≡ logged (now .log) → ⊥
     -- a keep that logs a new value, where that is not the value before it
@@ -146,7 +134,7 @@ module _ {b : BuildLent} (start : BuildOutcome b) (room : List ℕ × List ℤ) 
         → getD (latest (leftKept o .log) (record { flags = c .flags }) .move .values) i (pos 0) ≡ getD (c .move .values) i (pos 0) → ⊥
     -- a count made up: it is not the size of the set that route 1 evaluates
     pub made-up : (c : KeepLent) (o : Keeps c) → numberOf (leftKept o .answer) ≡ 0
-        → (k : ℕ) → (k ≡ size (evaluatedBy start room moves now input-to-output (c .move) []) (b .tables .n) → ⊥) → evaluationsOf (leftKept o .answer) ≡ k → ⊥
+        → (k : ℕ) → (k ≡ size (evaluatedBy b moves input-to-output (c .move) []) (b .tables .n) → ⊥) → evaluationsOf (leftKept o .answer) ≡ k → ⊥
     -- a trial that gives the stored values, where its move changes the fresh value of what is asked
     pub stored-trial : (c : TrialLent) (o : Tries c) → numberOf (leftTried o .answer) ≡ 0
         → (i v : ℕ) → i < c .asked → nat (c .askedVars) i ≡ v → v < b .tables .n → (triedAt o i ≡ oldAt v → ⊥) → getD (o .results) i (pos 0) ≡ getD (now .stored) v (pos 0) → ⊥
@@ -157,12 +145,12 @@ module _ {b : BuildLent} (start : BuildOutcome b) (room : List ℕ × List ℤ) 
     pub zero-results : (c : TrialLent) (o : Tries c) → numberOf (leftTried o .answer) ≡ 0 → (i : ℕ) → i < c .asked → (triedAt o i ≡ pos 0 → ⊥) → getD (o .results) i (pos 0) ≡ pos 0 → ⊥
     -- and one that gives the right results and 0 for every reason, where a reason is not 0
     pub zero-why : (c : TrialLent) (o : Tries c) → numberOf (leftTried o .answer) ≡ 0
-        → (i : ℕ) → i < c .asked → (reasonOf (b .tables) (nat (c .askedVars) i) (renewed start room moves now (c .move)) ≡ 0 → ⊥) → nat (o .why) i ≡ 0 → ⊥
+        → (i : ℕ) → i < c .asked → (reasonOf (b .tables) (nat (c .askedVars) i) (renewed b moves (c .move)) ≡ 0 → ⊥) → nat (o .why) i ≡ 0 → ⊥
 
 pub record NotAllowed : Type 0 where
   pub of-models : OfModels
   pub after-run : {b : BuildLent} (start : BuildOutcome b) (room : List ℕ × List ℤ) → numberOf (leftBuilt start .answer) ≡ 0
-      → (calls : ℕ) (moves : Moves) (now : State) → Run start room calls moves now → AfterRun start room calls moves now
+      → (calls : ℕ) (moves : Moves) (now : State) → Run start room calls moves now → AfterRun start moves now
   -- a keep that is refused and clears its reasons, where one of them is not 0
   pub cleared-reasons : (s : Session) (g : Log) (w : Model) (c : KeepLent) (o : KeepOutcome s g w c) → (numberOf (leftKept o .answer) ≡ 0 → ⊥)
       → (v : ℕ) → (nat (w .reasons) v ≡ 0 → ⊥) → nat (o .reasons) v ≡ 0 → ⊥

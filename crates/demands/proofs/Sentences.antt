@@ -12,7 +12,7 @@ use borrow.Author.Tests.{ltb-true, lt-ltb}
 use Rattle.integers.specs.Integers.{eqZ}
 use Rattle.integers.proofs.Order.{eqZ-yes, lt-yes, lt-no, yes-le, no-le}
 use Rattle.paper.specs.Lists.{all}
-use Rattle.paper.specs.Formula.{blank, inRange, someBlank, trips, departures, last, formula}
+use Rattle.paper.specs.Formula.{blank, inRange, someBlank, trips, last, formula}
 use Rattle.paper.specs.Net.{Values, runs, able, valuation}
 use Rattle.paper.specs.Tables.{Tables, net, inputsOf}
 use Rattle.paper.specs.Chains.{worth, needs, determined}

@@ -7,32 +7,32 @@ use mathlib.Core.Bool.{Bool, true, false, cond, not, _||_}
 use mathlib.Core.List.{List, [], _∷_, List·Memᴰ, List·Memᴰ·head, List·Memᴰ·tail, List·Memᴰ·not-nil}
 use mathlib.Core.Path.{_≡_, refl, ap, sym, _∙_, fun-ext, subst, subst⁻¹}
 use lib.IntN.{ℤ, pos}
-use lib.Dec.{eqb, ltb}
+use lib.Dec.{ltb}
 use lib.ListN.{length, getD, set, take, length-take, length-set, List·getD-eq-default}
 use lib.Seq.{getD-set-same}
 use borrow.Author.Tests.{ltb-true, ltb-false, leb-true, not-true}
 use Rattle.integers.specs.Integers.{eqZ}
-use Rattle.paper.specs.Lists.{tally, nat, size, below, over}
+use Rattle.paper.specs.Lists.{nat, below, over}
 use Rattle.paper.specs.Formula.{blank}
 use Rattle.paper.specs.Net.{Net, Values, Route, input-to-output, afresh, new, moved, names, evaluated}
 use Rattle.paper.specs.Tables.{Tables, net, isMade, valuesIn}
 use Rattle.paper.specs.Chains.{worth, determined, storedFresh}
-use Rattle.paper.specs.Checks.{Verdict, accepted, refused, sized, within, Move, movePairs}
+use Rattle.paper.specs.Checks.{accepted, sized, within, movePairs}
 use Rattle.paper.specs.Log.{Log, logIn, logged, back, logFits, logGood, noted, dropped}
 use Rattle.paper.specs.Moves.{Moves, rest, applied}
 use Rattle.paper.specs.Reason.{reasonOf, reasonAfter, reasonKept}
-use Rattle.paper.specs.Calls.{Session, blanksAmong, numberOf, evaluationsOf, newValues, evaluates, BuildLent, BuildLeft, startValues, build, Model, TrialLent, TrialLeft, askedList, routeOf, trialVerdict, trialLeaves, trial, KeepLent, KeepLeft, storedValues, keptBlanks, keptStored, keptReasons, keepVerdict, keepLeaves, keep, latest, TakeLent, takeVerdict, takeLeaves, takeBack}
+use Rattle.paper.specs.Calls.{blanksAmong, numberOf, newValues, evaluates, BuildLent, BuildLeft, startValues, build, Model, TrialLent, askedList, routeOf, KeepLent, KeepLeft, storedValues, keptBlanks, keptStored, keptReasons, keepVerdict, keepLeaves, keep, latest, TakeLent, takeVerdict, takeLeaves, takeBack}
 use Rattle.paper.proofs.Lists.{and-right, each}
-use Rattle.paper.proofs.Buffers.{length-below, getD-below, over-front, over-over, over-at, over-same, ones-below}
+use Rattle.paper.proofs.Buffers.{length-below, getD-below, over-front, over-over, over-at, over-same}
 use Rattle.paper.proofs.Sizes.{sized-facts}
 use Rattle.paper.proofs.Accept.{made-below, inputs-below}
 use Rattle.paper.proofs.Fresh.{Fresh, Alike, moved-alike, unnamed}
 use Rattle.paper.proofs.Needs.{search-determined, determined-alike, step-worth, worth-fresh, route-worth}
 use Rattle.paper.proofs.RouteReasons.{asked-settled, reason-fresh, kept-fresh}
-use Rattle.paper.proofs.Known.{BuildKnown, build-known, ModelKnown, MoveKnown, named-below, fits-long, long-fits, TrialKnown, trial-known, KeepKnown, keep-known, TakeKnown, take-known, latest-known}
-use Rattle.paper.proofs.Outcomes.{build-judged, trial-judged, keep-judged, take-judged}
+use Rattle.paper.proofs.Known.{BuildKnown, build-known, ModelKnown, MoveKnown, named-below, fits-long, long-fits, TrialKnown, KeepKnown, keep-known, TakeKnown, take-known, latest-known}
+use Rattle.paper.proofs.Outcomes.{build-judged, keep-judged, take-judged}
 use Rattle.paper.proofs.Moves.{keep-leaves-known, take-accepts}
-use Rattle.paper.proofs.Log.{Undoes, undoes-low, undoes-latest, good-log, dropped-logged, dropped-good, dropped-undoes, noted-logged, noted-good, noted-undoes}
+use Rattle.paper.proofs.Log.{Undoes, undoes-latest, good-log, dropped-good, dropped-undoes, noted-good, noted-undoes}
 use Rattle.demands.specs.Runs.{State}
 use Rattle.demands.specs.Demands.{fresh}
 use Rattle.demands.proofs.Logs.{noted-long}

@@ -12,14 +12,14 @@ use borrow.Author.Tests.{leb-true}
 use Rattle.integers.specs.Integers.{eqZ}
 use Rattle.integers.proofs.Order.{eqZ-self}
 use Rattle.paper.specs.Lists.{tally, nat, size, over}
-use Rattle.paper.specs.Net.{Values, Route, input-to-output, moved, names}
+use Rattle.paper.specs.Net.{Values, Route, input-to-output, names}
 use Rattle.paper.specs.Tables.{Tables, net, valuesIn}
 use Rattle.paper.specs.Chains.{worth, determined, closes, storedFresh}
 use Rattle.paper.specs.Checks.{Verdict, accepted, refused, sized, movePairs}
 use Rattle.paper.specs.Reason.{reasonOf}
 use Rattle.paper.specs.Log.{Log, logIn, logged, back}
 use Rattle.paper.specs.Moves.{Moves, rest, applied}
-use Rattle.paper.specs.Calls.{Session, Answer, Refused, numberOf, evaluationsOf, newValues, evaluates, BuildLent, BuildLeft, startValues, build, Model, upToCounts, TrialLent, TrialLeft, askedList, routeOf, trialVerdict, trialLeaves, trial, KeepLent, KeepLeft, keptBlanks, storedValues, keepVerdict, keep, latest, TakeLent, takeVerdict, takeBack, keepAsWas}
+use Rattle.paper.specs.Calls.{Answer, Refused, numberOf, evaluationsOf, newValues, evaluates, BuildLent, BuildLeft, startValues, build, Model, upToCounts, TrialLent, TrialLeft, askedList, routeOf, trialVerdict, trialLeaves, trial, KeepLent, KeepLeft, storedValues, keepVerdict, keep, latest, TakeLent, takeVerdict, takeBack, keepAsWas}
 use Rattle.paper.proofs.Lists.{and-right, or-right, each}
 use Rattle.paper.proofs.Buffers.{over-front, over-length, ones-below}
 use Rattle.paper.proofs.Sizes.{sized-facts}
@@ -31,7 +31,7 @@ use Rattle.paper.proofs.Log.{undoes-low, dropped-logged, noted-logged}
 use Rattle.paper.proofs.UpTo.{trial-up-to, keep-up-to, take-up-to}
 use Rattle.demands.specs.Stated.{BuildOutcome, leftBuilt, TrialOutcome, leftTried, KeepOutcome, leftKept, TakeOutcome, leftTaken}
 use Rattle.demands.specs.Runs.{State, Lent, own, another, lentOf, ownAfter, Lends, modelOf, afterTrial, passedOn, afterAnswer, mine, Mine, Own, Run, built, then-trial, then-keep, then-take}
-use Rattle.demands.specs.Demands.{fresh, old, renewed, evaluatedBy, Told, TrialFresh, KeepFresh, TakeFresh, RunRight, Demand3}
+use Rattle.demands.specs.Demands.{fresh, renewed, evaluatedBy, Told, TrialFresh, KeepFresh, TakeFresh, RunRight, Demand3}
 use Rattle.demands.proofs.Standing.{known, modelWith, Stands, Stood, idle, stands-first, old-is, new-is, set-is, why-is, keep-has, keep-left, keep-stands, take-has, take-left, take-stands, take-works}
 
 -- fresh values pass check 21: their search variables are those that they were worked out from
@@ -71,11 +71,11 @@ module _ {b : BuildLent} (start : BuildOutcome b) (room : List ℕ × List ℤ) 
   abbrev theirs : State → Model
   theirs now = modelWith b built-ok (now .stored) (now .reasons)
 
-  mine-is : (now : State) → mine start room now ≡ theirs now
+  mine-is : (now : State) → mine start now ≡ theirs now
   mine-is now = ap (λ (x : BuildLeft). record { tables = b .tables; bounds = b .bounds; numbers = x .numbers; order = x .order; stored = now .stored; index = x .index; reasons = now .reasons }) (start .stated)
 
   -- ── accepted calls that were lent the model's own ──
-  module _ (now : State) (w : Model) (like : Mine start room now w) where
+  module _ (now : State) (w : Model) (like : Mine start now w) where
     alike : upToCounts w ≡ upToCounts (theirs now)
     alike = like ∙ ap upToCounts (mine-is now)
 
@@ -126,7 +126,7 @@ module _ {b : BuildLent} (start : BuildOutcome b) (room : List ℕ × List ℤ) 
             by accepted = idle b built-ok h
             by (refused number place) = idle b built-ok h
 
-    kept-stands : (l : Lends) (g : Lent Log) (c : KeepLent) (o : KeepOutcome (now .session) (lentOf g (now .log)) (modelOf now l) c) → (numberOf (leftKept o .answer) ≡ 0 → Own start room now l × (g ≡ own))
+    kept-stands : (l : Lends) (g : Lent Log) (c : KeepLent) (o : KeepOutcome (now .session) (lentOf g (now .log)) (modelOf now l) c) → (numberOf (leftKept o .answer) ≡ 0 → Own start now l × (g ≡ own))
         → Next l g (movePairs (c .move) ∷ moves) (leftKept o)
     kept-stands l g c o p = go (keepVerdict (now .session) (lentOf g (now .log)) (modelOf now l) c) refl
       where
@@ -144,7 +144,7 @@ module _ {b : BuildLent} (start : BuildOutcome b) (room : List ℕ × List ℤ) 
         go (refused number place) e =
             stayed l g (c .flags) (movePairs (c .move) ∷ moves) (leftKept o) number place (o .stated ∙ keep-judged (now .session) (lentOf g (now .log)) (modelOf now l) c .is (refused number place) e)
 
-    taken-stands : (l : Lends) (g : Lent Log) (c : TakeLent) (o : TakeOutcome (now .session) (lentOf g (now .log)) (modelOf now l) c) → (numberOf (leftTaken o .answer) ≡ 0 → Own start room now l × (g ≡ own))
+    taken-stands : (l : Lends) (g : Lent Log) (c : TakeLent) (o : TakeOutcome (now .session) (lentOf g (now .log)) (modelOf now l) c) → (numberOf (leftTaken o .answer) ≡ 0 → Own start now l × (g ≡ own))
         → Next l g (rest moves) (leftTaken o)
     taken-stands l g c o p = go (takeVerdict (now .session) (lentOf g (now .log)) (modelOf now l) c) refl
       where
@@ -177,7 +177,7 @@ module _ {b : BuildLent} (start : BuildOutcome b) (room : List ℕ × List ℤ) 
 
     -- a count that is the size of a set, and flags that are 1 at it
     told-by : (set : ℕ → Bool) {those : ℕ → Bool} {count : ℕ} {flags : List ℕ} (before : List ℕ) → those ≡ set → count ≡ size those (b .tables .n)
-        → flags ≡ over (b .tables .n) (λ v. cond (those v) 1 0) before → Told start room moves now set count flags before
+        → flags ≡ over (b .tables .n) (λ v. cond (those v) 1 0) before → Told b moves set count flags before
     told-by set {those} {count} {flags} before e c f =
         let are : flags ≡ over (t .n) (λ v. cond (set v) 1 0) before = f ∙ ap (λ (q : ℕ → Bool). over (t .n) (λ v. cond (q v) 1 0) before) e in
         let is : count ≡ size set (t .n) = c ∙ ap (λ q. size q (t .n)) e in
@@ -187,16 +187,16 @@ module _ {b : BuildLent} (start : BuildOutcome b) (room : List ℕ × List ℤ) 
           ones = is ∙ sym (ap (λ l. tally (eqb 1) (take (t .n) l)) are ∙ ap (tally (eqb 1)) (over-front (λ v. cond (set v) 1 0) (t .n) before) ∙ ones-below set (t .n));
         }
 
-    trial-fresh : (c : TrialLent) → trialVerdict (now .session) (theirs now) c ≡ accepted → TrialFresh start room moves now c (trial (now .session) (theirs now) c)
+    trial-fresh : (c : TrialLent) → trialVerdict (now .session) (theirs now) c ≡ accepted → TrialFresh b moves now c (trial (now .session) (theirs now) c)
     trial-fresh c good = record {
       results = ap (λ (x : TrialLeft). x .results) left ∙ ap (λ (f : Values). over (c .asked) (λ i. f (nat (c .askedVars) i)) (c .results)) new;
       why = ap (λ (x : TrialLeft). x .why) left ∙ why-is b built-ok now moves calls h c (trial-known (now .session) (theirs now) c good) (c .why);
       row =
           ap (λ (x : TrialLeft). x .trial) left
           ∙ ap (λ (f : Values). over (t .n) (λ v. cond (names mv v || evaluates t stored r mv asked v) (f v) (stored v)) (c .trial)) new
-          ∙ ap (λ (q : ℕ → Bool). over (t .n) (λ v. cond (names mv v || q v) (renewed start room moves now (c .move) v) (stored v)) (c .trial)) set
-          ∙ ap (λ (f : Values). over (t .n) (λ v. cond (names mv v || evaluatedBy start room moves now r (c .move) asked v) (renewed start room moves now (c .move) v) (f v)) (c .trial)) (old-is b built-ok now moves calls h);
-      told = told-by (evaluatedBy start room moves now r (c .move) asked) (c .flags) set (ap (λ (x : TrialLeft). evaluationsOf (x .answer)) left) (ap (λ (x : TrialLeft). x .flags) left);
+          ∙ ap (λ (q : ℕ → Bool). over (t .n) (λ v. cond (names mv v || q v) (renewed b moves (c .move) v) (stored v)) (c .trial)) set
+          ∙ ap (λ (f : Values). over (t .n) (λ v. cond (names mv v || evaluatedBy b moves r (c .move) asked v) (renewed b moves (c .move) v) (f v)) (c .trial)) (old-is b built-ok now moves calls h);
+      told = told-by (evaluatedBy b moves r (c .move) asked) (c .flags) set (ap (λ (x : TrialLeft). evaluationsOf (x .answer)) left) (ap (λ (x : TrialLeft). x .flags) left);
       session = ap (λ (x : TrialLeft). x .session) left ∙ sym (ap (λ (x : TrialLeft). record { kept = now .session .kept; evaluations = evaluationsOf (x .answer); blanks = now .session .blanks }) left)
           ∙ ap (λ k. record { kept = now .session .kept; evaluations = evaluationsOf (trial (now .session) (theirs now) c .answer); blanks = k }) (h .blank);
     }
@@ -216,33 +216,33 @@ module _ {b : BuildLent} (start : BuildOutcome b) (room : List ℕ × List ℤ) 
         left : trial (now .session) (theirs now) c ≡ trialLeaves (theirs now) c (now .session) accepted
         left = trial-judged (now .session) (theirs now) c .is accepted good
 
-        new : newValues (b .tables) (valuesIn (b .tables) (now .stored)) (routeOf (c .route)) (movePairs (c .move)) (askedList c) ≡ renewed start room moves now (c .move)
+        new : newValues (b .tables) (valuesIn (b .tables) (now .stored)) (routeOf (c .route)) (movePairs (c .move)) (askedList c) ≡ renewed b moves (c .move)
         new = new-is b built-ok now moves calls h (routeOf (c .route)) (movePairs (c .move)) (askedList c) (trial-known (now .session) (theirs now) c good .determined)
 
-        set : evaluates (b .tables) (valuesIn (b .tables) (now .stored)) (routeOf (c .route)) (movePairs (c .move)) (askedList c) ≡ evaluatedBy start room moves now (routeOf (c .route)) (c .move) (askedList c)
+        set : evaluates (b .tables) (valuesIn (b .tables) (now .stored)) (routeOf (c .route)) (movePairs (c .move)) (askedList c) ≡ evaluatedBy b moves (routeOf (c .route)) (c .move) (askedList c)
         set = set-is b built-ok now moves calls h (routeOf (c .route)) (movePairs (c .move)) (askedList c)
 
-    keep-fresh : (c : KeepLent) → keepVerdict (now .session) (now .log) (theirs now) c ≡ accepted → KeepFresh start room moves now c (keep (now .session) (now .log) (theirs now) c)
+    keep-fresh : (c : KeepLent) → keepVerdict (now .session) (now .log) (theirs now) c ≡ accepted → KeepFresh b moves now c (keep (now .session) (now .log) (theirs now) c)
     keep-fresh c good =
         let stands = keep-stands b built-ok now moves calls h c good in let has = keep-has b built-ok now moves calls h c good in let left = keep-left b built-ok now moves calls h c good in
         record {
           stored = stands .holds .row-is;
           reasons = stands .reasons-are;
-          told = told-by (evaluatedBy start room moves now input-to-output (c .move) []) (c .flags) (set-is b built-ok now moves calls h input-to-output (movePairs (c .move)) [])
+          told = told-by (evaluatedBy b moves input-to-output (c .move) []) (c .flags) (set-is b built-ok now moves calls h input-to-output (movePairs (c .move)) [])
               (ap (λ (x : KeepLeft). evaluationsOf (x .answer)) left) (ap (λ (x : KeepLeft). x .flags) left);
           session = ap (λ (x : KeepLeft). x .session) left ∙ sym (ap (λ (x : KeepLeft). record { kept = min (suc (now .session .kept)) 4294967295; evaluations = evaluationsOf (x .answer); blanks = x .session .blanks }) left)
               ∙ ap (λ k. record { kept = min (suc (now .session .kept)) 4294967295; evaluations = evaluationsOf (keep (now .session) (now .log) (theirs now) c .answer); blanks = k }) (stands .blank);
           more = ap (λ (x : KeepLeft). logged (x .log)) left ∙ noted-logged t (b .bounds) (now .log) (now .session .kept) (has .log) (storedValues (theirs now)) (c .move) (has .move) ∙ omega arith;
         }
 
-    take-fresh : (c : TakeLent) → takeVerdict (now .session) (now .log) (theirs now) c ≡ accepted → TakeFresh start room moves now c (takeBack (now .session) (now .log) (theirs now) c)
+    take-fresh : (c : TakeLent) → takeVerdict (now .session) (now .log) (theirs now) c ≡ accepted → TakeFresh b moves now c (takeBack (now .session) (now .log) (theirs now) c)
     take-fresh c good =
         let stands = take-stands b built-ok now moves calls h c good in let has = take-has b built-ok now moves calls h c good in let left = take-left b built-ok now moves calls h c good in
         let mv = latest (now .log) c .move in let k = now .session .kept in
         record {
           stored = stands .holds .row-is;
           reasons = stands .reasons-are;
-          told = told-by (evaluatedBy start room moves now input-to-output mv []) (c .flags) (set-is b built-ok now moves calls h input-to-output (movePairs mv) [])
+          told = told-by (evaluatedBy b moves input-to-output mv []) (c .flags) (set-is b built-ok now moves calls h input-to-output (movePairs mv) [])
               (ap (λ (x : KeepLeft). evaluationsOf (x .answer)) left) (ap (λ (x : KeepLeft). x .flags) left);
           session = ap (λ (x : KeepLeft). x .session) left ∙ sym (ap (λ (x : KeepLeft). record { kept = cond (ltb k 4294967295) (pred k) k; evaluations = evaluationsOf (x .answer); blanks = x .session .blanks }) left)
               ∙ ap (λ z. record { kept = cond (ltb k 4294967295) (pred k) k; evaluations = evaluationsOf (takeBack (now .session) (now .log) (theirs now) c .answer); blanks = z }) (stands .blank);
@@ -254,7 +254,7 @@ module _ {b : BuildLent} (start : BuildOutcome b) (room : List ℕ × List ℤ) 
         ap (λ (f : Values). storedFresh t f v) (old-is b built-ok now moves calls h)
         ∙ worth-passes t (sized-facts t (known b built-ok .sound .sized) .n-some) (applied (startValues b) moves) (h .holds .determined) v
 
-    run-right : RunRight start room moves now calls
+    run-right : RunRight start room calls moves now
     run-right = record {
       stored = h .holds .row-is;
       reasons = h .reasons-are;
@@ -263,9 +263,9 @@ module _ {b : BuildLent} (start : BuildOutcome b) (room : List ℕ × List ℤ) 
       blanks = h .blank;
       log-good = h .good;
       log-low = undoes-low (startValues b) (back (now .log)) (logged (now .log)) moves (h .undoes);
-      trial-accepted = λ w like c o z. let up = own-trial now w like c o z in subst⁻¹ (TrialFresh start room moves now c) (up .1) (trial-fresh c (up .0));
-      keep-accepted = λ w like c o z. let up = own-keep now w like c o z in subst⁻¹ (KeepFresh start room moves now c) (up .1) (keep-fresh c (up .0));
-      take-accepted = λ w like c o z. let up = own-take now w like c o z in subst⁻¹ (TakeFresh start room moves now c) (up .1) (take-fresh c (up .0));
+      trial-accepted = λ w like c o z. let up = own-trial now w like c o z in subst⁻¹ (TrialFresh b moves now c) (up .1) (trial-fresh c (up .0));
+      keep-accepted = λ w like c o z. let up = own-keep now w like c o z in subst⁻¹ (KeepFresh b moves now c) (up .1) (keep-fresh c (up .0));
+      take-accepted = λ w like c o z. let up = own-take now w like c o z in subst⁻¹ (TakeFresh b moves now c) (up .1) (take-fresh c (up .0));
       take-works = λ logs w like c long o.
           ap leftNumber (o .stated)
           ∙ take-judged (now .session) (now .log) w c .zero (take-up-to (now .session) w (theirs now) (alike now w like) (now .log) c .0 ∙ take-works b built-ok now moves calls h c logs stored-passes long);
@@ -280,11 +280,11 @@ module _ {b : BuildLent} (start : BuildOutcome b) (room : List ℕ × List ℤ) 
 
 -- ── for a trial that is the paper's, not an outcome ──
 module _ {b : BuildLent} (start : BuildOutcome b) (room : List ℕ × List ℤ) (ok : numberOf (leftBuilt start .answer) ≡ 0) (calls : ℕ) (moves : Moves) (now : State) (r : Run start room calls moves now) where
-  pub own-trial-fresh : (c : TrialLent) → numberOf (trial (now .session) (mine start room now) c .answer) ≡ 0 → TrialFresh start room moves now c (trial (now .session) (mine start room now) c)
+  pub own-trial-fresh : (c : TrialLent) → numberOf (trial (now .session) (mine start now) c .answer) ≡ 0 → TrialFresh b moves now c (trial (now .session) (mine start now) c)
   own-trial-fresh c z =
-      let up = trial-up-to (now .session) (mine start room now) (theirs start room ok now) (ap upToCounts (mine-is start room ok now)) c in
-      subst⁻¹ (TrialFresh start room moves now c) (up .1)
-      (trial-fresh start room ok calls moves now (stood start room ok r) c (sym (up .0) ∙ trial-judged (now .session) (mine start room now) c .good z))
+      let up = trial-up-to (now .session) (mine start now) (theirs start room ok now) (ap upToCounts (mine-is start room ok now)) c in
+      subst⁻¹ (TrialFresh b moves now c) (up .1)
+      (trial-fresh start room ok calls moves now (stood start room ok r) c (sym (up .0) ∙ trial-judged (now .session) (mine start now) c .good z))
 
   -- the session's row of reasons is as long as build asked
   pub reasons-long : b .tables .n ≤ length (now .reasons)

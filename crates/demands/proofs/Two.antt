@@ -2,12 +2,10 @@
 -- permitted, and files go there and back. Assumes nothing.
 use Prim.Native.Nat.{ℕ, suc, zero, _<_}
 use mathlib.Core.Bool.{cond}
-use mathlib.Core.List.{List}
 use mathlib.Core.Logic.{inr}
-use mathlib.Core.Path.{_≡_, ap, ap₂, sym, _∙_, subst, subst⁻¹}
+use mathlib.Core.Path.{_≡_, ap, sym, _∙_, subst, subst⁻¹}
 use lib.IntN.{pos}
-use lib.Dec.{leb·zero}
-use lib.ListN.{length, getD, take}
+use lib.ListN.{getD, take}
 use Rattle.integers.specs.Integers.{eqZ}
 use Rattle.paper.specs.Lists.{nat, greatest, over}
 use Rattle.paper.specs.Formula.{blank}
@@ -15,7 +13,8 @@ use Rattle.paper.specs.Net.{Values, afresh}
 use Rattle.paper.specs.Tables.{Tables, net, isMade, inputsOf, valuesIn}
 use Rattle.paper.specs.Chains.{outside, groupNumber}
 use Rattle.paper.specs.Checks.{accepted, lowest, highest, Sound}
-use Rattle.paper.specs.Calls.{Session, numberOf, BuildLent, BuildLeft, startValues, build}
+use Rattle.paper.specs.Calls.{numberOf, BuildLent, BuildLeft, startValues, build}
+use Rattle.paper.specs.Permitted.{Barred}
 use Rattle.paper.specs.Reason.{reasonOf}
 use Rattle.paper.proofs.Lists.{map-same}
 use Rattle.paper.proofs.Buffers.{getD-below, over-at, over-front, over-same}
@@ -39,7 +38,8 @@ use Rattle.demands.proofs.Files.{moved-front}
 use Rattle.demands.proofs.Judged.{judged-says, says-judged}
 use Rattle.demands.proofs.Sentences.{sentences-right}
 use Rattle.demands.proofs.Undetermined.{choices-exactly}
-use Rattle.demands.specs.Demands.{BuiltRight, CircularExactly, Demand2}
+use Rattle.demands.specs.Demands.{BuiltRight, Demand2}
+use Rattle.demands.specs.Undetermined.{GivenExactly}
 
 -- ── build ──
 module _ {l : BuildLent} (o : BuildOutcome l) where
@@ -94,11 +94,12 @@ module _ {l : BuildLent} (o : BuildOutcome l) where
           ap (λ (x : BuildLeft). valuesIn t (x .stored) v) (o .stated) ∙ ap (λ row. valuesIn t row v) (right .stored)
           ∙ ap (λ row. getD row v (pos 0)) (over-front values (t .n) (l .stored)) ∙ getD-below values (t .n) v (pos 0) low
 
-  pub circular-exactly : CircularExactly l (leftBuilt o .answer)
-  circular-exactly = subst⁻¹ (λ (x : BuildLeft). CircularExactly l (x .answer)) (o .stated) (record {
-    given = λ five. circular-given l (says-judged (fiveLines l) accepted five);
-    only = λ h. let (five, c) = circular-only l h in (subst (Says (fiveLines l)) five (judged-says (fiveLines l)), c);
+  pub circular-exactly : GivenExactly (fiveLines l) 6 (l .tables .n) (Barred (l .tables)) (leftBuilt o .answer)
+  circular-exactly = subst⁻¹ (λ (x : BuildLeft). GivenExactly (fiveLines l) 6 (l .tables .n) (Barred (l .tables)) (x .answer)) (o .stated) (record {
+    given = λ five v low c. circular-given l (says-judged (fiveLines l) accepted five) (v, c);
+    only = λ h. subst (Says (fiveLines l)) (circular-only l h .0) (judged-says (fiveLines l));
     place = circular-place l;
+    none = λ z v low c. build-right l z .not-circular (v, c);
   })
 
 -- ── the demand ──

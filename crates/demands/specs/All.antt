@@ -1,4 +1,5 @@
--- All that is demanded of the public calls, in one record: `all-demands` of `proofs/All` proves it. Assumes nothing.
+-- All that is demanded of the public calls, in one record. `all-demands` of `proofs/All` proves it, and with it that the wrong calls of `proofs/NotAllowed` are no
+-- outcomes. Assumes nothing.
 use Rattle.worked.specs.Files.{FilesComeOut}
 use Rattle.demands.specs.Demands.{Demand1, Demand2, Demand3}
 use Rattle.demands.specs.Planners.{TwoPlanners}

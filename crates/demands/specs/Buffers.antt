@@ -34,7 +34,7 @@ use Rattle.figures.specs.Laws.{Rearranged, asBatch}
 use Rattle.figures.specs.declared.Counted.{Counted}
 use Rattle.demands.specs.Stated.{BuildOutcome, leftBuilt}
 use Rattle.demands.specs.Files.{ReadOutcome, leftRead}
-use Rattle.demands.specs.Runs.{State, mine, Run}
+use Rattle.demands.specs.Runs.{State, Mine, Run}
 use Rattle.demands.specs.Demands.{renewed}
 
 -- ── what a caller has at exit; `stated` is the contract's equation ──
@@ -93,5 +93,5 @@ pub record BuffersRight : Type 0 where
   -- after any run a move of a batch that is accepted gives by each route the fresh value of the variable asked; a batch has rows of its own for reasons
   pub results : {b : BuildLent} (start : BuildOutcome b) (room : List ℕ × List ℤ) → numberOf (leftBuilt start .answer) ≡ 0
       → (calls : ℕ) (moves : Moves) (now : State) → Run start room calls moves now → (asked : ℕ) (mv : Move) (route : ℕ)
-      → let w = mine start room (record { session = now .session; stored = now .stored; reasons = replicate 4096 0; log = now .log }) in
-      triedOnce (now .session) w asked route mv .number ≡ 0 → triedOnce (now .session) w asked route mv .result ≡ renewed start room moves now mv asked
+      → (w : Model) → Mine start (record { session = now .session; stored = now .stored; reasons = replicate 4096 0; log = now .log }) w
+      → triedOnce (now .session) w asked route mv .number ≡ 0 → triedOnce (now .session) w asked route mv .result ≡ renewed b moves mv asked

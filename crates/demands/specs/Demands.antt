@@ -15,14 +15,14 @@ use Rattle.paper.specs.Checks.{Verdict, accepted, lowest, highest, Move, movePa
 use Rattle.paper.specs.Log.{Log, logged, logGood}
 use Rattle.paper.specs.Calls.{Session, blanksAmong, Answer, Accepted, Refused, numberOf, placeOf, evaluationsOf, answered, evaluates, BuildLent, BuildLeft, startValues, Model, storedValues, TrialLent, TrialLeft, askedList, routeOf, KeepLent, KeepLeft, keptCount, TakeLent, latest, buildAsWas, trialAsWas, keepAsWas}
 use Rattle.paper.specs.File.{Version, bounded, endsAt, Contents, contents, counted, held, nIn, mIn, eIn, Fitting, cut}
-use Rattle.paper.specs.Permitted.{Barred, Circular, LeastOf}
+use Rattle.paper.specs.Permitted.{Barred, Circular}
 use Rattle.paper.specs.Moves.{Moves, rest, applied}
 use Rattle.paper.specs.Reason.{reasonOf}
 use Rattle.demands.specs.Stated.{BuildOutcome, leftBuilt, TrialOutcome, leftTried, KeepOutcome, leftKept, TakeOutcome, leftTaken}
 use Rattle.demands.specs.Files.{WriteOutcome, leftWritten, ReadOutcome, leftRead, MoveOutcome, leftMoved, writeTable, readTable, moveTable}
 use Rattle.demands.specs.Refusals.{Line, lineNumber, Passes, Gives, fiveLines, buildTable, trialTable, keepTable, takeTable}
 use Rattle.demands.specs.Sentences.{SentencesRight}
-use Rattle.demands.specs.Undetermined.{ChoicesExactly}
+use Rattle.demands.specs.Undetermined.{GivenExactly, ChoicesExactly}
 use Rattle.demands.specs.Runs.{State, Lent, lentOf, Lends, modelOf, afterTrial, passedOn, Mine, Run}
 
 -- ── demand 1: a call works, or refuses with the paper's number and place exactly where the table gives them, and then changes nothing ──
@@ -62,7 +62,7 @@ abbrev pub MoveWorks : (from to : Version) (bytes lent : List ℕ) → Verdict �
 MoveWorks from to bytes lent = Works (moveTable from to bytes lent) 0 (λ x. answered (x .0) 0) (λ x. (x .0, (0, lent)))
 
 pub record Demand1 : Type 0 where
-  -- the numbers that each call gives, in the order in which they are checked
+  -- the numbers that the four calls and moves between versions give, in the order in which they are checked
   pub build-numbers : (l : BuildLent) → map lineNumber (buildTable l) ≡ 1 ∷ 2 ∷ 3 ∷ 3 ∷ 4 ∷ 4 ∷ 5 ∷ 6 ∷ 7 ∷ 20 ∷ []
   pub trial-numbers : (s : Session) (w : Model) (c : TrialLent) → map lineNumber (trialTable s w c) ≡ 1 ∷ 2 ∷ 3 ∷ 3 ∷ 4 ∷ 4 ∷ 5 ∷ 8 ∷ 8 ∷ 19 ∷ 7 ∷ 9 ∷ 10 ∷ 11 ∷ 12 ∷ 17 ∷ 13 ∷ 21 ∷ 20 ∷ []
   pub keep-numbers : (s : Session) (g : Log) (w : Model) (c : KeepLent) → map lineNumber (keepTable s g w c) ≡ 1 ∷ 2 ∷ 3 ∷ 3 ∷ 4 ∷ 4 ∷ 5 ∷ 8 ∷ 8 ∷ 19 ∷ 7 ∷ 10 ∷ 11 ∷ 12 ∷ 17 ∷ 16 ∷ 21 ∷ 20 ∷ []
@@ -108,18 +108,13 @@ pub record BuiltRight {l : BuildLent} (o : BuildOutcome l) : Type 0 where
   -- and the record says that no move is kept, that all m rows were evaluated, and how many values are blank
   pub session : leftBuilt o .session ≡ record { kept = 0; evaluations = l .tables .m; blanks = blanksAmong (l .tables .n) (valuesIn (l .tables) (o .stored)) }
 
--- circular exactly if some closed chain is not permitted: it passes through no candidate of an ELEMENT, or through the index of one; at the least
--- variable on such a chain
-pub record CircularExactly (l : BuildLent) (a : Answer) : Type 0 where
-  pub given : Passes (fiveLines l) → Circular (l .tables) → numberOf a ≡ 6
-  pub only : numberOf a ≡ 6 → Passes (fiveLines l) × Circular (l .tables)
-  pub place : numberOf a ≡ 6 → LeastOf (l .tables .n) (Barred (l .tables)) (placeOf a)
-
 pub record Demand2 : Type 0 where
   -- each formula, each reason and what is determined, in the paper's sentences
   pub sentences : SentencesRight
   pub build-accepted : (l : BuildLent) (o : BuildOutcome l) → numberOf (leftBuilt o .answer) ≡ 0 → BuiltRight o
-  pub build-circular : (l : BuildLent) (o : BuildOutcome l) → CircularExactly l (leftBuilt o .answer)
+  -- circular exactly if some closed chain is not permitted: it passes through no candidate of an ELEMENT, or through the index of one; at the least
+  -- variable on such a chain
+  pub build-circular : (l : BuildLent) (o : BuildOutcome l) → GivenExactly (fiveLines l) 6 (l .tables .n) (Barred (l .tables)) (leftBuilt o .answer)
   -- 20 and 21 exactly where the choices lead round a chain, or a stored value is stale, at the least such variable
   pub choices : ChoicesExactly
   -- what was written is read back to the same tables, start values and bounds, by lent rows that hold them
@@ -145,7 +140,7 @@ pub record Demand2 : Type 0 where
 abbrev pub fresh : BuildLent → Moves → Values
 fresh b moves = worth (b .tables) (applied (startValues b) moves)
 
-module _ {b : BuildLent} (start : BuildOutcome b) (room : List ℕ × List ℤ) (moves : Moves) (now : State) where
+module _ (b : BuildLent) (moves : Moves) where
   -- those of the moves kept and not taken back, of one more move, and without the latest
   abbrev pub old : Values
   old = fresh b moves
@@ -172,7 +167,7 @@ module _ {b : BuildLent} (start : BuildOutcome b) (room : List ℕ × List ℤ) 
 
   -- an accepted trial, by any route: at each place asked the value worked out afresh and its reason, in the trial's row the new value where moved or
   -- evaluated and the old one elsewhere, and the evaluations are the size of the route's set
-  pub record TrialFresh (c : TrialLent) (x : TrialLeft) : Type 0 where
+  pub record TrialFresh (now : State) (c : TrialLent) (x : TrialLeft) : Type 0 where
     pub results : x .results ≡ over (c .asked) (λ i. renewed (c .move) (nat (c .askedVars) i)) (c .results)
     pub why : x .why ≡ over (c .asked) (λ i. reasonOf (b .tables) (nat (c .askedVars) i) (renewed (c .move))) (c .why)
     pub row : let set = evaluatedBy (routeOf (c .route)) (c .move) (askedList c) in
@@ -181,7 +176,7 @@ module _ {b : BuildLent} (start : BuildOutcome b) (room : List ℕ × List ℤ) 
     pub session : x .session ≡ record { kept = now .session .kept; evaluations = evaluationsOf (x .answer); blanks = blanksAmong (b .tables .n) old }
 
   -- an accepted keep: it leaves exactly the fresh values and the reasons over them, one more move is kept, and one more can be taken back, 64 at most
-  pub record KeepFresh (c : KeepLent) (x : KeepLeft) : Type 0 where
+  pub record KeepFresh (now : State) (c : KeepLent) (x : KeepLeft) : Type 0 where
     pub stored : x .stored ≡ over (b .tables .n) (renewed (c .move)) (b .stored)
     pub reasons : x .reasons ≡ reasonsOver (renewed (c .move))
     pub told : Told (evaluatedBy input-to-output (c .move) []) (evaluationsOf (x .answer)) (x .flags) (c .flags)
@@ -190,7 +185,7 @@ module _ {b : BuildLent} (start : BuildOutcome b) (room : List ℕ × List ℤ) 
     pub more : logged (x .log) ≡ min (suc (logged (now .log))) 64
 
   -- an accepted taking back: exactly the values before the latest move that was kept and not taken back, the reasons over them, and one move fewer
-  pub record TakeFresh (c : TakeLent) (x : KeepLeft) : Type 0 where
+  pub record TakeFresh (now : State) (c : TakeLent) (x : KeepLeft) : Type 0 where
     pub stored : x .stored ≡ over (b .tables .n) restored (b .stored)
     pub reasons : x .reasons ≡ reasonsOver restored
     pub told : Told (evaluatedBy input-to-output (latest (now .log) c .move) []) (evaluationsOf (x .answer)) (x .flags) (c .flags)
@@ -198,35 +193,35 @@ module _ {b : BuildLent} (start : BuildOutcome b) (room : List ℕ × List ℤ) 
         x .session ≡ record { kept = cond (ltb k 4294967295) (pred k) k; evaluations = evaluationsOf (x .answer); blanks = blanksAmong (b .tables .n) restored }
     pub fewer : logged (x .log) ≡ pred (logged (now .log))
 
-  -- what holds after every run of that many calls
-  pub record RunRight (calls : ℕ) : Type 0 where
-    -- the stored values are the fresh ones of the moves kept and not taken back, the reasons those over them, and what lies beyond is as build was lent it
-    pub stored : now .stored ≡ over (b .tables .n) old (b .stored)
-    pub reasons : now .reasons ≡ reasonsOver old
-    -- where a chain closes every variable is determined by the search variables among them, and its stored value is the fresh one: 21 is not given for them
-    pub fresh : (v : ℕ) → v < b .tables .n → storedFresh (b .tables) (valuesIn (b .tables) (now .stored)) v ≡ true
-    -- the record has the number of these moves, as long as there were too few calls to reach its ceiling, and of the blank values
-    pub counted : calls < 4294967295 → now .session .kept ≡ length moves
-    pub blanks : now .session .blanks ≡ blanksAmong (b .tables .n) old
-    -- the log is fit, and has no more moves than these
-    pub log-good : logGood (now .log) (b .tables) (b .bounds) (now .session .kept) ≡ true
-    pub log-low : logged (now .log) ≤ length moves
-    -- the next call, if it is accepted and was lent the model's own
-    pub trial-accepted : (w : Model) → Mine start room now w → (c : TrialLent) (o : TrialOutcome (now .session) w c) → numberOf (leftTried o .answer) ≡ 0 → TrialFresh c (leftTried o)
-    pub keep-accepted : (w : Model) → Mine start room now w → (c : KeepLent) (o : KeepOutcome (now .session) (now .log) w c) → numberOf (leftKept o .answer) ≡ 0 → KeepFresh c (leftKept o)
-    pub take-accepted : (w : Model) → Mine start room now w → (c : TakeLent) (o : TakeOutcome (now .session) (now .log) w c) → numberOf (leftTaken o .answer) ≡ 0 → TakeFresh c (leftTaken o)
-    -- a taking back is accepted, where the log is not empty and the row of flags long enough
-    pub take-works : 0 < logged (now .log) → (w : Model) → Mine start room now w → (c : TakeLent) → b .tables .n ≤ length (c .flags)
-        → (o : TakeOutcome (now .session) (now .log) w c) → numberOf (leftTaken o .answer) ≡ 0
-    -- no trial alters a stored value or a reason, and a refused call leaves the state, whatever it was lent
-    pub trial-stored : (l : Lends) (c : TrialLent) (o : TrialOutcome (now .session) (modelOf now l) c) → let then = afterTrial now (leftTried o .session) in
-        (then .stored ≡ now .stored) × (then .reasons ≡ now .reasons)
-    pub trial-refused : (l : Lends) (c : TrialLent) (o : TrialOutcome (now .session) (modelOf now l) c) → (numberOf (leftTried o .answer) ≡ 0 → ⊥) → afterTrial now (leftTried o .session) ≡ now
-    pub keep-refused : (l : Lends) (g : Lent Log) (c : KeepLent) (o : KeepOutcome (now .session) (lentOf g (now .log)) (modelOf now l) c) → (numberOf (leftKept o .answer) ≡ 0 → ⊥)
-        → passedOn now l g (leftKept o) ≡ now
-    pub take-refused : (l : Lends) (g : Lent Log) (c : TakeLent) (o : TakeOutcome (now .session) (lentOf g (now .log)) (modelOf now l) c) → (numberOf (leftTaken o .answer) ≡ 0 → ⊥)
-        → passedOn now l g (leftTaken o) ≡ now
+-- what holds after every run of that many calls, with these moves kept and not taken back
+pub record RunRight {b : BuildLent} (start : BuildOutcome b) (room : List ℕ × List ℤ) (calls : ℕ) (moves : Moves) (now : State) : Type 0 where
+  -- the stored values are the fresh ones of the moves kept and not taken back, the reasons those over them, and what lies beyond is as build was lent it
+  pub stored : now .stored ≡ over (b .tables .n) (old b moves) (b .stored)
+  pub reasons : now .reasons ≡ reasonsOver b moves (old b moves)
+  -- where a chain closes every variable is determined by the search variables among them, and its stored value is the fresh one: 21 is not given for them
+  pub fresh : (v : ℕ) → v < b .tables .n → storedFresh (b .tables) (valuesIn (b .tables) (now .stored)) v ≡ true
+  -- the record has the number of these moves, as long as there were too few calls to reach its ceiling, and of the blank values
+  pub counted : calls < 4294967295 → now .session .kept ≡ length moves
+  pub blanks : now .session .blanks ≡ blanksAmong (b .tables .n) (old b moves)
+  -- the log is fit, and has no more moves than these
+  pub log-good : logGood (now .log) (b .tables) (b .bounds) (now .session .kept) ≡ true
+  pub log-low : logged (now .log) ≤ length moves
+  -- the next call, if it is accepted and was lent the model's own
+  pub trial-accepted : (w : Model) → Mine start now w → (c : TrialLent) (o : TrialOutcome (now .session) w c) → numberOf (leftTried o .answer) ≡ 0 → TrialFresh b moves now c (leftTried o)
+  pub keep-accepted : (w : Model) → Mine start now w → (c : KeepLent) (o : KeepOutcome (now .session) (now .log) w c) → numberOf (leftKept o .answer) ≡ 0 → KeepFresh b moves now c (leftKept o)
+  pub take-accepted : (w : Model) → Mine start now w → (c : TakeLent) (o : TakeOutcome (now .session) (now .log) w c) → numberOf (leftTaken o .answer) ≡ 0 → TakeFresh b moves now c (leftTaken o)
+  -- a taking back is accepted, where the log is not empty and the row of flags long enough
+  pub take-works : 0 < logged (now .log) → (w : Model) → Mine start now w → (c : TakeLent) → b .tables .n ≤ length (c .flags)
+      → (o : TakeOutcome (now .session) (now .log) w c) → numberOf (leftTaken o .answer) ≡ 0
+  -- no trial alters a stored value or a reason, since it is lent them to read only; and a refused call leaves the state, whatever it was lent
+  pub trial-stored : (l : Lends) (c : TrialLent) (o : TrialOutcome (now .session) (modelOf now l) c) → let then = afterTrial now (leftTried o .session) in
+      (then .stored ≡ now .stored) × (then .reasons ≡ now .reasons)
+  pub trial-refused : (l : Lends) (c : TrialLent) (o : TrialOutcome (now .session) (modelOf now l) c) → (numberOf (leftTried o .answer) ≡ 0 → ⊥) → afterTrial now (leftTried o .session) ≡ now
+  pub keep-refused : (l : Lends) (g : Lent Log) (c : KeepLent) (o : KeepOutcome (now .session) (lentOf g (now .log)) (modelOf now l) c) → (numberOf (leftKept o .answer) ≡ 0 → ⊥)
+      → passedOn now l g (leftKept o) ≡ now
+  pub take-refused : (l : Lends) (g : Lent Log) (c : TakeLent) (o : TakeOutcome (now .session) (lentOf g (now .log)) (modelOf now l) c) → (numberOf (leftTaken o .answer) ≡ 0 → ⊥)
+      → passedOn now l g (leftTaken o) ≡ now
 
 pub record Demand3 : Type 0 where
   pub run : (b : BuildLent) (start : BuildOutcome b) (room : List ℕ × List ℤ) → numberOf (leftBuilt start .answer) ≡ 0
-      → (calls : ℕ) (moves : Moves) (now : State) → Run start room calls moves now → RunRight start room moves now calls
+      → (calls : ℕ) (moves : Moves) (now : State) → Run start room calls moves now → RunRight start room calls moves now

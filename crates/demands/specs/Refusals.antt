@@ -1,12 +1,11 @@
 -- The paper's table of refusals, one list of lines for each call in the order in which they are checked, and what it is that a list gives a
 -- number and a place, or accepts. Assumes nothing.
 use Prim.Native.Nat.{ℕ, pred, _<_}
-use mathlib.Core.Bool.{Bool, true, false, _&&_}
+use mathlib.Core.Bool.{Bool, true, false}
 use mathlib.Core.List.{List, [], _∷_, _++_}
 use mathlib.Core.Path.{_≡_}
-use lib.IntN.{ℤ}
-use lib.Dec.{eqb, leb, ltb}
-use lib.ListN.{length, take}
+use lib.Dec.{eqb, ltb}
+use lib.ListN.{take}
 use Rattle.paper.specs.Lists.{between, total, nat}
 use Rattle.paper.specs.Net.{moved}
 use Rattle.paper.specs.Tables.{Tables}

@@ -66,8 +66,7 @@ abbrev pub afterAnswer : {A : Type 0} → Answer → A → A → A
 afterAnswer (Accepted evaluations) after before = after
 afterAnswer (Refused number place) after before = before
 
--- `room` are the rows for the pairs of the log, which build is not lent
-module _ {b : BuildLent} (start : BuildOutcome b) (room : List ℕ × List ℤ) where
+module _ {b : BuildLent} (start : BuildOutcome b) where
   -- the model's own: what build was lent and left, over the session's stored values and reasons
   abbrev pub mine : State → Model
   mine now = record { tables = b .tables; bounds = b .bounds; numbers = start .numbers; order = start .order; stored = now .stored; index = start .index; reasons = now .reasons }
@@ -82,6 +81,8 @@ module _ {b : BuildLent} (start : BuildOutcome b) (room : List ℕ × List ℤ) 
     pub stored : l .stored ≡ own
     pub reasons : l .reasons ≡ own
 
+-- `room` are the rows for the pairs of the log, which build is not lent
+module _ {b : BuildLent} (start : BuildOutcome b) (room : List ℕ × List ℤ) where
   -- after how many calls, which moves are kept and not taken back, the latest first, and what stands. An accepted keep or taking back was lent the
   -- model's own and the session's own log; a refused one, and any trial, anything
   pub data Run : ℕ → Moves → State → Type 0 where
@@ -89,8 +90,8 @@ module _ {b : BuildLent} (start : BuildOutcome b) (room : List ℕ × List ℤ) 
     then-trial : {k : ℕ} {ms : Moves} {now : State} → Run k ms now → (l : Lends) (c : TrialLent) (o : TrialOutcome (now .session) (modelOf now l) c)
         → Run (suc k) ms (afterTrial now (leftTried o .session))
     then-keep : {k : ℕ} {ms : Moves} {now : State} → Run k ms now → (l : Lends) (g : Lent Log) (c : KeepLent) (o : KeepOutcome (now .session) (lentOf g (now .log)) (modelOf now l) c)
-        → (numberOf (leftKept o .answer) ≡ 0 → Own now l × (g ≡ own))
+        → (numberOf (leftKept o .answer) ≡ 0 → Own start now l × (g ≡ own))
         → Run (suc k) (afterAnswer (leftKept o .answer) (movePairs (c .move) ∷ ms) ms) (passedOn now l g (leftKept o))
     then-take : {k : ℕ} {ms : Moves} {now : State} → Run k ms now → (l : Lends) (g : Lent Log) (c : TakeLent) (o : TakeOutcome (now .session) (lentOf g (now .log)) (modelOf now l) c)
-        → (numberOf (leftTaken o .answer) ≡ 0 → Own now l × (g ≡ own))
+        → (numberOf (leftTaken o .answer) ≡ 0 → Own start now l × (g ≡ own))
         → Run (suc k) (afterAnswer (leftTaken o .answer) (rest ms) ms) (passedOn now l g (leftTaken o))

@@ -10,8 +10,8 @@ use lib.IntN.{ℤ, pos, negsuc, natAbs, _+ℤ_, _-ℤ_, _*ℤ_}
 use lib.ListN.{length}
 use lib.Signed.{ltZ, leZ}
 use Rattle.integers.specs.Integers.{eqZ}
-use Rattle.paper.specs.Lists.{any, all, size, between}
-use Rattle.paper.specs.Formula.{blank, inRange, fit, someBlank, sum, trips, inputAt, formula}
+use Rattle.paper.specs.Lists.{any, all, size}
+use Rattle.paper.specs.Formula.{blank, inRange, fit, someBlank, sum, inputAt, formula}
 use Rattle.paper.specs.Net.{Values, Depends, runs, valuation}
 use Rattle.paper.specs.Tables.{Tables, net, inputsOf}
 use Rattle.paper.specs.Chains.{worth, needs, determined}

@@ -1,4 +1,4 @@
--- 20 and 21 link by link, as 6 is said: exactly which calls give them, and at which variable. Assumes nothing.
+-- Exactly which calls give a number of the chains, and at which variable: 20 and 21 link by link, as 6 is said. Assumes nothing.
 use Prim.Native.Nat.{ℕ, _<_}
 use mathlib.Core.List.{List, [], _∷_}
 use mathlib.Core.Logic.{_⊎_}
@@ -14,6 +14,13 @@ use Rattle.demands.specs.Stated.{BuildOutcome, leftBuilt, TrialOutcome, 
 use Rattle.demands.specs.Refusals.{Line, Passes, buildTable, trialTable, keepTable, takeTable}
 use Rattle.demands.specs.Sentences.{ComesTo}
 
+-- a number is given exactly if the lines before it are passed and something holds of a variable, at the least such variable
+pub record GivenExactly (before : List Line) (number n : ℕ) (holds : ℕ → Type 0) (a : Answer) : Type 0 where
+  pub given : Passes before → (v : ℕ) → v < n → holds v → numberOf a ≡ number
+  pub only : numberOf a ≡ number → Passes before
+  pub place : numberOf a ≡ number → LeastOf n holds (placeOf a)
+  pub none : numberOf a ≡ 0 → (v : ℕ) → v < n → holds v → ⊥
+
 -- the lines of a table but the last
 abbrev pub beforeLast : List Line → List Line
 beforeLast [] = []
@@ -25,22 +32,16 @@ abbrev pub Undetermined : Tables → Values → ℕ → Type 0
 Undetermined t s v = (u : ℕ) × ComesTo t s v u × Depends (needs t s) u u
 
 -- it is the last line of its table; s are the values that the search variables have after the call
-pub record UndeterminedExactly (table : List Line) (t : Tables) (s : Values) (a : Answer) : Type 0 where
-  pub given : Passes (beforeLast table) → (v : ℕ) → v < t .n → Undetermined t s v → numberOf a ≡ 20
-  pub only : numberOf a ≡ 20 → Passes (beforeLast table)
-  pub place : numberOf a ≡ 20 → LeastOf (t .n) (Undetermined t s) (placeOf a)
-  pub none : numberOf a ≡ 0 → (v : ℕ) → v < t .n → Undetermined t s v → ⊥
+abbrev pub UndeterminedExactly : List Line → Tables → Values → Answer → Type 0
+UndeterminedExactly table t s = GivenExactly (beforeLast table) 20 (t .n) (Undetermined t s)
 
 -- ── 21: some chain of inputs closes, and v is not determined by the stored values, or its stored value is not the fresh one ──
 abbrev pub Stale : Tables → Values → ℕ → Type 0
 Stale t old v = ((u : ℕ) × Depends (inputsOf t) u u) × (Undetermined t old v ⊎ (old v ≡ worth t old v → ⊥))
 
 -- it is the last line but one
-pub record StaleExactly (table : List Line) (t : Tables) (old : Values) (a : Answer) : Type 0 where
-  pub given : Passes (beforeLast (beforeLast table)) → (v : ℕ) → v < t .n → Stale t old v → numberOf a ≡ 21
-  pub only : numberOf a ≡ 21 → Passes (beforeLast (beforeLast table))
-  pub place : numberOf a ≡ 21 → LeastOf (t .n) (Stale t old) (placeOf a)
-  pub none : numberOf a ≡ 0 → (v : ℕ) → v < t .n → Stale t old v → ⊥
+abbrev pub StaleExactly : List Line → Tables → Values → Answer → Type 0
+StaleExactly table t old = GivenExactly (beforeLast (beforeLast table)) 21 (t .n) (Stale t old)
 
 -- ── each call ──
 pub record ChoicesExactly : Type 0 where

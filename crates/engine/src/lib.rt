@@ -1,4 +1,4 @@
-// The public calls, with reasons: build, trial, keep and taking back. Each is lent the session record; the call beneath takes it and gives it back by value.
+// The public calls: build, trial, keep and taking back. Each is lent the session record; the call beneath takes it and gives it back by value.
 mod counters;
 mod lent;
 

@@ -3,7 +3,7 @@ use Prim.Native.Nat.{ℕ, _+_, _≤_, _<_}
 use native.Mathlib.Omega.{arith}
 use mathlib.Core.Bool.{Bool, true, false, cond, _||_}
 use mathlib.Core.List.{List, [], _∷_}
-use mathlib.Core.Path.{_≡_, refl, ap, sym}
+use mathlib.Core.Path.{_≡_, refl, ap, sym, _∙_}
 use borrow.Author.Tests.{lt-ltb}
 use lib.Dec.{ltb}
 use lib.IntN.{ℤ}
@@ -38,10 +38,10 @@ module _ {p : ℤ → Bool} {xs : List ℤ} where
   passed-most s = omega (arith, s .so-far, tally-le p xs)
 
 -- some place passes exactly if their number is above 0
+pub some-step : (b : Bool) (n : ℕ) → ltb 0 (cond b 1 0 + n) ≡ (b || ltb 0 n)
+some-step true n = lt-ltb 0 (1 + n) (omega arith)
+some-step false n = let same : 0 + n ≡ n = omega arith in ap (ltb 0) same
+
 pub any-tally : (p : ℤ → Bool) (xs : List ℤ) → any p xs ≡ ltb 0 (tally p xs)
 any-tally p [] = refl
-any-tally p (x ∷ xs) = go (p x) (any-tally p xs)
-  where
-    go : (b : Bool) → any p xs ≡ ltb 0 (tally p xs) → (b || any p xs) ≡ ltb 0 (cond b 1 0 + tally p xs)
-    go true e = sym (lt-ltb 0 (1 + tally p xs) (omega arith))
-    go false e = let same : 0 + tally p xs ≡ tally p xs = omega arith in rw same e
+any-tally p (x ∷ xs) = ap (p x ||_) (any-tally p xs) ∙ sym (some-step (p x) (tally p xs))

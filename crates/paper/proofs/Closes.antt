@@ -1,22 +1,22 @@
--- Whether a chain of inputs closes, over tables that passed checks 1 to 5: if none does, numbers and order are those of before and check 8 asks the same; if one
--- does, stored values that passed check 21 are the fresh ones of their own search variables. Assumes nothing.
+-- Whether a chain of inputs closes, over tables that passed checks 1 to 5: if none does, numbers and order are those of `Straight`; if one does, stored
+-- values that passed check 21 are the fresh ones of their own search variables. Assumes nothing.
 use Prim.Native.Nat.{ℕ, suc, _≤_, _<_}
 use native.Mathlib.Nat.{lt-irrefl}
 use native.Mathlib.Omega.{arith}
 use mathlib.Core.Bool.{Bool, true, false, cond, not, _&&_, _||_}
-use mathlib.Core.List.{List, [], _∷_}
-use mathlib.Core.Path.{_≡_, refl, ap, sym, _∙_, fun-ext}
+use mathlib.Core.List.{List}
+use mathlib.Core.Path.{_≡_, refl, ap, sym, _∙_}
 use lib.Dec.{eqb, ltb}
 use lib.ListN.{length, take}
 use lib.Seq.{ext-getD, length-take-le, getD-take}
 use borrow.Author.Tests.{eqb-true, eq-eqb, ltb-true, ltb-false, not-false}
 use Rattle.integers.specs.Integers.{eqZ}
 use Rattle.integers.proofs.Order.{eqZ-yes}
-use Rattle.paper.specs.Lists.{every, nat, allBelow}
+use Rattle.paper.specs.Lists.{nat, allBelow}
 use Rattle.paper.specs.Net.{Values, able}
 use Rattle.paper.specs.Tables.{Tables, net, isMade, inputsOf, ends}
 use Rattle.paper.specs.Checks.{Sound}
-use Rattle.paper.specs.Straight.{number, order, numbered}
+use Rattle.paper.specs.Straight.{number, order}
 use Rattle.paper.specs.Chains.{permitted, groupNumber, groupOrder, worth, determined, closes, groupsNumbered, storedFresh}
 use Rattle.paper.proofs.Lists.{each, all-yes, and-left, and-right}
 use Rattle.paper.proofs.Least.{allBelow-at, below-all}

@@ -6,7 +6,7 @@ use native.Mathlib.Nat.{le-of-suc-le-suc, not-suc-le-zero, le-refl}
 use native.Mathlib.Omega.{arith}
 use mathlib.Core.Bool.{Bool, true, false, cond, true≢false, false≢true}
 use mathlib.Core.List.{List, List·Memᴰ}
-use mathlib.Core.Path.{_≡_, refl, ap, sym, _∙_, subst, subst⁻¹, fun-ext}
+use mathlib.Core.Path.{_≡_, refl, ap, sym, _∙_, subst⁻¹, fun-ext}
 use lib.IntN.{ℤ, pos}
 use borrow.Author.Tests.{not-false}
 use Rattle.integers.specs.Integers.{eqZ}

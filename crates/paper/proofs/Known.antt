@@ -2,7 +2,7 @@
 use Prim.Native.Nat.{ℕ, zero, suc, pred, _≤_, _<_}
 use native.Mathlib.Omega.{arith}
 use mathlib.Core.Bool.{Bool, true, false, _||_, false≢true}
-use mathlib.Core.List.{List, [], _∷_}
+use mathlib.Core.List.{[], _∷_}
 use mathlib.Core.Path.{_≡_, refl, sym, _∙_}
 use lib.IntN.{ℤ, pos}
 use lib.Dec.{eqb, ltb}
@@ -115,7 +115,7 @@ model-known w blanks next fits e =
       check-rest 7 (t .n) (storedAllowed t (w .bounds) (storedValues w)) next seven,
     )
 
--- where no chain closes: every chain ends, and numbers and order are those of before
+-- where no chain closes: every chain ends, and numbers and order are those of `Straight`
 pub model-open : (w : Model) → ModelKnown w → closes (w .tables) ≡ false → Opened (w .tables)
 model-open w k e = opened (w .tables) (k .sound) e
 

@@ -12,7 +12,7 @@ use Rattle.paper.proofs.Lawful.{lawful}
 use Rattle.paper.proofs.Fresh.{Fresh, Alike, afresh-alike}
 use Rattle.paper.proofs.Circle.{Comes, unable-comes}
 use Rattle.paper.specs.Chains.{worth, needs, determined}
-use Rattle.paper.proofs.Ends.{able-more, able-least, able-free, able-link, able-equation, comes-unable}
+use Rattle.paper.proofs.Ends.{able-more, able-least, able-free, able-equation, comes-unable}
 use Rattle.paper.proofs.Determined.{Determined, followed-value, followed-able, afresh-search, afresh-meets, next-able, afresh-fresh, quiet, route-fresh, new-equation, step-fresh}
 
 module _ (t : Tables) (s : Values) where

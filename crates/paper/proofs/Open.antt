@@ -1,4 +1,4 @@
--- Tables without a closed chain: every variable is permitted and determined, each is a group of its own, and its number and the order are those of before.
+-- Tables without a closed chain: every variable is permitted and determined, each is a group of its own, and its number and the order are those of `Straight`.
 -- Assumes nothing.
 use Prim.Native.Nat.{ℕ, zero, suc, _<_}
 use native.Mathlib.Nat.{le-refl, lt-irrefl, not-suc-le-zero}

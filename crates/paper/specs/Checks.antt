@@ -11,7 +11,7 @@ use Rattle.integers.specs.Integers.{eqZ}
 use Rattle.paper.specs.Lists.{any, all, every, between, total, nat, firstFail, joined, allBelow, below}
 use Rattle.paper.specs.Formula.{blank, inRange}
 use Rattle.paper.specs.Net.{Values, moved}
-use Rattle.paper.specs.Tables.{Tables, Index, part, isMade, net, ends, readers, readersStart}
+use Rattle.paper.specs.Tables.{Tables, Index, part, isMade, readers, readersStart}
 use Rattle.paper.specs.Chains.{determined, storedFresh}
 
 pub data Verdict : Type 0 where

@@ -4,6 +4,7 @@ pub mod Cut
 pub mod Shapes
 pub mod Placing
 pub mod Numbers
+pub mod Sifting
 pub mod Made
 pub mod Judged
 pub mod Asked

@@ -1,4 +1,5 @@
--- Check 4: a number within a bound by two tests, and the coefficients of a part where all coefficients are known to be good. Assumes nothing.
+-- Check 4: a number within a bound by two tests, a parameter by tests of which none waits for another, and the coefficients of a part where all
+-- coefficients are known to be good. Assumes nothing.
 use Prim.Native.Nat.{ℕ, suc}
 use mathlib.Core.Bool.{Bool, true, false, cond, _&&_, _||_, and-true, false≢true}
 use mathlib.Core.List.{List}
@@ -10,7 +11,7 @@ use lib.Signed.{leZ}
 use Rattle.integers.specs.Integers.{eqZ}
 use Rattle.integers.proofs.Order.{eqZ-yes}
 use Rattle.paper.proofs.Lists.{all-in, all-of}
-use Rattle.tables.specs.Rows.{allSmall, allOne, coefsGood}
+use Rattle.tables.specs.Rows.{allSmall, allOne, coefsGood, paramGood}
 use Rattle.tables.proofs.Whole.{all-part, known-or}
 
 -- not below the bound's negative, and not above the bound
@@ -39,3 +40,13 @@ coefs-known kind first count l own ones linear o s e =
     go false true p q true h = small (sym q)
     go false true p q false h = absurd (false≢true h)
     go false false p q k h = absurd (false≢true h)
+
+-- 0 suits every kind
+pub param-known : (kind : ℕ) (z : ℤ) → (eqZ z (pos 0) || ((eqb kind 1 || eqb kind 6) && leb (natAbs z) 1000000000)) ≡ paramGood kind z
+param-known kind z = go (eqZ z (pos 0)) refl (eqb kind 1 || eqb kind 6)
+  where
+    go : (b : Bool) → eqZ z (pos 0) ≡ b → (k : Bool) → (b || (k && leb (natAbs z) 1000000000)) ≡ cond k (leb (natAbs z) 1000000000) b
+    go true e true = sym (ap (λ x. leb (natAbs x) 1000000000) (eqZ-yes z (pos 0) e))
+    go true e false = refl
+    go false e true = refl
+    go false e false = refl

@@ -8,7 +8,7 @@ use mathlib.Core.List.{List, [], _∷_}
 use mathlib.Core.Path.{_≡_, refl, sym, ap, ap₂, _∙_}
 use lib.Dec.{eqb, leb, ltb}
 use lib.ListN.{length, take}
-use borrow.Author.Tests.{leb-true, eqb-true, le-leb}
+use borrow.Author.Tests.{leb-true, eqb-true, eq-eqb, le-leb}
 use Rattle.paper.specs.Lists.{all, greatest, total, nat, firstFail, allBelow}
 use Rattle.paper.specs.Tables.{Tables}
 use Rattle.paper.specs.Checks.{arity, shapeGood}
@@ -64,6 +64,20 @@ total-grows [] (suc i) j h = omega arith
 total-grows (x ∷ xs) (suc i) zero h = absurd (not-suc-le-zero h)
 total-grows (x ∷ xs) (suc i) (suc j) h = let k = total-grows xs i j (omega arith) in omega arith
 
+-- parts that are good begin where those before them end, and these end within e
+module _ (m e : ℕ) (firsts counts : List ℕ) (parts : partsGood m e firsts counts ≡ true) (r : ℕ) where
+  abbrev begins : Bool
+  begins = allBelow (λ i. eqb (nat firsts i) (total (take i counts))) m
+
+  pub part-begins : r < m → nat firsts r ≡ total (take r counts)
+  part-begins l =
+      eqb-true (nat firsts r) (total (take r counts))
+      (allBelow-at (λ i. eqb (nat firsts i) (total (take i counts))) m (and-left begins (leb (total (take m counts)) e) parts) r l)
+
+  pub sum-within : r ≤ m → total (take r counts) ≤ e
+  sum-within l =
+      let z = total-grows counts r m l in let w = leb-true (total (take m counts)) e (and-right begins (leb (total (take m counts)) e) parts) in omega arith
+
 module _ (n m e : ℕ) (kinds makes firsts counts vars : List ℕ) (long : m ≤ length makes) (room : m ≤ length counts) where
   pub all-shapes : {a b c d : Bool} → a ≡ ltb (greatest (take m makes)) n → b ≡ allBelow (λ i. arity (nat kinds i) (nat counts i)) m
       → c ≡ ltb (greatest (take e vars)) n → d ≡ partsGood m e firsts counts → ((a && b) && (c && d)) ≡ true
@@ -86,13 +100,12 @@ module _ (n m e : ℕ) (kinds makes firsts counts vars : List ℕ) (long : m ≤
           own = rows-known n m r kinds makes counts long l (sym pa ∙ and-left a b (and-left (a && b) (c && d) q)) (sym pb ∙ and-right a b (and-left (a && b) (c && d) q))
 
           at : eqb (nat firsts r) (total (take r counts)) ≡ true
-          at = allBelow-at (λ i. eqb (nat firsts i) (total (take i counts))) m (and-left _ (leb (total (take m counts)) e) parts) r l
+          at = eq-eqb (nat firsts r) (total (take r counts)) (part-begins m e firsts counts parts r l)
 
           inside : nat firsts r + nat counts r ≤ e
           inside =
-              let x = eqb-true (nat firsts r) (total (take r counts)) at in let y = total-next counts r (omega arith) in let z = total-grows counts (r + 1) m (omega arith) in
-              let w = leb-true (total (take m counts)) e (and-right (allBelow (λ i. eqb (nat firsts i) (total (take i counts))) m) (leb (total (take m counts)) e) parts) in
-              omega arith
+              let x = part-begins m e firsts counts parts r l in let y = total-next counts r (omega arith) in
+              let z = sum-within m e firsts counts parts (r + 1) (omega arith) in omega arith
 
           ends : leb (nat firsts r + nat counts r) e ≡ true
           ends = le-leb (nat firsts r + nat counts r) e inside

@@ -8,7 +8,7 @@ use mathlib.Core.List.{List, [], _∷_}
 use mathlib.Core.Path.{_≡_, refl, sym, ap, ap₂, _∙_}
 use lib.Dec.{eqb, ltb}
 use lib.ListN.{length, getD, take, drop}
-use lib.Seq.{take-take}
+use lib.Seq.{take-take, drop-drop}
 use borrow.Author.Tests.{ltb-true, ltb-false, eq-eqb, ne-eqb}
 use Rattle.paper.specs.Lists.{all, firstFail, allBelow}
 use Rattle.paper.proofs.Lists.{and-left, and-right, eqb-self}
@@ -62,6 +62,19 @@ part-front zero count e l h = take-take count e l (omega arith)
 part-front (suc first) count zero l h = let none : suc (first + count) ≤ 0 = omega arith in absurd (not-suc-le-zero none)
 part-front (suc first) count (suc e) [] h = refl
 part-front (suc first) count (suc e) (x ∷ xs) h = part-front first count e xs (omega arith)
+
+-- a part of a part
+pub all-within : {A : Type 0} (p : A → Bool) (l : List A) (from n first count : ℕ) → from ≤ first → first + count ≤ from + n
+    → all p (take n (drop from l)) ≡ true → all p (take count (drop first l)) ≡ true
+all-within p l from n first count low high h =
+    let k = first - from in let at : from + k ≡ first = omega arith in
+    sym (ap (all p) (part-front k count n (drop from l) (omega arith) ∙ ap (take count) (drop-drop k from l ∙ ap (λ i. drop i l) at)))
+    ∙ all-part p k count (take n (drop from l)) h
+
+-- an answer that shows another one
+pub shows : (a b : Bool) → (a ≡ true → b ≡ true) → (a && b) ≡ a
+shows true b h = h refl
+shows false b h = refl
 
 -- what is known need not be looked up
 pub known-or : (a b : Bool) → (a ≡ true → b ≡ true) → (a || b) ≡ b

@@ -5,7 +5,7 @@ use mathlib.Core.Bool.{Bool, cond, _&&_, _||_}
 use mathlib.Core.List.{List, []}
 use lib.IntN.{ℤ, pos, natAbs}
 use lib.Dec.{eqb, leb}
-use lib.ListN.{take}
+use lib.ListN.{getD, take, drop}
 use Rattle.integers.specs.Integers.{eqZ}
 use Rattle.paper.specs.Lists.{all, total, nat, allBelow}
 use Rattle.paper.specs.Tables.{Tables, lent}
@@ -35,3 +35,10 @@ coefsGood kind part = cond (eqb kind 1) (allSmall part) (allOne part)
 
 abbrev pub paramGood : ℕ → ℤ → Bool
 paramGood kind param = cond (eqb kind 1 || eqb kind 6) (leb (natAbs param) 1000000000) (eqZ param (pos 0))
+
+-- of m rows
+abbrev pub allCoefsGood : ℕ → List ℕ → List ℕ → List ℕ → List ℤ → Bool
+allCoefsGood m kinds firsts counts coefs = allBelow (λ r. coefsGood (nat kinds r) (take (nat counts r) (drop (nat firsts r) coefs))) m
+
+abbrev pub allParamsGood : ℕ → List ℕ → List ℤ → Bool
+allParamsGood m kinds params = allBelow (λ r. paramGood (nat kinds r) (getD params r (pos 0))) m

@@ -76,7 +76,7 @@ fn counts_good(m: usize, kinds: &[u16], counts: &[u16]) -> bool
 }
 
 // Each of m rows has its part where those before it end, and the last one's ends within e. No row stops the loop.
-fn parts_good(m: usize, e: usize, firsts: &[u16], counts: &[u16]) -> bool
+pub fn parts_good(m: usize, e: usize, firsts: &[u16], counts: &[u16]) -> bool
     requires { ⌜ (m ≤ length (now firsts)) × (m ≤ length (now counts)) ⌝ }
     ensures { λ r. ⌜ r ≡ partsGood m e (now (firsts .entry)) (now (counts .entry)) ⌝ }
 {

@@ -24,6 +24,13 @@ fn bounds_fit(n: usize, lows: &[i32], highs: &[i32]) -> bool
     (n <= lows.len()) & (n <= highs.len())
 }
 
+// Check 1 of the reasons: room for one of each variable.
+fn reasons_fit(n: usize, reasons: &[u8]) -> bool
+    ensures { λ r. ⌜ r ≡ leb n (length (now (reasons .entry))) ⌝ }
+{
+    n <= reasons.len()
+}
+
 // Check 1 of build.
 pub fn build_fits(
     n: usize,
@@ -70,10 +77,10 @@ pub fn build_fits(
         & index_fits(n, e, reader_starts, reader_places)
         & (65 <= log_sizes.len())
         & bounds_fit(n, lows, highs)
-        & (n <= reasons.len())
+        & reasons_fit(n, reasons)
 }
 
-// Check 1 of the model that trial and keep are lent.
+// Check 1 of the model that trial, keep and taking back are lent.
 fn model_fits(
     n: usize,
     m: usize,
@@ -113,7 +120,7 @@ fn model_fits(
         & (m <= order.len())
         & index_fits(n, e, reader_starts, reader_places)
         & bounds_fit(n, lows, highs)
-        & (n <= reasons.len())
+        & reasons_fit(n, reasons)
 }
 
 // Check 1 of trial.

@@ -1,5 +1,5 @@
 -- The small files come out byte by byte, and each refusal with its number and place, by computation. Assumes nothing.
-use mathlib.Core.Path.{_≡_, refl}
+use mathlib.Core.Path.{refl}
 use Rattle.paper.specs.Lists.{every}
 use Rattle.paper.specs.File.{fileBytes, writeVerdict, header, readVerdict, converted, convertVerdict}
 use Rattle.worked.specs.Files.{FilesComeOut}

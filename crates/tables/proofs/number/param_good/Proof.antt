@@ -1,24 +1,20 @@
--- The kind picks the test; a bound is two tests (`within`). Assumes nothing.
-use mathlib.Core.Path.{refl, _∙_}
-use mathlib.Core.Logic.{⊎-elim, inl, inr}
+-- A bound is two tests (`within`), and 0 is within it (`param-known`). Assumes nothing.
+use mathlib.Core.Bool.{_&&_, _||_}
+use mathlib.Core.Path.{ap₂, _∙_}
 use lib.IntN.{pos}
-use borrow.Author.Tests.{ne-eqb}
+use lib.Dec.{eqb}
 use mir.Syntax.{w32}
 use mir.Facts.{toZ-ofZ, sfits-lit}
 use Rattle.integers.proofs.Bits.{eqb-bits}
-use Rattle.tables.proofs.Numbers.{within}
+use Rattle.tables.proofs.Numbers.{within, param-known}
 use Rattle.tables.proofs.number.param_good.Statement.{statement}
 use Rattle.tables.proofs.number.param_good.Tie as tie
 
 returns : tie.Need-returns
 returns c =
-    simp (toZ-ofZ (c .before .fits .param)) (within (c .before .args .param) 999999999 ∙ ⊎-elim (λ e. rw e refl) (λ e. rw e refl) (c .match .keys1))
-
-returns-2 : tie.Need-returns-2
-returns-2 c =
-    let a = c .before .args in
-    rw (ne-eqb (a .kind) 1 (λ e. c .match .rest .1 (inl e)), ne-eqb (a .kind) 6 (λ e. c .match .rest .1 (inr e)))
-    (eqb-bits w32 (a .param) (pos 0) (c .before .fits .param) (sfits-lit tt))
+    let z = c .args .param in let k = c .args .kind in
+    simp (toZ-ofZ (c .fits .param))
+    (ap₂ (λ x y. x || ((eqb k 1 || eqb k 6) && y)) (eqb-bits w32 z (pos 0) (c .fits .param) (sfits-lit tt)) (within z 999999999) ∙ param-known k z)
 
 pub param-good-spec : {M : Type 1} → statement M
-param-good-spec = tie.close (tie.spec returns returns-2)
+param-good-spec = tie.close (tie.spec returns)
