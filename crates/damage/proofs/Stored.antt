@@ -39,9 +39,6 @@ pub record Placed {A : Type 0} (f : ℕ → List A) (before : List A) (at : ℕ)
   pub place : to ≡ at + length (joined f d)
   pub written : now ≡ sets before at (joined f d)
 
-pub placed-start : {A : Type 0} (f : ℕ → List A) (before : List A) (at : ℕ) → Placed f before at before at 0
-placed-start f before at = record { long = refl; place = omega arith; written = refl }
-
 module _ {A : Type 0} {f : ℕ → List A} {before now : List A} {at to d : ℕ} (P : Placed f before at now to d) where
   pub placed-room : (n : ℕ) → d < n → at + length (joined f n) ≤ length before → to + length (f d) ≤ length now
   placed-room n l h = let g = joined-grown f d in let a = joined-le f (suc d) n l in let p = P .place in let q = P .long in omega arith
