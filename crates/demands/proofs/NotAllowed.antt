@@ -11,7 +11,7 @@ use Rattle.paper.specs.Tables.{Tables, lent}
 use Rattle.paper.specs.Log.{Log, logIn, logged}
 use Rattle.paper.specs.Moves.{Moves}
 use Rattle.paper.specs.Reason.{reasonOf}
-use Rattle.paper.specs.Calls.{Session, Accepted, Refused, numberOf, evaluationsOf, BuildLent, BuildLeft, Model, TrialLent, TrialLeft, trial, KeepLent, KeepLeft, keep, latest, TakeLent, takeBack}
+use Rattle.paper.specs.Calls.{Session, Accepted, Refused, numberOf, evaluationsOf, BuildLent, BuildLeft, Model, TrialLent, TrialLeft, trial, KeepLent, KeepLeft, keep, latest, TakeLent, takeBack, askedList, routeOf}
 use Rattle.worked.specs.Runs.{building, modelA, startA, zeros, zerosZ, ones}
 use Rattle.demands.specs.Stated.{BuildOutcome, leftBuilt, TrialOutcome, leftTried, KeepOutcome, leftKept, TakeOutcome, leftTaken}
 use Rattle.demands.specs.Runs.{State, mine, Run}
@@ -132,9 +132,11 @@ module _ {b : BuildLent} (start : BuildOutcome b) (moves : Moves) (now : State) 
     -- a keep that logs a new value, where that is not the value before it
     pub new-logged : (c : KeepLent) (o : Keeps c) → numberOf (leftKept o .answer) ≡ 0 → (i : ℕ) → i < c .move .pairs → (getD (c .move .values) i (pos 0) ≡ oldAt (nat (c .move .vars) i) → ⊥)
         → getD (latest (leftKept o .log) (record { flags = c .flags }) .move .values) i (pos 0) ≡ getD (c .move .values) i (pos 0) → ⊥
-    -- a count made up: it is not the size of the set that route 1 evaluates
+    -- a count made up: it is not the size of the set that the route evaluates
     pub made-up : (c : KeepLent) (o : Keeps c) → numberOf (leftKept o .answer) ≡ 0
         → (k : ℕ) → (k ≡ size (evaluatedBy b moves input-to-output (c .move) []) (b .tables .n) → ⊥) → evaluationsOf (leftKept o .answer) ≡ k → ⊥
+    pub made-up-trial : (c : TrialLent) (o : Tries c) → numberOf (leftTried o .answer) ≡ 0
+        → (k : ℕ) → (k ≡ size (evaluatedBy b moves (routeOf (c .route)) (c .move) (askedList c)) (b .tables .n) → ⊥) → evaluationsOf (leftTried o .answer) ≡ k → ⊥
     -- a trial that gives the stored values, where its move changes the fresh value of what is asked
     pub stored-trial : (c : TrialLent) (o : Tries c) → numberOf (leftTried o .answer) ≡ 0
         → (i v : ℕ) → i < c .asked → nat (c .askedVars) i ≡ v → v < b .tables .n → (triedAt o i ≡ oldAt v → ⊥) → getD (o .results) i (pos 0) ≡ getD (now .stored) v (pos 0) → ⊥

@@ -95,6 +95,7 @@ module _ {b : BuildLent} (start : BuildOutcome b) (room : List ℕ × List ℤ) 
           omega arith;
       new-logged = λ c o z i low differs same. differs (sym same ∙ logs c o z i low);
       made-up = λ c o z k differs same. differs (sym same ∙ right .keep-accepted (own start moves now) refl c o z .told .set-size);
+      made-up-trial = λ c o z k differs same. differs (sym same ∙ right .trial-accepted (own start moves now) refl c o z .told .set-size);
       stored-trial = λ c o z i v k is low differs same. differs (sym (result-at c o z i k) ∙ same ∙ stored-at v low);
       same-trial = λ c c′ o o′ z z′ i k k′ differs same. differs (sym (result-at c o z i k) ∙ ap (λ row. getD row i (pos 0)) same ∙ result-at c′ o′ z′ i k′);
       zero-results = λ c o z i k differs zero. differs (sym (result-at c o z i k) ∙ zero);

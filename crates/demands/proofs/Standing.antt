@@ -34,7 +34,7 @@ use Rattle.paper.proofs.Outcomes.{build-judged, keep-judged, take-judged}
 use Rattle.paper.proofs.Moves.{keep-leaves-known, take-accepts}
 use Rattle.paper.proofs.Log.{Undoes, undoes-latest, good-log, dropped-good, dropped-undoes, noted-good, noted-undoes}
 use Rattle.demands.specs.Runs.{State}
-use Rattle.demands.specs.Demands.{fresh}
+use Rattle.demands.specs.Demands.{fresh, reasonsOver}
 use Rattle.demands.proofs.Logs.{noted-long}
 
 -- an entry among the first k
@@ -132,12 +132,8 @@ module _ (b : BuildLent) (ok : numberOf (build b .answer) ≡ 0) where
   move-blanks row s h c det = ap (blanksAmong (t .n)) (new-fresh row s h input-to-output (movePairs (c .move)) det)
 
   -- ── the reasons over such values ──
-  -- laid over the row that build was lent
-  abbrev pub laid : Values → List ℕ
-  laid f = over (t .n) (λ v. reasonOf t v f) (b .reasons)
-
   -- one more move over the values and their reasons, after which every variable is determined
-  module _ (stored : List ℤ) (s : Values) (h : Holds stored s) (row : List ℕ) (held : row ≡ laid (afresh N s (t .n))) (mv : List (ℕ × ℤ)) (det : Stays stored mv) where
+  module _ (stored : List ℤ) (s : Values) (h : Holds stored s) (row : List ℕ) (held : row ≡ reasonsOver b (afresh N s (t .n))) (mv : List (ℕ × ℤ)) (det : Stays stored mv) where
     abbrev before : Values
     before = valuesIn t stored
 
@@ -161,7 +157,7 @@ module _ (b : BuildLent) (ok : numberOf (build b .answer) ≡ 0) where
         ∙ ap (reasonOf t v) (after-is r)
 
     -- of every variable, as keep and taking back store it
-    moved-laid : (c : KeepLent) → movePairs (c .move) ≡ mv → keptReasons t stored c row ≡ laid (afresh N (moved mv s) (t .n))
+    moved-laid : (c : KeepLent) → movePairs (c .move) ≡ mv → keptReasons t stored c row ≡ reasonsOver b (afresh N (moved mv s) (t .n))
     moved-laid c same = let f : Values = afresh N (moved mv s) (t .n) in
         ap (λ z. over (t .n) (reasonKept t (evaluates t before input-to-output z []) (newValues t before input-to-output z []) (nat row)) row) same
         ∙ over-same (reasonKept t (evaluates t before input-to-output mv []) (newValues t before input-to-output mv []) (nat row)) (t .n) row (λ v. reasonOf t v f)
@@ -192,7 +188,7 @@ module _ (b : BuildLent) (ok : numberOf (build b .answer) ≡ 0) where
   -- moves, the number kept is theirs as long as it cannot have reached its ceiling, and once a move is logged the model has passed its checks
   pub record Stands (kept blanks : ℕ) (stored : List ℤ) (reasons : List ℕ) (log : Log) (moves : Moves) (calls : ℕ) : Type 0 where
     pub holds : Holds stored (applied (startValues b) moves)
-    pub reasons-are : reasons ≡ laid (fresh b moves)
+    pub reasons-are : reasons ≡ reasonsOver b (fresh b moves)
     pub blank : blanks ≡ blanksAmong (t .n) (fresh b moves)
     pub good : logGood log t (b .bounds) kept ≡ true
     pub undoes : Undoes (startValues b) (back log) (logged log) moves
@@ -334,7 +330,7 @@ module _ (b : BuildLent) (ok : numberOf (build b .answer) ≡ 0) where
           → let w = latest (now .log) c in Stands fewer (keptBlanks (b .tables) (now .stored) w) (keptStored (b .tables) (now .stored) w) (keptReasons (b .tables) (now .stored) w (now .reasons)) (dropped (now .log)) (rest moves) (suc calls)
       with-kept fewer low counted within = let w = latest (now .log) c in record {
         holds = subst (Holds (keptStored t (now .stored) w)) undid (move-holds (now .stored) searched (h .holds) w latest-move (take-has .determined));
-        reasons-are = moved-laid (now .stored) searched (h .holds) (now .reasons) (h .reasons-are) (movePairs (w .move)) (take-has .determined) w refl ∙ ap (λ s. laid (afresh N s (t .n))) undid;
+        reasons-are = moved-laid (now .stored) searched (h .holds) (now .reasons) (h .reasons-are) (movePairs (w .move)) (take-has .determined) w refl ∙ ap (λ s. reasonsOver b (afresh N s (t .n))) undid;
         blank = move-blanks (now .stored) searched (h .holds) w (take-has .determined) ∙ ap (λ s. blanksAmong (t .n) (afresh N s (t .n))) undid;
         good = dropped-good t (b .bounds) (now .log) (now .session .kept) (take-has .log) fewer low;
         undoes = dropped-undoes t (b .bounds) (now .log) (now .session .kept) (take-has .log) (startValues b) (rest moves) (undone c (take-has .some) .1);

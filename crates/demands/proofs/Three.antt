@@ -269,7 +269,6 @@ module _ {b : BuildLent} (start : BuildOutcome b) (room : List ℕ × List ℤ) 
       take-works = λ logs w like c long o.
           ap leftNumber (o .stated)
           ∙ take-judged (now .session) (now .log) w c .zero (take-up-to (now .session) w (theirs now) (alike now w like) (now .log) c .0 ∙ take-works b built-ok now moves calls h c logs stored-passes long);
-      trial-stored = λ l c o. (refl, refl);
       trial-refused = λ l c o wrong.
           ap (λ (x : TrialLeft). afterTrial now (x .session)) (o .stated ∙ trial-judged (now .session) (modelOf now l) c .as-was (λ z. wrong (ap triedNumber (o .stated) ∙ z)));
       keep-refused = λ l g c o wrong.

@@ -140,6 +140,10 @@ pub record Demand2 : Type 0 where
 abbrev pub fresh : BuildLent → Moves → Values
 fresh b moves = worth (b .tables) (applied (startValues b) moves)
 
+-- the reasons over some values, in the row that build was lent
+abbrev pub reasonsOver : BuildLent → Values → List ℕ
+reasonsOver b f = over (b .tables .n) (λ v. reasonOf (b .tables) v f) (b .reasons)
+
 module _ (b : BuildLent) (moves : Moves) where
   -- those of the moves kept and not taken back, of one more move, and without the latest
   abbrev pub old : Values
@@ -150,10 +154,6 @@ module _ (b : BuildLent) (moves : Moves) where
 
   abbrev pub restored : Values
   restored = fresh b (rest moves)
-
-  -- the reasons over some values, in the row that build was lent
-  abbrev pub reasonsOver : Values → List ℕ
-  reasonsOver f = over (b .tables .n) (λ v. reasonOf (b .tables) v f) (b .reasons)
 
   -- the variables that a route evaluates over the old values
   abbrev pub evaluatedBy : Route → Move → List ℕ → ℕ → Bool
@@ -178,7 +178,7 @@ module _ (b : BuildLent) (moves : Moves) where
   -- an accepted keep: it leaves exactly the fresh values and the reasons over them, one more move is kept, and one more can be taken back, 64 at most
   pub record KeepFresh (now : State) (c : KeepLent) (x : KeepLeft) : Type 0 where
     pub stored : x .stored ≡ over (b .tables .n) (renewed (c .move)) (b .stored)
-    pub reasons : x .reasons ≡ reasonsOver (renewed (c .move))
+    pub reasons : x .reasons ≡ reasonsOver b (renewed (c .move))
     pub told : Told (evaluatedBy input-to-output (c .move) []) (evaluationsOf (x .answer)) (x .flags) (c .flags)
     pub session : x .session
         ≡ record { kept = min (suc (now .session .kept)) 4294967295; evaluations = evaluationsOf (x .answer); blanks = blanksAmong (b .tables .n) (renewed (c .move)) }
@@ -187,7 +187,7 @@ module _ (b : BuildLent) (moves : Moves) where
   -- an accepted taking back: exactly the values before the latest move that was kept and not taken back, the reasons over them, and one move fewer
   pub record TakeFresh (now : State) (c : TakeLent) (x : KeepLeft) : Type 0 where
     pub stored : x .stored ≡ over (b .tables .n) restored (b .stored)
-    pub reasons : x .reasons ≡ reasonsOver restored
+    pub reasons : x .reasons ≡ reasonsOver b restored
     pub told : Told (evaluatedBy input-to-output (latest (now .log) c .move) []) (evaluationsOf (x .answer)) (x .flags) (c .flags)
     pub session : let k = now .session .kept in
         x .session ≡ record { kept = cond (ltb k 4294967295) (pred k) k; evaluations = evaluationsOf (x .answer); blanks = blanksAmong (b .tables .n) restored }
@@ -197,7 +197,7 @@ module _ (b : BuildLent) (moves : Moves) where
 pub record RunRight {b : BuildLent} (start : BuildOutcome b) (room : List ℕ × List ℤ) (calls : ℕ) (moves : Moves) (now : State) : Type 0 where
   -- the stored values are the fresh ones of the moves kept and not taken back, the reasons those over them, and what lies beyond is as build was lent it
   pub stored : now .stored ≡ over (b .tables .n) (old b moves) (b .stored)
-  pub reasons : now .reasons ≡ reasonsOver b moves (old b moves)
+  pub reasons : now .reasons ≡ reasonsOver b (old b moves)
   -- where a chain closes every variable is determined by the search variables among them, and its stored value is the fresh one: 21 is not given for them
   pub fresh : (v : ℕ) → v < b .tables .n → storedFresh (b .tables) (valuesIn (b .tables) (now .stored)) v ≡ true
   -- the record has the number of these moves, as long as there were too few calls to reach its ceiling, and of the blank values
@@ -213,9 +213,7 @@ pub record RunRight {b : BuildLent} (start : BuildOutcome b) (room : List ℕ ×
   -- a taking back is accepted, where the log is not empty and the row of flags long enough
   pub take-works : 0 < logged (now .log) → (w : Model) → Mine start now w → (c : TakeLent) → b .tables .n ≤ length (c .flags)
       → (o : TakeOutcome (now .session) (now .log) w c) → numberOf (leftTaken o .answer) ≡ 0
-  -- no trial alters a stored value or a reason, since it is lent them to read only; and a refused call leaves the state, whatever it was lent
-  pub trial-stored : (l : Lends) (c : TrialLent) (o : TrialOutcome (now .session) (modelOf now l) c) → let then = afterTrial now (leftTried o .session) in
-      (then .stored ≡ now .stored) × (then .reasons ≡ now .reasons)
+  -- a refused call leaves the state, whatever it was lent. That no trial alters a stored value or a reason needs no field: it is lent them to read only (`afterTrial`)
   pub trial-refused : (l : Lends) (c : TrialLent) (o : TrialOutcome (now .session) (modelOf now l) c) → (numberOf (leftTried o .answer) ≡ 0 → ⊥) → afterTrial now (leftTried o .session) ≡ now
   pub keep-refused : (l : Lends) (g : Lent Log) (c : KeepLent) (o : KeepOutcome (now .session) (lentOf g (now .log)) (modelOf now l) c) → (numberOf (leftKept o .answer) ≡ 0 → ⊥)
       → passedOn now l g (leftKept o) ≡ now
