@@ -10,10 +10,9 @@ use Rattle.paper.proofs.Lists.{and-left, and-right, each}
 use Rattle.paper.specs.Lists.{firstFail}
 use Rattle.paper.specs.Tables.{Tables}
 use Rattle.paper.specs.Chains.{permitted, determined}
-use Rattle.paper.specs.Checks.{Verdict, accepted, refused, check, tableChecks, startAllowed, sized}
+use Rattle.paper.specs.Checks.{Verdict, accepted, refused, check, tableLines, startAllowed, sized, byLines}
 use Rattle.paper.specs.Calls.{Session, BuildLent, buildFits, startValues, buildVerdict}
-use Rattle.paper.proofs.Verdicts.{andThen, refused-not, require-stops, require-next, check-stops, check-passes, Past}
-use Rattle.paper.proofs.Accept.{tables-then}
+use Rattle.paper.proofs.Verdicts.{andThen, refused-not, require-stops, require-next, check-stops, check-passes, Past, lines-then}
 use Rattle.paper.proofs.Sizes.{Sized, sized-facts}
 use Rattle.paper.proofs.Least.{firstFail-before}
 use Rattle.chains.specs.Links.{Shared, Grouped}
@@ -86,14 +85,14 @@ module _ (l : BuildLent) where
 
   module _ (fits : buildFits l ≡ true) where
     -- 2 to 5
-    pub stops-tables : (number place : ℕ) → tableChecks t (l .bounds) accepted ≡ refused number place → buildVerdict l ≡ refused number place
+    pub stops-tables : (number place : ℕ) → byLines (tableLines t (l .bounds)) accepted ≡ refused number place → buildVerdict l ≡ refused number place
     unfolding buildVerdict
-    stops-tables number place h = require-next 1 0 (buildFits l) _ fits ∙ tables-then t (l .bounds) fromSix ∙ ap (λ v. andThen v fromSix) h
+    stops-tables number place h = require-next 1 0 (buildFits l) _ fits ∙ lines-then (tableLines t (l .bounds)) fromSix ∙ ap (λ v. andThen v fromSix) h
 
-    module _ (passed : tableChecks t (l .bounds) accepted ≡ accepted) where
+    module _ (passed : byLines (tableLines t (l .bounds)) accepted ≡ accepted) where
       late : buildVerdict l ≡ fromSix
       unfolding buildVerdict
-      late = require-next 1 0 (buildFits l) _ fits ∙ tables-then t (l .bounds) fromSix ∙ ap (λ v. andThen v fromSix) passed
+      late = require-next 1 0 (buildFits l) _ fits ∙ lines-then (tableLines t (l .bounds)) fromSix ∙ ap (λ v. andThen v fromSix) passed
 
       pub stops-6 : (v : ℕ) → v ≡ firstFail (permitted t) (t .n) → v < t .n → buildVerdict l ≡ refused 6 v
       stops-6 v e h = late ∙ check-stops 6 (t .n) (permitted t) fromSeven v e h

@@ -1,9 +1,8 @@
 // The verdict of build, before anything lent is written.
 ghost use mathlib.Core.Path.{_≡_};
 ghost use Rattle.paper.specs.Calls.{BuildLent};
-ghost use Rattle.order.specs.Numbering.{Clean};
 ghost use Rattle.verdicts.specs.Lent.{noRecord, toBuild};
-ghost use Rattle.build.specs.BuildJudged.{BuildJudged};
+ghost use Rattle.build.specs.BuildJudged.{Scratch, BuildJudged};
 use chains::closed::some_closes;
 use chains::numbering::number_all;
 use checks::allowed::first_bad_value;
@@ -14,7 +13,7 @@ use tables::refused;
 use verdicts::fits::build_fits;
 
 // Checks 1 to 7 of build, and 20: where no chain closes every variable is determined, and elsewhere the start values are tried with a move of no pairs. If all
-// are passed, `state` holds the number of every variable.
+// are passed, `state` holds the number of every variable, and `by` its maker.
 pub fn judge_build(
     n: usize,
     m: usize,
@@ -36,11 +35,12 @@ pub fn judge_build(
     reader_places: &[u16],
     reasons: &[u8],
     log_sizes: &[u16],
-    state: &mut [u16; 4096],
+    by: &mut [u16],
+    state: &mut [u16],
 ) -> Answer
     ghost { BuildLent }
     requires lent { λ w. ⌜ toBuild noRecord n m e (now kinds) (now makes) (now params) (now firsts) (now counts) (now vars) (now coefs) (now lows) (now highs) (now starts) (now numbers) (now order) (now stored) (now «reader_starts») (now «reader_places») (now reasons) (now «log_sizes») ≡ w ⌝ }
-    requires clean { λ _. ⌜ Clean 4096 (now state) ⌝ }
+    requires scratch { λ _. ⌜ Scratch n (now by) (now state) ⌝ }
     ensures { λ build r. ⌜ BuildJudged build (now (state .exit)) r ⌝ }
 {
     if !build_fits(
@@ -67,7 +67,6 @@ pub fn judge_build(
     ) {
         return refused(1, 0);
     }
-    let mut by = [0u16; 4096];
     let checked = table_checks(
         n,
         m,
@@ -81,16 +80,16 @@ pub fn judge_build(
         coefs,
         lows,
         highs,
-        &mut by,
+        by,
     );
     let Answer::Accepted { .. } = checked else {
         return checked;
     };
-    let barred = number_all(n, m, kinds, makes, firsts, counts, vars, &by, state);
+    let barred = number_all(n, m, kinds, makes, firsts, counts, vars, by, state);
     if barred < n {
         return refused(6, barred);
     }
-    let bad = first_bad_value(true, n, &by, lows, highs, starts);
+    let bad = first_bad_value(true, n, by, lows, highs, starts);
     if bad < n {
         return refused(7, bad);
     }
@@ -108,7 +107,7 @@ pub fn judge_build(
         counts,
         vars,
         coefs,
-        &by,
+        by,
         starts,
         0,
         &vars[..0],

@@ -26,7 +26,7 @@ pub fn fill_model(
     vars: &[u16],
     coefs: &[i16],
     starts: &[i32],
-    state: &[u16; 4096],
+    state: &[u16],
     numbers: &mut [u16],
     order: &mut [u16],
     stored: &mut [i32],

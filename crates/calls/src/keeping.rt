@@ -45,6 +45,8 @@ pub fn keep_core(
 ) -> Done
     ensures { λ r. ⌜ leftByKeep r (now (stored .exit)) (now (reasons .exit)) (now (flags .exit)) (now («log_sizes» .exit)) (now («log_vars» .exit)) (now («log_values» .exit)) ≡ kept (recordIn session) (logIn (now («log_sizes» .entry)) (now («log_vars» .entry)) (now («log_values» .entry))) (toModel n m e (now (kinds .entry)) (now (makes .entry)) (now (params .entry)) (now (firsts .entry)) (now (counts .entry)) (now (vars .entry)) (now (coefs .entry)) (now (lows .entry)) (now (highs .entry)) (now (numbers .entry)) (now (order .entry)) (now (stored .entry)) (now («reader_starts» .entry)) (now («reader_places» .entry)) (now (reasons .entry))) (toKeep pairs (now («move_vars» .entry)) (now («move_values» .entry)) (now (flags .entry))) ⌝ }
 {
+    let mut by = [0u16; 4096];
+    let mut closed = false;
     let judged = judge_keep(
         session.kept,
         session.blanks,
@@ -73,6 +75,8 @@ pub fn keep_core(
         log_sizes,
         log_vars,
         log_values,
+        &mut by,
+        &mut closed,
     );
     let Answer::Accepted { .. } = judged else {
         return Done {
@@ -80,6 +84,7 @@ pub fn keep_core(
             session: session,
         };
     };
+    let makers = &by[..n];
     note_move(stored, pairs, move_vars, log_sizes, log_vars, log_values);
     let evaluations = fill_keep(
         n,
@@ -92,7 +97,8 @@ pub fn keep_core(
         counts,
         vars,
         coefs,
-        numbers,
+        makers,
+        closed,
         order,
         stored,
         reader_starts,
@@ -113,6 +119,7 @@ pub fn keep_core(
         counts,
         vars,
         coefs,
+        makers,
         stored,
         flags,
         reasons,

@@ -44,6 +44,8 @@ pub fn take_back_core(
 ) -> Done
     ensures { λ r. ⌜ leftByKeep r (now (stored .exit)) (now (reasons .exit)) (now (flags .exit)) (now («log_sizes» .exit)) (now («log_vars» .entry)) (now («log_values» .entry)) ≡ takeBack (recordIn session) (logIn (now («log_sizes» .entry)) (now («log_vars» .entry)) (now («log_values» .entry))) (toModel n m e (now (kinds .entry)) (now (makes .entry)) (now (params .entry)) (now (firsts .entry)) (now (counts .entry)) (now (vars .entry)) (now (coefs .entry)) (now (lows .entry)) (now (highs .entry)) (now (numbers .entry)) (now (order .entry)) (now (stored .entry)) (now («reader_starts» .entry)) (now («reader_places» .entry)) (now (reasons .entry))) (toTake (now (flags .entry))) ⌝ }
 {
+    let mut by = [0u16; 4096];
+    let mut closed = false;
     let judged = judge_take_back(
         session.kept,
         session.blanks,
@@ -69,6 +71,8 @@ pub fn take_back_core(
         log_sizes,
         log_vars,
         log_values,
+        &mut by,
+        &mut closed,
     );
     let Answer::Accepted { .. } = judged else {
         return Done {
@@ -76,6 +80,7 @@ pub fn take_back_core(
             session: session,
         };
     };
+    let makers = &by[..n];
     let at = latest_move(log_sizes);
     let evaluations = fill_keep(
         n,
@@ -88,7 +93,8 @@ pub fn take_back_core(
         counts,
         vars,
         coefs,
-        numbers,
+        makers,
+        closed,
         order,
         stored,
         reader_starts,
@@ -109,6 +115,7 @@ pub fn take_back_core(
         counts,
         vars,
         coefs,
+        makers,
         stored,
         flags,
         reasons,

@@ -44,6 +44,8 @@ pub fn trial_core(
 ) -> Done
     ensures { λ r. ⌜ leftByTrial r (now (results .exit)) (now (trial .exit)) (now (flags .exit)) (now (why .exit)) ≡ tried (recordIn session) (toModel n m e (now (kinds .entry)) (now (makes .entry)) (now (params .entry)) (now (firsts .entry)) (now (counts .entry)) (now (vars .entry)) (now (coefs .entry)) (now (lows .entry)) (now (highs .entry)) (now (numbers .entry)) (now (order .entry)) (now (stored .entry)) (now («reader_starts» .entry)) (now («reader_places» .entry)) (now (reasons .entry))) (toTry pairs (now («move_vars» .entry)) (now («move_values» .entry)) asked (now («asked_vars» .entry)) route (now (results .entry)) (now (trial .entry)) (now (flags .entry)) (now (why .entry))) ⌝ }
 {
+    let mut by = [0u16; 4096];
+    let mut closed = false;
     let judged = judge_trial(
         session.blanks,
         n,
@@ -74,6 +76,8 @@ pub fn trial_core(
         trial,
         flags,
         why,
+        &mut by,
+        &mut closed,
     );
     let Answer::Accepted { .. } = judged else {
         return Done {
@@ -81,6 +85,7 @@ pub fn trial_core(
             session: session,
         };
     };
+    let makers = &by[..n];
     let evaluations = fill_trial(
         n,
         m,
@@ -92,7 +97,8 @@ pub fn trial_core(
         counts,
         vars,
         coefs,
-        numbers,
+        makers,
+        closed,
         order,
         stored,
         reader_starts,
@@ -118,6 +124,7 @@ pub fn trial_core(
         counts,
         vars,
         coefs,
+        makers,
         trial,
         flags,
         reasons,

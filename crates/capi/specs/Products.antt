@@ -3,6 +3,10 @@ use Prim.Native.Nat.{ℕ}
 use mathlib.Core.List.{List}
 use lib.IntN.{ℤ, pos}
 use Rattle.paper.specs.Formula as formula
+use Rattle.paper.specs.Calls.{Answer}
+use Rattle.records.specs.declared.answers.Outcome.{Outcome}
+use Rattle.records.specs.Outcomes.{inNumbers}
+use Rattle.trials.specs.Trials.{Rows}
 use Rattle.figures.specs.declared.Counted.{Counted}
 use Rattle.figures.specs.declared.Counted.the-variants as counted
 use Rattle.boards.specs.Board as board
@@ -46,3 +50,7 @@ listInNumbers (listed.Refused number place) = record { number = number; place = 
 
 abbrev pub listedOut : board.BoardLeft → ListOutcome × List ℤ
 listedOut left = (listInNumbers (left .answer), left .row)
+
+-- many moves: number, place and the evaluations of all, and the rows
+abbrev pub trialsOut : Answer × Rows → Outcome × Rows
+trialsOut left = (inNumbers (left .0), left .1)

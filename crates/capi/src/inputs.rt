@@ -1,7 +1,6 @@
 // The inputs of a row across the C boundary.
 ghost use mathlib.Core.Path.{_≡_};
-ghost use Rattle.paper.specs.Tables.{partAsked};
-ghost use Rattle.tables.specs.Given.{partNamed};
+ghost use Rattle.tables.specs.Given.{partAsked, partNamed};
 use tables::parts::Part;
 use tables::parts::part_of_row;
 

@@ -7,7 +7,7 @@ use mathlib.Core.Path.{_≡_, ap, sym, _∙_}
 use lib.ListN.{length}
 use Rattle.paper.specs.Lists.{nat, firstFail, over}
 use Rattle.paper.specs.Net.{able}
-use Rattle.paper.specs.Straight.{number}
+use Rattle.paper.proofs.Straight.{number}
 use Rattle.paper.specs.Tables.{Tables, net, inputsOf, ends}
 use Rattle.paper.specs.Chains.{permitted}
 use Rattle.paper.proofs.Least.{firstFail-before, firstFail-none}

@@ -6,11 +6,12 @@ use mathlib.Core.Bool.{Bool, true, false, cond, not, _&&_, _||_}
 use mathlib.Core.List.{List, [], _∷_, map}
 use mathlib.Core.Path.{_≡_, refl, ap, ap₂, sym, _∙_, subst, fun-ext}
 use lib.Dec.{eqb, ltb}
-use lib.ListN.{getD}
+use lib.ListN.{length, getD}
 use borrow.Author.Tests.{ltb-true, ltb-false}
-use Rattle.paper.specs.Lists.{any, greatest, nat, firstFail, allBelow}
+use Rattle.paper.specs.Lists.{any, greatest, nat, over, firstFail, allBelow}
 use Rattle.paper.specs.Tables.{Tables, isMade, inputsOf}
 use Rattle.paper.proofs.Least.{firstFail-le, firstFail-fails, firstFail-before, firstFail-is, firstFail-none}
+use Rattle.paper.proofs.Buffers.{over-length, over-at}
 use Rattle.paper.proofs.Scan.{firstFail-same}
 use Rattle.tables.specs.Makers.{Makers}
 use Rattle.paper.specs.Chains.{depends, together, outside, plainInputs, roundIndex, permitted, groupNumbering}
@@ -84,6 +85,13 @@ module _ (t : Tables) (F : Formed t) where
               ≡ cond b (suc (greatest (map (nat numbers) (outside (inputsOf t) (t .n) v)))) zero
           turn true = refl
           turn false = refl
+
+  -- and stay so where they are copied to
+  pub shared-copied : {found now : List ℕ} (before : List ℕ) → Shared t found → t .n ≤ length before → now ≡ over (t .n) (nat found) before → Shared t now
+  shared-copied {found} before S h e = rw e (record {
+    long = let same = over-length (nat found) (t .n) before h in omega arith;
+    at = λ v l. over-at (nat found) (t .n) before v 0 l ∙ S .at v l;
+  })
 
   -- ── an index in its ELEMENT's group bars the group ──
   module _ (by : List ℕ) (M : Makers t by) (begins stops : List ℕ) (L : Linked true t begins stops) (P : Parted (t .n) begins stops (t .vars))

@@ -7,7 +7,7 @@ use lib.Dec.{eqb}
 use lib.ListN.{length}
 use Rattle.paper.specs.Lists.{nat}
 use Rattle.paper.specs.Tables.{Tables, lent, inputsOf}
-use Rattle.paper.specs.Chains.{plainInputs, permitted, groupNumber}
+use Rattle.paper.specs.Chains.{plainInputs, permitted, groupNumber, closes, groupsNumbered}
 use Rattle.order.specs.Numbering.{ofMaker, partAt}
 
 -- the tables that groups depend on
@@ -43,3 +43,7 @@ pub record Shared (t : Tables) (numbers : List ℕ) : Type 0 where
 pub record Grouped (t : Tables) (numbers : List ℕ) : Type 0 where
   pub permitted : (v : ℕ) → v < t .n → permitted t v ≡ true
   pub shared : Shared t numbers
+
+-- where check 8 is passed, `closed` tells whether some chain closes
+pub record Told (t : Tables) (numbers ord : List ℕ) (closed : Bool) : Type 0 where
+  pub is : groupsNumbered t numbers ord ≡ true → closed ≡ closes t

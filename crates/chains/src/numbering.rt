@@ -23,7 +23,7 @@ pub fn number_all(
     counts: &[u16],
     vars: &[u16],
     by: &[u16],
-    numbers: &mut [u16; 4096],
+    numbers: &mut [u16],
 ) -> usize
     requires formed { ⌜ Formed (kinded n m (now kinds) (now makes) (now firsts) (now counts) (now vars)) ⌝ }
     requires there { ⌜ m ≤ length (now kinds) ⌝ }
@@ -32,18 +32,17 @@ pub fn number_all(
     ensures least { λ r. ⌜ r ≡ firstFail (permitted (kinded n m (now (kinds .entry)) (now (makes .entry)) (now (firsts .entry)) (now (counts .entry)) (now (vars .entry)))) n ⌝ }
     ensures numbered { λ _. ⌜ Shared (kinded n m (now (kinds .entry)) (now (makes .entry)) (now (firsts .entry)) (now (counts .entry)) (now (vars .entry))) (now (numbers .exit)) ⌝ }
 {
-    let mut state = [0u16; 4096];
-    let endless = find_numbers(n, m, makes, firsts, counts, vars, by, &mut state);
+    let endless = find_numbers(n, m, makes, firsts, counts, vars, by, numbers);
     if endless < n {
         return find_shared(n, m, kinds, makes, firsts, counts, vars, by, numbers);
     }
-    write_numbers(n, m, makes, firsts, counts, vars, &state, numbers);
+    write_numbers(n, m, makes, firsts, counts, vars, numbers);
     n
 }
 
 // Copies the numbers of the first n variables.
-pub fn copy_numbers(n: usize, from: &[u16; 4096], to: &mut [u16])
-    requires { ⌜ (n ≤ 4096) × (n ≤ length (now to)) ⌝ }
+pub fn copy_numbers(n: usize, from: &[u16], to: &mut [u16])
+    requires { ⌜ (n ≤ length (now from)) × (n ≤ length (now to)) ⌝ }
     ensures { λ _. ⌜ now (to .exit) ≡ over n (nat (now (from .entry))) (now (to .entry)) ⌝ }
 {
     let mut v = 0;

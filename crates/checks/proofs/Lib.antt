@@ -4,6 +4,5 @@ pub mod Good
 pub mod SoundJudged
 pub mod Once
 pub mod ValuesOverMakers
-pub mod ValuesJudged
 pub mod MovesOverMakers
 pub mod MovesJudged

@@ -6,10 +6,9 @@ use mathlib.Core.Path.{_≡_, refl, sym, ap, _∙_}
 use lib.Dec.{eqb}
 use Rattle.paper.specs.Lists.{nat, firstFail}
 use Rattle.paper.specs.Tables.{Tables, isMade}
-use Rattle.paper.specs.Checks.{Verdict, accepted, Bounds, low, high, boundGood, boundsGood, rowChecks, tableChecks}
+use Rattle.paper.specs.Checks.{Verdict, accepted, Bounds, low, high, boundGood, boundsGood, rowLines, tableLines, byLines}
 use Rattle.paper.proofs.Scan.{firstFail-same}
-use Rattle.paper.proofs.Verdicts.{refused-not, andThen}
-use Rattle.paper.proofs.Accept.{rows-then}
+use Rattle.paper.proofs.Verdicts.{refused-not, andThen, lines-then}
 use Rattle.tables.specs.Answers.{answerOf}
 use Rattle.tables.specs.Makers.{Makers}
 use Rattle.tables.specs.declared.Answer.{Answer}
@@ -20,16 +19,16 @@ use Rattle.checks.specs.Judged.{TablesJudged}
 
 module _ (t : Tables) (bs : Bounds) (by : List ℕ) where
   -- what comes of the rows and then of the rest
-  rows-said : (v : Verdict) → rowChecks t accepted ≡ v → tableChecks t bs accepted ≡ andThen v (fromBounds t accepted bs)
-  rows-said v e = rows-then t (fromBounds t accepted bs) ∙ ap (λ z. andThen z (fromBounds t accepted bs)) e
+  rows-said : (v : Verdict) → byLines (rowLines t) accepted ≡ v → byLines (tableLines t bs) accepted ≡ andThen v (fromBounds t accepted bs)
+  rows-said v e = lines-then (rowLines t) (fromBounds t accepted bs) ∙ ap (λ z. andThen z (fromBounds t accepted bs)) e
 
-  pub rows-refused : (r : Answer) (a b : ℕ) → r ≡ answerOf 0 (rowChecks t accepted) → r ≡ Refused a b → TablesJudged t bs by r
+  pub rows-refused : (r : Answer) (a b : ℕ) → r ≡ answerOf 0 (byLines (rowLines t) accepted) → r ≡ Refused a b → TablesJudged t bs by r
   rows-refused r a b e h =
-      let stop = rows-said _ (refused-is 0 a b (rowChecks t accepted) (sym e ∙ h)) in
+      let stop = rows-said _ (refused-is 0 a b (byLines (rowLines t) accepted) (sym e ∙ h)) in
       record { verdict = h ∙ ap (answerOf 0) (sym stop); makers = λ q. refused-not (sym stop ∙ q) }
 
   module _ (k : Makers t by) where
-    pub rows-passed : (r : Answer) (v : Verdict) → rowChecks t accepted ≡ accepted → fromBounds t accepted bs ≡ v → r ≡ answerOf 0 v → TablesJudged t bs by r
+    pub rows-passed : (r : Answer) (v : Verdict) → byLines (rowLines t) accepted ≡ accepted → fromBounds t accepted bs ≡ v → r ≡ answerOf 0 v → TablesJudged t bs by r
     rows-passed r v past q e = record { verdict = e ∙ ap (answerOf 0) (sym (rows-said accepted past ∙ q)); makers = λ z. k }
 
     -- the test of the bounds over the row of makers is the paper's over the tables

@@ -3,11 +3,11 @@ use Prim.Native.Nat.{ℕ}
 use mathlib.Core.List.{List}
 use lib.IntN.{ℤ}
 use Rattle.paper.specs.Tables.{Tables}
-use Rattle.paper.specs.Checks.{Verdict, check, Bounds, Move, moveChecks, pairWithin}
+use Rattle.paper.specs.Checks.{Verdict, byLines, Bounds, Move, moveLines}
 
 -- checks 10, 11, 12 and 17 of a move, and then what is next
 abbrev pub pairChecks : Move → Bounds → Tables → Verdict → Verdict
-pairChecks mv bs t next = moveChecks mv t (check 17 (mv .pairs) (pairWithin mv bs) next)
+pairChecks mv bs t = byLines (moveLines mv t bs)
 
 -- the lent rows of a move
 abbrev pub moveOf : ℕ → List ℕ → List ℤ → Move

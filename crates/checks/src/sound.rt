@@ -4,7 +4,7 @@ ghost use Prim.Native.Nat.{pred, _≤_};
 ghost use lib.ListN.{length};
 ghost use Rattle.paper.specs.Lists.{firstFail};
 ghost use Rattle.paper.specs.Tables.{lent};
-ghost use Rattle.paper.specs.Checks.{accepted, boundsIn, madeOnce, rowChecks};
+ghost use Rattle.paper.specs.Checks.{accepted, boundsIn, madeOnce, rowLines, byLines};
 ghost use Rattle.paper.proofs.Sizes.{Sized};
 ghost use Rattle.checks.specs.Named.{makesRows};
 ghost use Rattle.tables.specs.Answers.{answerOf};
@@ -44,8 +44,8 @@ pub fn row_checks(
     coefs: &[i16],
 ) -> Answer
     requires { ⌜ Sized (lent n m e (now kinds) (now makes) (now params) (now firsts) (now counts) (now vars) (now coefs)) ⌝ }
-    ensures { λ r. ⌜ r ≡ answerOf 0 (rowChecks (lent n m e (now (kinds .entry)) (now (makes .entry)) (now (params .entry)) (now (firsts .entry)) (now (counts .entry))
-        (now (vars .entry)) (now (coefs .entry))) accepted) ⌝ }
+    ensures { λ r. ⌜ r ≡ answerOf 0 (byLines (rowLines (lent n m e (now (kinds .entry)) (now (makes .entry)) (now (params .entry)) (now (firsts .entry)) (now (counts .entry))
+        (now (vars .entry)) (now (coefs .entry)))) accepted) ⌝ }
 {
     let kind = first_bad_kind(m, kinds);
     if kind < m {

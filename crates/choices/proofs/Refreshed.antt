@@ -8,7 +8,7 @@ use borrow.Author.Tests.{not-false}
 use Rattle.paper.specs.Lists.{firstFail, allBelow}
 use Rattle.paper.specs.Net.{moved, able}
 use Rattle.paper.specs.Tables.{Tables, net, inputsOf, ends, valuesIn}
-use Rattle.paper.specs.Checks.{Verdict, accepted, refused, check, Move, movePairs, Sound, freshChecks}
+use Rattle.paper.specs.Checks.{Verdict, accepted, refused, check, Move, movePairs, Sound, freshLines, byLines}
 use Rattle.paper.specs.Chains.{determined, closes, storedFresh}
 use Rattle.paper.proofs.Least.{allBelow-at}
 use Rattle.paper.proofs.Scan.{firstFail-same}
@@ -25,7 +25,7 @@ module _ (t : Tables) (stored : List ℤ) (mv : Move) where
   twenty = check 20 (t .n) (determined t (moved (movePairs mv) (valuesIn t stored))) accepted
 
   -- no chain closes
-  pub fresh-open : Sound t → closes t ≡ false → freshChecks t (valuesIn t stored) mv ≡ accepted
+  pub fresh-open : Sound t → closes t ≡ false → byLines (freshLines mv t (valuesIn t stored)) accepted ≡ accepted
   fresh-open S e =
       check-next 21 (t .n) (storedFresh t (valuesIn t stored)) twenty
       (λ v l. ap (λ b. not b || isFresh t stored v) e)
@@ -42,15 +42,15 @@ module _ (t : Tables) (stored : List ℤ) (mv : Move) where
     stale-is : stale ≡ firstFail (storedFresh t (valuesIn t stored)) (t .n)
     stale-is = least ∙ firstFail-same (isFresh t stored) (storedFresh t (valuesIn t stored)) (t .n) (λ v l. sym (ap (λ b. not b || isFresh t stored v) e))
 
-    pub fresh-stale : stale < t .n → freshChecks t (valuesIn t stored) mv ≡ refused 21 stale
+    pub fresh-stale : stale < t .n → byLines (freshLines mv t (valuesIn t stored)) accepted ≡ refused 21 stale
     fresh-stale l = check-stops 21 (t .n) (storedFresh t (valuesIn t stored)) twenty stale stale-is l
 
     module _ (past : t .n ≤ stale) {waiting : ℕ} (first : waiting ≡ firstFail (determined t (moved (movePairs mv) (valuesIn t stored))) (t .n)) where
-      pass : freshChecks t (valuesIn t stored) mv ≡ twenty
+      pass : byLines (freshLines mv t (valuesIn t stored)) accepted ≡ twenty
       pass = check-passes 21 (t .n) (storedFresh t (valuesIn t stored)) twenty stale (stale-is, past)
 
-      pub fresh-waiting : waiting < t .n → freshChecks t (valuesIn t stored) mv ≡ refused 20 waiting
+      pub fresh-waiting : waiting < t .n → byLines (freshLines mv t (valuesIn t stored)) accepted ≡ refused 20 waiting
       fresh-waiting l = pass ∙ check-stops 20 (t .n) (determined t (moved (movePairs mv) (valuesIn t stored))) accepted waiting first l
 
-      pub fresh-passed : t .n ≤ waiting → freshChecks t (valuesIn t stored) mv ≡ accepted
+      pub fresh-passed : t .n ≤ waiting → byLines (freshLines mv t (valuesIn t stored)) accepted ≡ accepted
       fresh-passed l = pass ∙ check-passes 20 (t .n) (determined t (moved (movePairs mv) (valuesIn t stored))) accepted waiting (first, l)

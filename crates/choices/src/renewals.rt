@@ -4,19 +4,18 @@ ghost use mathlib.Core.Path.{_≡_};
 ghost use Prim.Native.Nat.{_≤_};
 ghost use lib.ListN.{length};
 ghost use Rattle.paper.specs.Tables.{Tables, lent, valuesIn};
-ghost use Rattle.paper.specs.Checks.{Sound, freshChecks};
+ghost use Rattle.paper.specs.Checks.{Sound, freshLines, accepted, byLines};
+ghost use Rattle.paper.specs.Chains.{closes};
 ghost use Rattle.tables.specs.Answers.{answerOf};
 ghost use Rattle.tables.specs.Makers.{Makers};
 ghost use Rattle.checks.specs.Moves.{moveOf};
 ghost use Rattle.rows.specs.Put.{PairsFit};
-ghost use Rattle.chains.specs.Links.{Grouped};
 use crate::afresh::first_stale;
 use crate::afresh::first_stuck;
-use chains::closed::some_closes;
 use tables::Answer;
 use tables::refused;
 
-// Check 21 and then 20. Where no chain closes every variable is determined, and nothing is asked of stored values.
+// Check 21 and then 20. Where no chain closes every variable is determined, and nothing is asked of stored values; `closed` says whether one does.
 pub fn fresh_checks(
     n: usize,
     m: usize,
@@ -29,7 +28,7 @@ pub fn fresh_checks(
     vars: &[u16],
     coefs: &[i16],
     by: &[u16],
-    numbers: &[u16],
+    closed: bool,
     stored: &[i32],
     pairs: usize,
     move_vars: &[u16],
@@ -39,12 +38,12 @@ pub fn fresh_checks(
     requires lent { λ t. ⌜ lent n m e (now kinds) (now makes) (now params) (now firsts) (now counts) (now vars) (now coefs) ≡ t ⌝ }
     requires sound { λ t. ⌜ Sound t ⌝ }
     requires makers { λ t. ⌜ Makers t (now by) ⌝ }
-    requires grouped { λ t. ⌜ Grouped t (now numbers) ⌝ }
+    requires closing { λ t. ⌜ closed ≡ closes t ⌝ }
     requires there { λ _. ⌜ n ≤ length (now stored) ⌝ }
     requires fits { λ _. ⌜ PairsFit n (moveOf pairs (now «move_vars») (now «move_values»)) ⌝ }
-    ensures { λ t r. ⌜ r ≡ answerOf 0 (freshChecks t (valuesIn t (now (stored .entry))) (moveOf pairs (now («move_vars» .entry)) (now («move_values» .entry)))) ⌝ }
+    ensures { λ t r. ⌜ r ≡ answerOf 0 (byLines (freshLines (moveOf pairs (now («move_vars» .entry)) (now («move_values» .entry))) t (valuesIn t (now (stored .entry)))) accepted) ⌝ }
 {
-    if !some_closes(n, m, kinds, makes, firsts, counts, vars, numbers) {
+    if !closed {
         return Answer::Accepted { evaluations: 0 };
     }
     let stale = first_stale(

@@ -21,7 +21,7 @@ pub fn work_all(
     counts: &[u16],
     vars: &[u16],
     coefs: &[i16],
-    numbers: &[u16; 4096],
+    numbers: &[u16],
     order: &[u16],
     values: &mut [i32],
 )

@@ -27,6 +27,7 @@ fn flag_marked(
     counts: &[u16],
     vars: &[u16],
     coefs: &[i16],
+    by: &[u16],
     starts: &[u16],
     places: &[u16],
     moves: &[u16],
@@ -41,6 +42,7 @@ fn flag_marked(
     requires named { ⌜ Named (lent n m e (now kinds) (now makes) (now params) (now firsts) (now counts) (now vars) (now coefs)) (now stored) (now trial) (now moves) ⌝ }
     requires begun { ⌜ Begun (lent n m e (now kinds) (now makes) (now params) (now firsts) (now counts) (now vars) (now coefs)) (now stored) (now trial) (now flags) ⌝ }
     requires asked { ⌜ all (λ v. ltb v n) (now asked) ≡ true ⌝ }
+    requires makers { ⌜ Makers (lent n m e (now kinds) (now makes) (now params) (now firsts) (now counts) (now vars) (now coefs)) (now by) ⌝ }
     ensures { λ _. ⌜ Flagged (lent n m e (now (kinds .entry)) (now (makes .entry)) (now (params .entry)) (now (firsts .entry)) (now (counts .entry)) (now (vars .entry)) (now (coefs .entry))) (now (stored .entry)) (now (trial .entry)) mark-guided (now (asked .entry)) (now (flags .entry)) (now (flags .exit)) ⌝ }
 {
     let mut marks = [0u8; 4096];
@@ -54,7 +56,7 @@ fn flag_marked(
         &mut marks,
     );
     let mut work = [0u16; 4096];
-    plan_work(n, m, makes, &marks, &mut work);
+    plan_work(n, by, &marks, &mut work);
     look_all(
         asked,
         &work[..n],
@@ -112,6 +114,7 @@ pub fn flag_evaluated(
             counts,
             vars,
             coefs,
+            by,
             starts,
             places,
             moves,

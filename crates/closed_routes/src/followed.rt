@@ -7,6 +7,7 @@ ghost use lib.ListN.{length};
 ghost use Rattle.paper.specs.Lists.{all, nat, over};
 ghost use Rattle.paper.specs.Tables.{lent};
 ghost use Rattle.paper.specs.Calls.{routeOf};
+ghost use Rattle.tables.specs.Makers.{Makers};
 ghost use Rattle.index.specs.Index.{Indexed};
 ghost use Rattle.routes.specs.Rows.{valuesOf};
 ghost use Rattle.routes.specs.Routed.{Begun, Named, Routed};
@@ -14,7 +15,6 @@ ghost use Rattle.closed_routes.specs.Following.{Steady};
 use crate::flagged::flag_evaluated;
 use choices::follow_choices;
 use rows::copies::copy_values;
-use tables::makers;
 
 // The new value where the flag is set, else the old one.
 fn pick(flag: u8, new: i32, old: i32) -> i32
@@ -49,6 +49,7 @@ pub fn follow_route(
     counts: &[u16],
     vars: &[u16],
     coefs: &[i16],
+    by: &[u16],
     reader_starts: &[u16],
     reader_places: &[u16],
     moves: &[u16],
@@ -63,10 +64,9 @@ pub fn follow_route(
     requires named { ⌜ Named (lent n m e (now kinds) (now makes) (now params) (now firsts) (now counts) (now vars) (now coefs)) (now stored) (now trial) (now moves) ⌝ }
     requires begun { ⌜ Begun (lent n m e (now kinds) (now makes) (now params) (now firsts) (now counts) (now vars) (now coefs)) (now stored) (now trial) (now flags) ⌝ }
     requires asked { ⌜ all (λ v. ltb v n) (now asked) ≡ true ⌝ }
+    requires makers { ⌜ Makers (lent n m e (now kinds) (now makes) (now params) (now firsts) (now counts) (now vars) (now coefs)) (now by) ⌝ }
     ensures { λ _. ⌜ Routed (lent n m e (now (kinds .entry)) (now (makes .entry)) (now (params .entry)) (now (firsts .entry)) (now (counts .entry)) (now (vars .entry)) (now (coefs .entry))) (routeOf route) (now (stored .entry)) (now (trial .entry)) (now (flags .entry)) (now (asked .entry)) (now (trial .exit)) (now (flags .exit)) ⌝ }
 {
-    let mut by = [0u16; 4096];
-    makers(n, m, makes, &mut by);
     let mut values = [0i32; 4096];
     copy_values(n, trial, &mut values);
     let mut states = [0u8; 4096];
@@ -81,7 +81,7 @@ pub fn follow_route(
         counts,
         vars,
         coefs,
-        &by,
+        by,
         &mut values,
         &mut states,
     );
@@ -96,7 +96,7 @@ pub fn follow_route(
         counts,
         vars,
         coefs,
-        &by,
+        by,
         reader_starts,
         reader_places,
         moves,

@@ -11,7 +11,7 @@ use lib.ListN.{length, getD, take, drop}
 use borrow.Author.Tests.{ltb-true}
 use Rattle.paper.specs.Lists.{every, nat}
 use Rattle.paper.specs.Tables.{Tables, lent}
-use Rattle.paper.specs.Checks.{Verdict, accepted, refused, check, require, kindGood, shapeGood, numberGood, rowChecks}
+use Rattle.paper.specs.Checks.{Verdict, accepted, refused, check, require, kindGood, shapeGood, numberGood, rowLines, byLines}
 use Rattle.paper.proofs.Lists.{each, eqb-self}
 use Rattle.paper.proofs.Scan.{next, part-length, part-same}
 use Rattle.paper.proofs.Sizes.{Sized}
@@ -90,7 +90,7 @@ three-no true true false h = refl
 three-no true false c h = refl
 three-no false b c h = refl
 
-alone-checks : (t : Tables) (r : ℕ) → let alone = packed t (r ∷ []) in rowChecks alone accepted ≡ three (kindGood alone 0) (shapeGood alone 0) (numberGood alone 0)
+alone-checks : (t : Tables) (r : ℕ) → let alone = packed t (r ∷ []) in byLines (rowLines alone) accepted ≡ three (kindGood alone 0) (shapeGood alone 0) (numberGood alone 0)
 alone-checks t r =
     let alone = packed t (r ∷ []) in
     one-check 2 (kindGood alone) _ ∙ ap (require 2 0 (kindGood alone 0)) (one-check 3 (shapeGood alone) _
@@ -105,9 +105,9 @@ module _ (t : Tables) (s : Sized t) (r : ℕ) (low : r < t .m) (first count : �
   pub alone-sized : nat (t .firsts) r + nat (t .counts) r ≤ t .e → Sized (cutOut t r first count)
   alone-sized inside = rw (alone-cut t s r low first count f c) (packed-sized t s r inside)
 
-  module _ (told : Answer) (e : told ≡ answerOf 0 (rowChecks (cutOut t r first count) accepted)) where
+  module _ (told : Answer) (e : told ≡ answerOf 0 (byLines (rowLines (cutOut t r first count)) accepted)) where
     verdict : let alone = packed t (r ∷ []) in told ≡ answerOf 0 (three (kindGood alone 0) (shapeGood alone 0) (numberGood alone 0))
-    verdict = e ∙ ap (λ x. answerOf 0 (rowChecks x accepted)) (alone-cut t s r low first count f c) ∙ ap (answerOf 0) (alone-checks t r)
+    verdict = e ∙ ap (λ x. answerOf 0 (byLines (rowLines x) accepted)) (alone-cut t s r low first count f c) ∙ ap (answerOf 0) (alone-checks t r)
 
     pub alone-yes : (k : ℕ) → told ≡ Accepted k → true ≡ aloneGood t r
     alone-yes k h = sym (three-yes _ _ _ (accepted-is 0 k _ (sym verdict ∙ h)))

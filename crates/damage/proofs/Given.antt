@@ -14,8 +14,8 @@ use mir.Val.{toZ, bits, SFits}
 use mir.Facts.{sfits-toZ}
 use Rattle.paper.specs.Lists.{between, nat, below, over}
 use Rattle.paper.specs.Tables.{Tables}
-use Rattle.paper.specs.Checks.{accepted}
-use Rattle.paper.specs.File.{field, version1, rowsFrom, entriesFrom, unboundedContents, nIn, mIn, eIn, headed, column, laid, Fitting, cut}
+use Rattle.paper.specs.Checks.{accepted, byLines}
+use Rattle.paper.specs.File.{field, version1, rowsFrom, entriesFrom, unboundedContents, nIn, mIn, eIn, headLines, column, laid, Fitting, cut}
 use Rattle.paper.proofs.Lists.{and-left, and-right}
 use Rattle.paper.proofs.Buffers.{length-below, over-at, over-front}
 use Rattle.paper.proofs.Verdicts.{require-held, require-rest}
@@ -48,7 +48,7 @@ module _ (bytes : List ℕ) where
     pub some : 1 ≤ nIn bytes
     pub most : nIn bytes ≤ 4096
 
-  pub variables : headed version1 bytes accepted ≡ accepted → Variables
+  pub variables : byLines (headLines version1 bytes) accepted ≡ accepted → Variables
   variables h =
       let n = nIn bytes in
       let far = require-rest 14 0 (eqb (field 2 0 bytes) 1) _ (require-rest 14 (length bytes) (leb 24 (length bytes)) _ h) in

@@ -12,8 +12,8 @@ use lib.Seq.{take-append-le, take-append-seam, getD-append-seam}
 use borrow.Author.Tests.{ltb-true, ltb-false, leb-true, eqb-true, not-true}
 use Rattle.paper.specs.Lists.{any, total, nat, those}
 use Rattle.paper.specs.Tables.{Tables}
-use Rattle.paper.specs.Checks.{accepted}
-use Rattle.paper.specs.File.{version1, eIn, headed}
+use Rattle.paper.specs.Checks.{accepted, byLines}
+use Rattle.paper.specs.File.{version1, eIn, headLines}
 use Rattle.paper.proofs.Lists.{clash, and-left, each, any-has, any-in, eqb-self}
 use Rattle.paper.proofs.Those.{those-in, those-has}
 use Rattle.damage.specs.Saved.{given, canKeep, keptRows}
@@ -114,7 +114,7 @@ module _ (bytes : List ℕ) where
       record { vars = rw (vars-long bytes) inside; coefs = rw (coefs-long bytes) inside }
 
   -- any of them can be packed
-  pub rows-kept : headed version1 bytes accepted ≡ accepted → (p : ℕ → Bool) (m : ℕ) → ((r : ℕ) → r < m → p r ≡ true → keeps r ≡ true) → Rows t (those p m)
+  pub rows-kept : byLines (headLines version1 bytes) accepted ≡ accepted → (p : ℕ → Bool) (m : ℕ) → ((r : ℕ) → r < m → p r ≡ true → keeps r ≡ true) → Rows t (those p m)
   rows-kept h p m less = record {
     n-some = variables bytes h .some;
     n-most = variables bytes h .most;

@@ -11,8 +11,8 @@ use mir.Syntax.{w16, w32}
 use mir.Val.{toZ}
 use Rattle.paper.specs.Lists.{nat, below}
 use Rattle.paper.specs.Tables.{Tables}
-use Rattle.paper.specs.Checks.{accepted}
-use Rattle.paper.specs.File.{field, version1, rowsFrom, entriesFrom, endsAt, unboundedContents, headed, nIn, mIn, eIn, laid, cut}
+use Rattle.paper.specs.Checks.{accepted, byLines}
+use Rattle.paper.specs.File.{field, version1, rowsFrom, entriesFrom, endsAt, unboundedContents, headLines, nIn, mIn, eIn, laid, cut}
 use Rattle.paper.proofs.Buffers.{Filled, getD-below, over-same}
 use Rattle.paper.proofs.Reading.{same-contents}
 use Rattle.damage.specs.Scratch.{Laid}
@@ -45,7 +45,7 @@ module _ (bytes : List ℕ) {file : List ℕ} (p : file ≡ below (nat bytes) (l
       refl
       refl
 
-  pub laid-padded : (n m e : ℕ) → endsAt version1 n m e ≤ length file → headed version1 bytes accepted ≡ accepted → (n ≡ nIn bytes) × (m ≡ mIn bytes) × (e ≡ eIn bytes)
+  pub laid-padded : (n m e : ℕ) → endsAt version1 n m e ≤ length file → byLines (headLines version1 bytes) accepted ≡ accepted → (n ≡ nIn bytes) × (m ≡ mIn bytes) × (e ≡ eIn bytes)
       → (t : Tables) (starts : List ℤ) {after : Tables} {values : List ℤ} → unboundedContents after values ≡ laid version1 file n m e (unboundedContents t starts) → Laid bytes after values
   laid-padded n m e long head (i, j, k) t starts q = record {
     head = head;

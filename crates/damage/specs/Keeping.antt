@@ -7,13 +7,13 @@ use lib.Dec.{eqb}
 use lib.ListN.{length, getD}
 use Rattle.paper.specs.Lists.{any, total, nat}
 use Rattle.paper.specs.Tables.{Tables}
-use Rattle.paper.specs.Checks.{accepted}
-use Rattle.paper.specs.File.{version1, headed}
+use Rattle.paper.specs.Checks.{accepted, byLines}
+use Rattle.paper.specs.File.{version1, headLines}
 use Rattle.damage.specs.Saved.{given}
 
 -- the header's version and counts are right, and the tables are those that the file gives
 pub record FileGives (bytes : List ℕ) (t : Tables) : Type 0 where
-  pub head : headed version1 bytes accepted ≡ accepted
+  pub head : byLines (headLines version1 bytes) accepted ≡ accepted
   pub is : t ≡ given bytes
 
 -- marks say which variables these rows make, and a number how many entries they have

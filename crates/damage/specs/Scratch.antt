@@ -8,13 +8,13 @@ use lib.IntN.{ℤ}
 use lib.ListN.{getD}
 use Rattle.paper.specs.Lists.{any}
 use Rattle.paper.specs.Tables.{Tables}
-use Rattle.paper.specs.Checks.{accepted}
-use Rattle.paper.specs.File.{version1, unboundedContents, headed, cut}
+use Rattle.paper.specs.Checks.{accepted, byLines}
+use Rattle.paper.specs.File.{version1, unboundedContents, headLines, cut}
 use Rattle.damage.specs.Saved.{given, startGiven, keptRows, isSaved}
 
 -- the header's version and counts are right, and the rows hold what the file gives
 pub record Laid (bytes : List ℕ) (t : Tables) (starts : List ℤ) : Type 0 where
-  pub head : headed version1 bytes accepted ≡ accepted
+  pub head : byLines (headLines version1 bytes) accepted ≡ accepted
   pub is : cut version1 (unboundedContents t starts) ≡ unboundedContents (given bytes) (startGiven bytes)
 
 -- the row says of each row of the file whether it is kept, and whether it stands in the end

@@ -11,15 +11,16 @@ use lib.ListN.{length, getD, take, drop, replicate, length-append, length-replic
 use lib.Seq.{take-at, drop-at}
 use Rattle.paper.specs.Lists.{nat}
 use Rattle.paper.specs.Formula.{places}
-use Rattle.paper.specs.Checks.{Verdict, accepted, refused, Move}
+use Rattle.paper.specs.Checks.{Verdict, accepted, refused, Move, byLines}
 use Rattle.paper.specs.Moves.{Moves}
 use Rattle.paper.specs.Calls.{numberOf, BuildLent, BuildLeft, Model, TrialLeft}
-use Rattle.paper.specs.File.{version1, unboundedContents, counted, headed, read, cut}
+use Rattle.paper.specs.File.{version1, unboundedContents, counted, headLines, read, cut}
 use Rattle.paper.proofs.Sizes.{sized-facts}
 use Rattle.paper.proofs.Outcomes.{build-judged}
 use Rattle.paper.proofs.UpTo.{trial-up-to}
 use Rattle.damage.specs.Saved.{savedFile, savedList, droppedRows, resetValues}
-use Rattle.salvage.specs.Salvage.{SalvageLent, SalvageLeft, salvage}
+use Rattle.salvage.specs.Salvage.{SalvageLent, SalvageLeft, salvage, SalvageHad}
+use Rattle.salvage.specs.Promises.{SavedRight, ComesBack}
 use Rattle.salvage.specs.declared.Salvaged.{Salvaged}
 use Rattle.salvage.specs.declared.Salvaged.the-variants as salvaged
 use Rattle.salvage.proofs.Outcome.{salvage-headed, salvage-short, salvage-done}
@@ -28,21 +29,24 @@ use Rattle.salvage.proofs.Same.{undamaged-same}
 use Rattle.times.specs.Windows.{Board, list}
 use Rattle.times.specs.Order.{ascends}
 use Rattle.times.proofs.Listing.{list-ascends, list-gives, list-only, as-many, none-at-end, none-later, last-there}
-use Rattle.boards.specs.Board.{lengthOf}
-use Rattle.boards.specs.Outcome.{Outcome, refuses, accepts}
+use Rattle.boards.specs.Board.{lengthOf, BoardHad}
+use Rattle.boards.specs.Outcome.{Outcome, refuses, accepts, ListedRight}
 use Rattle.boards.proofs.Outcome.{outcome}
 use Rattle.boards.specs.declared.Listed.{Listed}
 use Rattle.boards.specs.declared.Listed.the-variants as listed
 use Rattle.figures.specs.Outcomes.{asOneTrial, triedOnce}
+use Rattle.trials.proofs.Order.{each-alone, order-permutes}
 use Rattle.figures.proofs.Order.{order-changes-nothing}
+use Rattle.figures.proofs.Read.{fold-of-trials}
+use Rattle.merging.proofs.Joined.{joined-is-merged}
 use Rattle.figures.proofs.Routes.{reasonsAs, any-reasons}
-use Rattle.demands.specs.Stated.{BuildOutcome, leftBuilt}
+use Rattle.records.specs.Stated.{BuildOutcome, leftBuilt}
+use Rattle.files.specs.Stated.{leftRead}
 use Rattle.demands.specs.Runs.{State, mine, Mine, Run}
 use Rattle.demands.specs.Demands.{renewed}
 use Rattle.demands.proofs.Standing.{known}
 use Rattle.demands.proofs.Three.{built-ok, own-trial-fresh, reasons-long}
-use Rattle.demands.specs.Files.{leftRead}
-use Rattle.demands.specs.Buffers.{SalvageHad, SavedRight, ComesBack, BoardHad, ListedRight, BuffersRight}
+use Rattle.demands.specs.Products.{BuffersRight}
 
 -- ── salvage: an accepted one has the saved file, and how many rows and values are listed ──
 abbrev isSaved : Salvaged → Bool
@@ -54,19 +58,19 @@ numbersOf (salvaged.Accepted size rows values) = (size, rows, values)
 numbersOf (salvaged.Refused number place) = (0, 0, 0)
 
 record Saved {l : SalvageLent} (o : SalvageHad l) (size rows values : ℕ) : Type 0 where
-  head : headed version1 (l .bytes) accepted ≡ accepted
+  head : byLines (headLines version1 (l .bytes)) accepted ≡ accepted
   file : o .file ≡ savedFile (l .bytes) ++ drop (length (savedFile (l .bytes))) (l .file)
   sizes : _≡_ {A = ℕ × ℕ × ℕ} (length (savedFile (l .bytes)), length (droppedRows (l .bytes)), length (resetValues (l .bytes))) (size, rows, values)
 
 saved-is : (l : SalvageLent) (o : SalvageHad l) (size rows values : ℕ) → o .answer ≡ salvaged.Accepted size rows values → Saved o size rows values
-saved-is l o size rows values e = go (headed version1 (l .bytes) accepted) refl
+saved-is l o size rows values e = go (byLines (headLines version1 (l .bytes)) accepted) refl
   where
     -- a refusal is none
     wrong : (number place : ℕ) (file list : List ℕ) → record { answer = salvaged.Refused number place; file = file; list = list } ≡ salvage l → Saved o size rows values
     wrong number place file list q =
         absurd (true≢false (sym (ap isSaved e) ∙ ap (λ (x : SalvageLeft). isSaved (x .answer)) (o .stated ∙ sym q)))
 
-    go : (v : Verdict) → headed version1 (l .bytes) accepted ≡ v → Saved o size rows values
+    go : (v : Verdict) → byLines (headLines version1 (l .bytes)) accepted ≡ v → Saved o size rows values
     go (refused number place) h = wrong number place (l .file) (l .list) (salvage-headed (l .bytes) (l .file) (l .list) h)
     go accepted h = fit (leb (length (savedFile (l .bytes))) (length (l .file)) && leb (length (savedList (l .bytes))) (length (l .list))) refl
       where
@@ -155,4 +159,8 @@ buffers-right = record {
   batch = λ s w asked moves moves′ r lent o o′.
       let e = o .stated ∙ order-changes-nothing s w asked moves moves′ r lent ∙ sym (o′ .stated) in (ap (λ x. x .0) e, ap (λ x. x .1) e);
   results = batch-results;
+  each-alone = each-alone;
+  permutes = order-permutes;
+  fold = fold-of-trials;
+  joined = joined-is-merged;
 }

@@ -1,13 +1,12 @@
 -- The calls over files: each by the law of its table, and that a statement allows one outcome. Assumes nothing.
 use Prim.Native.Nat.{ℕ}
-use mathlib.Core.List.{List, [], _∷_}
+use mathlib.Core.List.{List}
 use mathlib.Core.Path.{_≡_, refl, ap, sym, _∙_}
-use lib.Dec.{leb}
-use lib.ListN.{length, take}
+use lib.ListN.{take}
 use Rattle.paper.specs.Tables.{Tables}
 use Rattle.paper.specs.Checks.{Verdict, accepted, refused}
 use Rattle.paper.specs.Calls.{numberOf, answered}
-use Rattle.paper.specs.File.{Version, bounded, Contents, counted, held, writeVerdict, write, nIn, mIn, eIn, endIn, header, readVerdict, read, fullIn, convertVerdict, convert}
+use Rattle.paper.specs.File.{Version, Contents, counted, writeLines, writeVerdict, write, readLines, readVerdict, read, convertLines, convertVerdict, convert}
 use Rattle.paper.proofs.RoundTrips as paper
 use Rattle.paper.proofs.Converted.{convert-refused}
 use Rattle.files.specs.Answers.{verdict, hasRead}
@@ -18,45 +17,43 @@ use Rattle.files.specs.declared.headers.Reading.{Reading}
 use Rattle.files.specs.declared.headers.Reading.the-variants as reading
 use Rattle.files.specs.declared.conversions.Converted.{Converted}
 use Rattle.files.specs.declared.conversions.Converted.the-variants as converted
-use Rattle.demands.specs.Refusals.{places, whole}
-use Rattle.demands.specs.Files.{WriteOutcome, leftWritten, ReadOutcome, leftRead, MoveOutcome, leftMoved, writeTable, headerLines, readTable, moveTable}
-use Rattle.demands.specs.Demands.{WriteWorks, ReadWorks, MoveWorks}
-use Rattle.demands.proofs.Judged.{judged, judged-then, works}
+use Rattle.files.specs.Stated.{WriteOutcome, leftWritten, ReadOutcome, leftRead, MoveOutcome, leftMoved}
+use Rattle.demands.specs.Refusals.{Works}
+use Rattle.demands.proofs.Judged.{works}
 
--- ── each verdict is its table's ──
-write-table : (v : Version) (c : Contents) (lent : List ℕ) → write v c lent .0 ≡ judged (writeTable v c lent)
-unfolding writeVerdict
-write-table v c lent = refl
+-- ── what demand 1 says of each call ──
+abbrev pub WriteWorks : (v : Version) (c : Contents) (lent : List ℕ) → Verdict × List ℕ → Type 0
+WriteWorks v c lent = Works (writeLines v c lent) 0 (λ x. answered (x .0) 0) (λ x. (x .0, lent))
 
-read-table : (v : Version) (bytes : List ℕ) (c : Contents) → read v bytes c .0 ≡ judged (readTable v bytes c)
-unfolding readVerdict header
-read-table v bytes c = sym (judged-then (headerLines v bytes) (whole 1 0 (held v (counted (nIn bytes) (mIn bytes) (eIn bytes) c)) ∷ []))
+abbrev pub ReadWorks : (v : Version) (bytes : List ℕ) (lent : Contents) → Verdict × Contents → Type 0
+ReadWorks v bytes lent = Works (readLines v bytes lent) 0 (λ x. answered (x .0) 0) (λ x. (x .0, counted 0 0 0 lent))
 
-move-table : (from to : Version) (bytes file : List ℕ) → convert from to bytes file .0 ≡ judged (moveTable from to bytes file)
-unfolding convertVerdict header
-move-table from to bytes file =
-    sym (judged-then (headerLines from bytes) (places 18 (bounded from (nIn bytes)) (fullIn from bytes) ∷ whole 1 0 (leb (endIn to bytes) (length file)) ∷ []))
+abbrev pub MoveWorks : (from to : Version) (bytes lent : List ℕ) → Verdict × (ℕ × List ℕ) → Type 0
+MoveWorks from to bytes lent = Works (convertLines from to bytes lent) 0 (λ x. answered (x .0) 0) (λ x. (x .0, (0, lent)))
 
 -- ── a verdict that is not acceptance has a number ──
 some-number : (v : Verdict) → (numberOf (answered v 0) ≡ 0 → ⊥) → v ≡ accepted → ⊥
 some-number v wrong e = wrong (ap (λ u. numberOf (answered u 0)) e)
 
 pub write-works : (v : Version) (c : Contents) (lent : List ℕ) (o : WriteOutcome v c lent) → WriteWorks v c lent (leftWritten o)
+unfolding writeVerdict
 write-works v c lent o =
     let x = write v c lent in
-    works (writeTable v c lent) (λ z. answered (z .0) 0) (λ z. (z .0, lent)) x (leftWritten o) (x .0) 0 refl (write-table v c lent) refl
+    works (writeLines v c lent) (λ z. answered (z .0) 0) (λ z. (z .0, lent)) x (leftWritten o) (x .0) 0 refl refl refl
     (λ wrong. ap (λ (z : Verdict × List ℕ). (x .0, z .1)) (paper.write-refused v c lent (some-number (x .0) wrong))) (o .stated)
 
 pub read-works : (v : Version) (bytes : List ℕ) (lent : Contents) (o : ReadOutcome v bytes lent) → ReadWorks v bytes lent (leftRead o)
+unfolding readVerdict
 read-works v bytes lent o =
     let c = counted 0 0 0 lent in let x = read v bytes c in
-    works (readTable v bytes lent) (λ z. answered (z .0) 0) (λ z. (z .0, c)) x (leftRead o) (x .0) 0 refl (read-table v bytes c) refl
+    works (readLines v bytes lent) (λ z. answered (z .0) 0) (λ z. (z .0, c)) x (leftRead o) (x .0) 0 refl refl refl
     (λ wrong. ap (λ z. (x .0, z)) (paper.read-refused v bytes c (some-number (x .0) wrong))) (o .stated)
 
 pub move-works : (from to : Version) (bytes lent : List ℕ) (o : MoveOutcome from to bytes lent) → MoveWorks from to bytes lent (leftMoved o)
+unfolding convertVerdict
 move-works from to bytes lent o =
     let x = convert from to bytes lent in
-    works (moveTable from to bytes lent) (λ z. answered (z .0) 0) (λ z. (z .0, (0, lent))) x (leftMoved o) (x .0) 0 refl (move-table from to bytes lent) refl
+    works (convertLines from to bytes lent) (λ z. answered (z .0) 0) (λ z. (z .0, (0, lent))) x (leftMoved o) (x .0) 0 refl refl refl
     (λ wrong. ap (λ z. (x .0, z)) (convert-refused from to bytes lent (some-number (x .0) wrong))) (o .stated)
 
 -- ── the code's answer from what is left ──

@@ -13,7 +13,7 @@ use Rattle.paper.specs.Moves.{Moves}
 use Rattle.paper.specs.Reason.{reasonOf}
 use Rattle.paper.specs.Calls.{Session, Accepted, Refused, numberOf, evaluationsOf, BuildLent, BuildLeft, Model, TrialLent, TrialLeft, trial, KeepLent, KeepLeft, keep, latest, TakeLent, takeBack, askedList, routeOf}
 use Rattle.worked.specs.Runs.{building, modelA, startA, zeros, zerosZ, ones}
-use Rattle.demands.specs.Stated.{BuildOutcome, leftBuilt, TrialOutcome, leftTried, KeepOutcome, leftKept, TakeOutcome, leftTaken}
+use Rattle.records.specs.Stated.{BuildOutcome, leftBuilt, TrialOutcome, leftTried, KeepOutcome, leftKept, TakeOutcome, leftTaken}
 use Rattle.demands.specs.Runs.{State, mine, Run}
 use Rattle.demands.specs.Demands.{old, renewed, restored, evaluatedBy}
 

@@ -1,51 +1,53 @@
--- Demand 1, each call by the law of its table: the verdict is the table's chain of checks, the paper says what a refusal leaves, and the
+-- Demand 1, each call by the law of its table: the verdict is by the table's lines, the paper says what a refusal leaves, and the
 -- contract carries both to the outcome. Assumes nothing.
 use mathlib.Core.Path.{_≡_, refl, ap, sym, _∙_}
+use Rattle.paper.specs.Lists.{size}
+use Rattle.paper.specs.Checks.{movePairs}
 use Rattle.paper.specs.Log.{Log}
-use Rattle.paper.specs.Calls.{Session, Answer, Accepted, Refused, BuildLent, BuildLeft, buildVerdict, Model, TrialLent, TrialLeft, trialVerdict, KeepLent, KeepLeft, keepVerdict, TakeLent, takeVerdict}
+use Rattle.paper.specs.Calls.{Session, Answer, Accepted, Refused, evaluates, BuildLent, BuildLeft, buildLines, buildVerdict, buildAsWas, Model, storedValues, TrialLent, TrialLeft, askedList, routeOf, trialLines, trialVerdict, trialAsWas, KeepLent, KeepLeft, keptCount, keepAsWas, keepLines, keepVerdict, latest, TakeLent, takeLines, takeVerdict}
 use Rattle.paper.proofs.Outcomes.{build-judged, trial-judged, keep-judged, take-judged}
 use Rattle.tables.specs.declared.Answer as code-answer
 use Rattle.tables.specs.declared.Answer.the-variants as code
 use Rattle.records.specs.Left.{recordIn, answerIn}
 use Rattle.records.specs.declared.Session as code-session
 use Rattle.records.specs.declared.Done.{Done}
-use Rattle.demands.specs.Stated.{BuildOutcome, leftBuilt, TrialOutcome, leftTried, KeepOutcome, leftKept, TakeOutcome, leftTaken}
-use Rattle.demands.specs.Refusals.{buildTable, trialTable, keepTable, takeTable}
-use Rattle.demands.specs.Demands.{BuildWorks, TrialWorks, KeepWorks, TakeWorks, Demand1}
+use Rattle.records.specs.Stated.{BuildOutcome, leftBuilt, TrialOutcome, leftTried, KeepOutcome, leftKept, TakeOutcome, leftTaken}
+use Rattle.demands.specs.Refusals.{Works}
+use Rattle.demands.specs.Demands.{Demand1}
 use Rattle.demands.proofs.Files as files
-use Rattle.demands.proofs.Judged.{judged, call-works}
+use Rattle.demands.proofs.Judged.{call-works}
 
--- ── each verdict is its table's ──
-build-table : (l : BuildLent) → buildVerdict l ≡ judged (buildTable l)
-unfolding buildVerdict
-build-table l = refl
+-- ── what demand 1 says of each call ──
+abbrev pub BuildWorks : (l : BuildLent) → BuildLeft → Type 0
+BuildWorks l = Works (buildLines l) (l .tables .m) (λ x. x .answer) (λ x. buildAsWas l (x .answer))
 
-trial-table : (s : Session) (w : Model) (c : TrialLent) → trialVerdict s w c ≡ judged (trialTable s w c)
-unfolding trialVerdict
-trial-table s w c = refl
+abbrev pub TrialWorks : Session → (w : Model) (c : TrialLent) → TrialLeft → Type 0
+TrialWorks s w c = let t = w .tables in
+    Works (trialLines s w c) (size (evaluates t (storedValues w) (routeOf (c .route)) (movePairs (c .move)) (askedList c)) (t .n)) (λ x. x .answer) (λ x. trialAsWas s c (x .answer))
 
-module _ (s : Session) (g : Log) (w : Model) where
-  keep-table : (c : KeepLent) → keepVerdict s g w c ≡ judged (keepTable s g w c)
-  unfolding keepVerdict
-  keep-table c = refl
+abbrev pub KeepWorks : (s : Session) (g : Log) (w : Model) (c : KeepLent) → KeepLeft → Type 0
+KeepWorks s g w c = Works (keepLines s g w c) (keptCount (w .tables) (w .stored) c) (λ x. x .answer) (λ x. keepAsWas s g w (c .flags) (x .answer))
 
-  take-table : (c : TakeLent) → takeVerdict s g w c ≡ judged (takeTable s g w c)
-  unfolding takeVerdict
-  take-table c = refl
+abbrev pub TakeWorks : (s : Session) (g : Log) (w : Model) (c : TakeLent) → KeepLeft → Type 0
+TakeWorks s g w c = Works (takeLines s g w c) (keptCount (w .tables) (w .stored) (latest g c)) (λ x. x .answer) (λ x. keepAsWas s g w (c .flags) (x .answer))
 
 -- ── build, trial, keep and taking back ──
 pub build-works : (l : BuildLent) (o : BuildOutcome l) → BuildWorks l (leftBuilt o)
-build-works l o = call-works (buildTable l) (leftBuilt o) _ (build-judged l) refl (build-table l) refl (o .stated)
+unfolding buildVerdict
+build-works l o = call-works (buildLines l) (leftBuilt o) _ (build-judged l) refl refl refl (o .stated)
 
 pub trial-works : (s : Session) (w : Model) (c : TrialLent) (o : TrialOutcome s w c) → TrialWorks s w c (leftTried o)
-trial-works s w c o = call-works (trialTable s w c) (leftTried o) _ (trial-judged s w c) refl (trial-table s w c) refl (o .stated)
+unfolding trialVerdict
+trial-works s w c o = call-works (trialLines s w c) (leftTried o) _ (trial-judged s w c) refl refl refl (o .stated)
 
 module _ (s : Session) (g : Log) (w : Model) where
   pub keep-works : (c : KeepLent) (o : KeepOutcome s g w c) → KeepWorks s g w c (leftKept o)
-  keep-works c o = call-works (keepTable s g w c) (leftKept o) _ (keep-judged s g w c) refl (keep-table s g w c) refl (o .stated)
+  unfolding keepVerdict
+  keep-works c o = call-works (keepLines s g w c) (leftKept o) _ (keep-judged s g w c) refl refl refl (o .stated)
 
   pub take-works : (c : TakeLent) (o : TakeOutcome s g w c) → TakeWorks s g w c (leftTaken o)
-  take-works c o = call-works (takeTable s g w c) (leftTaken o) _ (take-judged s g w c) refl (take-table s g w c) refl (o .stated)
+  unfolding takeVerdict
+  take-works c o = call-works (takeLines s g w c) (leftTaken o) _ (take-judged s g w c) refl refl refl (o .stated)
 
 -- ── the code's answer from what is left ──
 abbrev answerBy : Answer → code-answer.Answer

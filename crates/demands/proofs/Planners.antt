@@ -17,7 +17,7 @@ use Rattle.paper.proofs.Known.{ModelKnown, BlanksKnown, MoveKnown, model-open, 
 use Rattle.paper.proofs.Outcomes.{keep-judged}
 use Rattle.paper.proofs.UpTo.{keep-up-to}
 use Rattle.paper.specs.Moves.{Moves, applied, Apart, AllPairs}
-use Rattle.demands.specs.Stated.{BuildOutcome, leftBuilt, KeepOutcome, leftKept}
+use Rattle.records.specs.Stated.{BuildOutcome, leftBuilt, KeepOutcome, leftKept}
 use Rattle.demands.specs.Runs.{State, own, Lends, mine, afterAnswer, Run, then-keep}
 use Rattle.demands.specs.Demands.{RunRight}
 use Rattle.demands.specs.Planners.{Accepts, handsOn, Keeping, Room, EitherOrder, TwoPlanners}

@@ -18,7 +18,7 @@ use Rattle.paper.specs.Calls.{numberOf, BuildLent, BuildLeft, buildVerdict, bui
 use Rattle.paper.proofs.Buffers.{over-at}
 use Rattle.paper.proofs.Known.{KeepKnown, keep-known, take-known}
 use Rattle.paper.proofs.Outcomes.{keep-judged, take-judged}
-use Rattle.demands.specs.Stated.{BuildOutcome, TrialOutcome, leftTried, KeepOutcome, leftKept, leftTaken}
+use Rattle.records.specs.Stated.{BuildOutcome, TrialOutcome, leftTried, KeepOutcome, leftKept, leftTaken}
 use Rattle.demands.specs.Runs.{State, mine}
 use Rattle.demands.specs.Demands.{old, renewed, restored, RunRight}
 use Rattle.demands.proofs.One.{demand1}

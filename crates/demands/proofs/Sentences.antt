@@ -115,7 +115,7 @@ module _ (t : Tables) (s start : Values) where
 determined-right : (t : Tables) → ((v i : ℕ) → List·Memᴰ i (inputsOf t v) → i < t .n) → (s : Values) (v : ℕ) → v < t .n → DeterminedExactly t s v
 unfolding determined
 determined-right t below s v low = record {
-  ends = λ e u reached needs-itself. clash e (comes-undetermined t s v (u, reached, needs-itself));
+  ends = λ e u. clash e (comes-undetermined t s v u);
   round = λ e. undetermined-comes t s below v low e;
   from-anywhere = λ e start. from-start t s start (t .n) (t .n) v (le-refl (t .n)) (le-refl (t .n)) e;
 }

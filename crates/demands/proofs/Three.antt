@@ -29,7 +29,7 @@ use Rattle.paper.proofs.Known.{trial-known}
 use Rattle.paper.proofs.Outcomes.{trial-judged, keep-judged, take-judged}
 use Rattle.paper.proofs.Log.{undoes-low, dropped-logged, noted-logged}
 use Rattle.paper.proofs.UpTo.{trial-up-to, keep-up-to, take-up-to}
-use Rattle.demands.specs.Stated.{BuildOutcome, leftBuilt, TrialOutcome, leftTried, KeepOutcome, leftKept, TakeOutcome, leftTaken}
+use Rattle.records.specs.Stated.{BuildOutcome, leftBuilt, TrialOutcome, leftTried, KeepOutcome, leftKept, TakeOutcome, leftTaken}
 use Rattle.demands.specs.Runs.{State, Lent, own, another, lentOf, ownAfter, Lends, modelOf, afterTrial, passedOn, afterAnswer, mine, Mine, Own, Run, built, then-trial, then-keep, then-take}
 use Rattle.demands.specs.Demands.{fresh, renewed, evaluatedBy, Told, TrialFresh, KeepFresh, TakeFresh, RunRight, Demand3}
 use Rattle.demands.proofs.Standing.{known, modelWith, Stands, Stood, idle, stands-first, old-is, new-is, set-is, why-is, keep-has, keep-left, keep-stands, take-has, take-left, take-stands, take-works}

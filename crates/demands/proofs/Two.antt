@@ -11,10 +11,9 @@ use Rattle.paper.specs.Lists.{nat, greatest, over}
 use Rattle.paper.specs.Formula.{blank}
 use Rattle.paper.specs.Net.{Values, afresh}
 use Rattle.paper.specs.Tables.{Tables, net, isMade, inputsOf, valuesIn}
-use Rattle.paper.specs.Chains.{outside, groupNumber}
+use Rattle.paper.specs.Chains.{outside, groupNumber, Barred}
 use Rattle.paper.specs.Checks.{accepted, lowest, highest, Sound}
-use Rattle.paper.specs.Calls.{numberOf, BuildLent, BuildLeft, startValues, build}
-use Rattle.paper.specs.Permitted.{Barred}
+use Rattle.paper.specs.Calls.{numberOf, BuildLent, BuildLeft, startValues, fiveLines, build}
 use Rattle.paper.specs.Reason.{reasonOf}
 use Rattle.paper.proofs.Lists.{map-same}
 use Rattle.paper.proofs.Buffers.{getD-below, over-at, over-front, over-same}
@@ -32,14 +31,13 @@ use Rattle.paper.specs.File.{bounded, endsAt, contents, counted, write, read, n
 use Rattle.paper.proofs.RoundTrips.{read-back, written-back}
 use Rattle.paper.proofs.Converted.{there-and-back, same-model}
 use Rattle.paper.proofs.Build.{BuildRight, build-right, circular-given, circular-only, circular-place}
-use Rattle.demands.specs.Stated.{BuildOutcome, leftBuilt}
-use Rattle.demands.specs.Refusals.{Says, fiveLines}
+use Rattle.records.specs.Stated.{BuildOutcome, leftBuilt}
+use Rattle.demands.specs.Refusals.{GivenExactly}
 use Rattle.demands.proofs.Files.{moved-front}
-use Rattle.demands.proofs.Judged.{judged-says, says-judged}
+use Rattle.demands.proofs.Judged.{Says, judged-says, says-judged}
 use Rattle.demands.proofs.Sentences.{sentences-right}
 use Rattle.demands.proofs.Undetermined.{choices-exactly}
 use Rattle.demands.specs.Demands.{BuiltRight, Demand2}
-use Rattle.demands.specs.Undetermined.{GivenExactly}
 
 -- ── build ──
 module _ {l : BuildLent} (o : BuildOutcome l) where

@@ -13,9 +13,9 @@ use Rattle.integers.proofs.Order.{eqZ-yes, eqZ-self}
 use Rattle.paper.specs.Lists.{all, firstFail}
 use Rattle.paper.specs.Net.{Values, Depends, moved}
 use Rattle.paper.specs.Tables.{Tables, inputsOf, ends}
-use Rattle.paper.specs.Chains.{worth, determined, closes, storedFresh}
-use Rattle.paper.specs.Checks.{Bounds, Sound, sized, movePairs}
-use Rattle.paper.specs.Calls.{Answer, numberOf, placeOf, buildFits, startValues, storedValues, trialFits, keepFits, latest, takeFits}
+use Rattle.paper.specs.Chains.{worth, determined, closes, storedFresh, LeastOf}
+use Rattle.paper.specs.Checks.{Line, places, whole, Bounds, tableLines, Sound, sized, movePairs}
+use Rattle.paper.specs.Calls.{Answer, numberOf, placeOf, buildFits, startValues, buildLines, storedValues, trialFits, trialLines, keepFits, keepLines, latest, takeFits, takeLines}
 use Rattle.paper.proofs.Lists.{and-left, and-right, or-false-left, or-false-right, each}
 use Rattle.paper.proofs.Least.{firstFail-fails, firstFail-le}
 use Rattle.paper.proofs.Accept.{inputs-below}
@@ -23,12 +23,9 @@ use Rattle.paper.proofs.Circle.{unable-comes}
 use Rattle.paper.proofs.Ends.{comes-unable}
 use Rattle.paper.proofs.Depends.{depends-low}
 use Rattle.paper.proofs.Closes.{closes-not}
-use Rattle.demands.specs.Stated.{leftBuilt, leftTried, leftKept, leftTaken}
-use Rattle.demands.specs.Refusals.{Line, places, whole, lineNumber, tableLines, Passed, Passes, none, next, Fails, Least, Gives, here, later, buildTable, trialTable, keepTable, takeTable}
-use Rattle.paper.specs.Permitted.{LeastOf}
-use Rattle.demands.specs.Demands.{Exactly}
-use Rattle.demands.specs.Sentences.{DeterminedExactly}
-use Rattle.demands.specs.Undetermined.{beforeLast, Undetermined, UndeterminedExactly, Stale, StaleExactly, ChoicesExactly}
+use Rattle.records.specs.Stated.{leftBuilt, leftTried, leftKept, leftTaken}
+use Rattle.demands.specs.Sentences.{Undetermined, DeterminedExactly}
+use Rattle.demands.specs.Refusals.{lineNumber, Passed, Passes, none, next, Fails, Gives, here, later, Exactly, beforeLast, UndeterminedExactly, Stale, StaleExactly, ChoicesExactly}
 use Rattle.demands.proofs.One.{build-works, trial-works, keep-works, take-works}
 use Rattle.demands.proofs.Sentences.{sentences-right}
 
@@ -41,7 +38,7 @@ other-number (places number bound good) k p e f = true≢false (sym (eq-eqb numb
 other-number (whole number place good) k p e f = true≢false (sym (eq-eqb number k (f .0)) ∙ not-true (eqb number k) e)
 
 passed-fails : (line : Line) (k p : ℕ) → Passed line → Fails line k p → ⊥
-passed-fails (places number bound good) k p q f = true≢false (sym (q p (f .1 .low)) ∙ f .1 .fails)
+passed-fails (places number bound good) k p q f = true≢false (sym (q p (f .1 .low)) ∙ f .1 .here)
 passed-fails (whole number place good) k p q f = true≢false (sym q ∙ f .2)
 
 none-lacks : (k p : ℕ) (lines : List Line) → lacks k lines ≡ true → Gives k p lines → ⊥
@@ -53,7 +50,7 @@ module _ (k n : ℕ) (good : ℕ → Bool) (after : List Line) where
   from before = before ++ places k n good ∷ after
 
   -- it is given only if the lines before it pass
-  at-line : (before : List Line) (p : ℕ) → lacks k before ≡ true → lacks k after ≡ true → Gives k p (from before) → Passes before × Least n good p
+  at-line : (before : List Line) (p : ℕ) → lacks k before ≡ true → lacks k after ≡ true → Gives k p (from before) → Passes before × LeastOf n (λ i. good i ≡ false) p
   at-line [] p a b (here f) = (none, f .1)
   at-line [] p a b (later q g) = absurd (none-lacks k p after b g)
   at-line (line ∷ before) p a b (here f) = absurd (other-number line k p (and-left (not (eqb (lineNumber line) k)) _ a) f)
@@ -83,7 +80,7 @@ module _ (k n : ℕ) (good : ℕ → Bool) (after : List Line) where
         go zero z = absurd (true≢false (sym (passes-good before (by .accepted-only z) v l) ∙ e))
         go (suc j) z = no-other before (numberOf a) (placeOf a) v l e r (by .refused-only (λ z′. let x = sym z ∙ z′ in absurd (omega arith)))
 
-    only-at : lacks k before ≡ true → lacks k after ≡ true → 0 < k → numberOf a ≡ k → Passes before × Least n good (placeOf a)
+    only-at : lacks k before ≡ true → lacks k after ≡ true → 0 < k → numberOf a ≡ k → Passes before × LeastOf n (λ i. good i ≡ false) (placeOf a)
     only-at x y some e = at-line before (placeOf a) x y (rw e at (by .refused-only (λ z. let w = sym e ∙ z in absurd (omega arith))))
 
 -- ── sound tables, by the lines that they pass ──
@@ -103,7 +100,7 @@ module _ (t : Tables) (sound : Sound t) where
   is-undetermined s v l u = go (determined t s v) refl
     where
       go : (b : Bool) → determined t s v ≡ b → b ≡ false
-      go true e = absurd (exactly-determined s v l .ends e (u .0) (u .1) (u .2))
+      go true e = absurd (exactly-determined s v l .ends e u)
       go false e = refl
 
   -- some chain closes exactly if some variable depends on itself
@@ -163,8 +160,8 @@ module _ (k n : ℕ) (good : ℕ → Bool) (holds : ℕ → Type 0) (before afte
     line-place : LeastOf n holds (placeOf a)
     line-place = let (r, least) = only-at k n good after before count a by x y some e in record {
       low = least .low;
-      here = sound r (placeOf a) (least .low) .0 (least .fails);
-      before = λ v l h. let low = least .low in true≢false (sym (least .before v l) ∙ sound r v (omega arith) .1 h);
+      here = sound r (placeOf a) (least .low) .0 (least .here);
+      before = λ v l h. let low = least .low in least .before v l (sound r v (omega arith) .1 h);
     }
 
 module _ (t : Tables) (table before : List Line) (count : ℕ) (a : Answer) (sound : Passes before → Sound t) where
@@ -194,17 +191,17 @@ module _ (t : Tables) (table before : List Line) (count : ℕ) (a : Answer) (sou
 -- ── each call ──
 pub choices-exactly : ChoicesExactly
 choices-exactly = record {
-  build = λ l o. let t = l .tables in let before = beforeLast (buildTable l) in
-      undetermined-by t (buildTable l) before (t .m) (leftBuilt o .answer) (sound-by t (l .bounds) (buildFits l) _ (and-left (sized t) _)) (startValues l) (build-works l o .exactly) refl refl;
-  trial = λ s w c o. let t = w .tables in let table = trialTable s w c in let old = storedValues w in let has : trialFits w c ≡ true → sized t ≡ true = λ e. and-left (sized t) _ (each _ e .0) in (
+  build = λ l o. let t = l .tables in let before = beforeLast (buildLines l) in
+      undetermined-by t (buildLines l) before (t .m) (leftBuilt o .answer) (sound-by t (l .bounds) (buildFits l) _ (and-left (sized t) _)) (startValues l) (build-works l o .exactly) refl refl;
+  trial = λ s w c o. let t = w .tables in let table = trialLines s w c in let old = storedValues w in let has : trialFits w c ≡ true → sized t ≡ true = λ e. and-left (sized t) _ (each _ e .0) in (
     undetermined-by t table (beforeLast table) _ (leftTried o .answer) (sound-by t (w .bounds) (trialFits w c) _ has) (moved (movePairs (c .move)) old) (trial-works s w c o .exactly) refl refl,
     stale-by t table (beforeLast (beforeLast table)) _ (leftTried o .answer) (sound-by t (w .bounds) (trialFits w c) _ has) old _ (trial-works s w c o .exactly) refl refl refl,
   );
-  keep = λ s g w c o. let t = w .tables in let table = keepTable s g w c in let old = storedValues w in let has : keepFits g w c ≡ true → sized t ≡ true = λ e. and-left (sized t) _ (each _ e .0) in (
+  keep = λ s g w c o. let t = w .tables in let table = keepLines s g w c in let old = storedValues w in let has : keepFits g w c ≡ true → sized t ≡ true = λ e. and-left (sized t) _ (each _ e .0) in (
     undetermined-by t table (beforeLast table) _ (leftKept o .answer) (sound-by t (w .bounds) (keepFits g w c) _ has) (moved (movePairs (c .move)) old) (keep-works s g w c o .exactly) refl refl,
     stale-by t table (beforeLast (beforeLast table)) _ (leftKept o .answer) (sound-by t (w .bounds) (keepFits g w c) _ has) old _ (keep-works s g w c o .exactly) refl refl refl,
   );
-  take-back = λ s g w c o. let t = w .tables in let table = takeTable s g w c in let old = storedValues w in let has : takeFits g w c ≡ true → sized t ≡ true = λ e. and-left (sized t) _ (each _ e .0) in (
+  take-back = λ s g w c o. let t = w .tables in let table = takeLines s g w c in let old = storedValues w in let has : takeFits g w c ≡ true → sized t ≡ true = λ e. and-left (sized t) _ (each _ e .0) in (
     undetermined-by t table (beforeLast table) _ (leftTaken o .answer) (sound-by t (w .bounds) (takeFits g w c) _ has) (moved (movePairs (latest g c .move)) old) (take-works s g w c o .exactly) refl refl,
     stale-by t table (beforeLast (beforeLast table)) _ (leftTaken o .answer) (sound-by t (w .bounds) (takeFits g w c) _ has) old _ (take-works s g w c o .exactly) refl refl refl,
   );

@@ -3,8 +3,7 @@
 use Rattle.worked.specs.Files.{FilesComeOut}
 use Rattle.demands.specs.Demands.{Demand1, Demand2, Demand3}
 use Rattle.demands.specs.Planners.{TwoPlanners}
-use Rattle.demands.specs.OneOutcome.{OneOutcome}
-use Rattle.demands.specs.Buffers.{BuffersRight}
+use Rattle.demands.specs.Products.{OneForC, OneProduct, BuffersRight}
 
 pub record AllDemands : Type 0 where
   -- a call works, or refuses with the paper's number and place exactly where the table gives them, and then changes nothing
@@ -16,7 +15,8 @@ pub record AllDemands : Type 0 where
   -- it does not matter which of two planners keeps first
   pub planners : TwoPlanners
   -- any two outcomes that a statement allows are equal, and what the calls above the engine leave in their buffers
-  pub one-outcome : OneOutcome
+  pub one-for-c : OneForC
+  pub one-product : OneProduct
   pub buffers : BuffersRight
   -- a small file byte by byte, in both versions
   pub files : FilesComeOut

@@ -10,72 +10,39 @@ use lib.ListN.{length, set, take, drop}
 use Rattle.paper.specs.Lists.{nat, size, tally, over}
 use Rattle.paper.specs.Net.{Values, Route, valuation, input-to-output, Depends, moved, names, evaluated}
 use Rattle.paper.specs.Tables.{Tables, net, inputsOf, valuesIn, index}
-use Rattle.paper.specs.Chains.{groupNumbering, groupOrder, worth, determined, storedFresh}
-use Rattle.paper.specs.Checks.{Verdict, accepted, lowest, highest, Move, movePairs}
+use Rattle.paper.specs.Chains.{groupNumbering, groupOrder, worth, determined, storedFresh, Barred, Circular}
+use Rattle.paper.specs.Checks.{accepted, lowest, highest, Move, movePairs}
 use Rattle.paper.specs.Log.{Log, logged, logGood}
-use Rattle.paper.specs.Calls.{Session, blanksAmong, Answer, Accepted, Refused, numberOf, placeOf, evaluationsOf, answered, evaluates, BuildLent, BuildLeft, startValues, Model, storedValues, TrialLent, TrialLeft, askedList, routeOf, KeepLent, KeepLeft, keptCount, TakeLent, latest, buildAsWas, trialAsWas, keepAsWas}
-use Rattle.paper.specs.File.{Version, bounded, endsAt, Contents, contents, counted, held, nIn, mIn, eIn, Fitting, cut}
-use Rattle.paper.specs.Permitted.{Barred, Circular}
+use Rattle.paper.specs.Calls.{Session, blanksAmong, numberOf, evaluationsOf, answered, evaluates, BuildLent, BuildLeft, startValues, fiveLines, buildLines, Model, storedValues, TrialLent, TrialLeft, askedList, routeOf, trialLines, KeepLent, KeepLeft, keptCount, keepLines, TakeLent, takeLines, latest, buildAsWas, trialAsWas, keepAsWas}
+use Rattle.paper.specs.File.{Version, bounded, endsAt, Contents, contents, counted, held, writeLines, nIn, mIn, eIn, readLines, convertLines, Fitting, cut}
 use Rattle.paper.specs.Moves.{Moves, rest, applied}
 use Rattle.paper.specs.Reason.{reasonOf}
-use Rattle.demands.specs.Stated.{BuildOutcome, leftBuilt, TrialOutcome, leftTried, KeepOutcome, leftKept, TakeOutcome, leftTaken}
-use Rattle.demands.specs.Files.{WriteOutcome, leftWritten, ReadOutcome, leftRead, MoveOutcome, leftMoved, writeTable, readTable, moveTable}
-use Rattle.demands.specs.Refusals.{Line, lineNumber, Passes, Gives, fiveLines, buildTable, trialTable, keepTable, takeTable}
+use Rattle.records.specs.Stated.{BuildOutcome, leftBuilt, TrialOutcome, leftTried, KeepOutcome, leftKept, TakeOutcome, leftTaken}
+use Rattle.files.specs.Stated.{WriteOutcome, leftWritten, ReadOutcome, leftRead, MoveOutcome, leftMoved}
 use Rattle.demands.specs.Sentences.{SentencesRight}
-use Rattle.demands.specs.Undetermined.{GivenExactly, ChoicesExactly}
+use Rattle.demands.specs.Refusals.{lineNumber, Works, GivenExactly, ChoicesExactly}
 use Rattle.demands.specs.Runs.{State, Lent, lentOf, Lends, modelOf, afterTrial, passedOn, Mine, Run}
 
 -- ── demand 1: a call works, or refuses with the paper's number and place exactly where the table gives them, and then changes nothing ──
--- an accepted answer has that count of evaluations
-pub record Exactly (table : List Line) (count : ℕ) (a : Answer) : Type 0 where
-  pub accepted-if : Passes table → a ≡ Accepted count
-  pub accepted-only : numberOf a ≡ 0 → Passes table
-  pub refused-if : (k p : ℕ) → Gives k p table → a ≡ Refused k p
-  pub refused-only : (numberOf a ≡ 0 → ⊥) → Gives (numberOf a) (placeOf a) table
-
--- x is what a call leaves; `asWas` puts all but the answer as it was lent
-pub record Works {Left : Type 0} (table : List Line) (count : ℕ) (answer : Left → Answer) (asWas : Left → Left) (x : Left) : Type 0 where
-  pub exactly : Exactly table count (answer x)
-  pub unchanged : (numberOf (answer x) ≡ 0 → ⊥) → x ≡ asWas x
-
-abbrev pub BuildWorks : (l : BuildLent) → BuildLeft → Type 0
-BuildWorks l = Works (buildTable l) (l .tables .m) (λ x. x .answer) (λ x. buildAsWas l (x .answer))
-
-abbrev pub TrialWorks : Session → (w : Model) (c : TrialLent) → TrialLeft → Type 0
-TrialWorks s w c =
-    let t = w .tables in
-    Works (trialTable s w c) (size (evaluates t (storedValues w) (routeOf (c .route)) (movePairs (c .move)) (askedList c)) (t .n)) (λ x. x .answer) (λ x. trialAsWas s c (x .answer))
-
-abbrev pub KeepWorks : (s : Session) (g : Log) (w : Model) (c : KeepLent) → KeepLeft → Type 0
-KeepWorks s g w c = Works (keepTable s g w c) (keptCount (w .tables) (w .stored) c) (λ x. x .answer) (λ x. keepAsWas s g w (c .flags) (x .answer))
-
-abbrev pub TakeWorks : (s : Session) (g : Log) (w : Model) (c : TakeLent) → KeepLeft → Type 0
-TakeWorks s g w c = Works (takeTable s g w c) (keptCount (w .tables) (w .stored) (latest g c)) (λ x. x .answer) (λ x. keepAsWas s g w (c .flags) (x .answer))
-
-abbrev pub WriteWorks : (v : Version) (c : Contents) (lent : List ℕ) → Verdict × List ℕ → Type 0
-WriteWorks v c lent = Works (writeTable v c lent) 0 (λ x. answered (x .0) 0) (λ x. (x .0, lent))
-
-abbrev pub ReadWorks : (v : Version) (bytes : List ℕ) (lent : Contents) → Verdict × Contents → Type 0
-ReadWorks v bytes lent = Works (readTable v bytes lent) 0 (λ x. answered (x .0) 0) (λ x. (x .0, counted 0 0 0 lent))
-
-abbrev pub MoveWorks : (from to : Version) (bytes lent : List ℕ) → Verdict × (ℕ × List ℕ) → Type 0
-MoveWorks from to bytes lent = Works (moveTable from to bytes lent) 0 (λ x. answered (x .0) 0) (λ x. (x .0, (0, lent)))
-
 pub record Demand1 : Type 0 where
   -- the numbers that the four calls and moves between versions give, in the order in which they are checked
-  pub build-numbers : (l : BuildLent) → map lineNumber (buildTable l) ≡ 1 ∷ 2 ∷ 3 ∷ 3 ∷ 4 ∷ 4 ∷ 5 ∷ 6 ∷ 7 ∷ 20 ∷ []
-  pub trial-numbers : (s : Session) (w : Model) (c : TrialLent) → map lineNumber (trialTable s w c) ≡ 1 ∷ 2 ∷ 3 ∷ 3 ∷ 4 ∷ 4 ∷ 5 ∷ 8 ∷ 8 ∷ 19 ∷ 7 ∷ 9 ∷ 10 ∷ 11 ∷ 12 ∷ 17 ∷ 13 ∷ 21 ∷ 20 ∷ []
-  pub keep-numbers : (s : Session) (g : Log) (w : Model) (c : KeepLent) → map lineNumber (keepTable s g w c) ≡ 1 ∷ 2 ∷ 3 ∷ 3 ∷ 4 ∷ 4 ∷ 5 ∷ 8 ∷ 8 ∷ 19 ∷ 7 ∷ 10 ∷ 11 ∷ 12 ∷ 17 ∷ 16 ∷ 21 ∷ 20 ∷ []
-  pub take-numbers : (s : Session) (g : Log) (w : Model) (c : TakeLent) → map lineNumber (takeTable s g w c) ≡ 1 ∷ 2 ∷ 3 ∷ 3 ∷ 4 ∷ 4 ∷ 5 ∷ 8 ∷ 8 ∷ 19 ∷ 7 ∷ 16 ∷ 15 ∷ 21 ∷ 20 ∷ []
-  pub move-numbers : (from to : Version) (bytes lent : List ℕ) → map lineNumber (moveTable from to bytes lent) ≡ 14 ∷ 14 ∷ 14 ∷ 14 ∷ 14 ∷ 14 ∷ 14 ∷ 14 ∷ 14 ∷ 14 ∷ 18 ∷ 1 ∷ []
+  pub build-numbers : (l : BuildLent) → map lineNumber (buildLines l) ≡ 1 ∷ 2 ∷ 3 ∷ 3 ∷ 4 ∷ 4 ∷ 5 ∷ 6 ∷ 7 ∷ 20 ∷ []
+  pub trial-numbers : (s : Session) (w : Model) (c : TrialLent) → map lineNumber (trialLines s w c) ≡ 1 ∷ 2 ∷ 3 ∷ 3 ∷ 4 ∷ 4 ∷ 5 ∷ 8 ∷ 8 ∷ 19 ∷ 7 ∷ 9 ∷ 10 ∷ 11 ∷ 12 ∷ 17 ∷ 13 ∷ 21 ∷ 20 ∷ []
+  pub keep-numbers : (s : Session) (g : Log) (w : Model) (c : KeepLent) → map lineNumber (keepLines s g w c) ≡ 1 ∷ 2 ∷ 3 ∷ 3 ∷ 4 ∷ 4 ∷ 5 ∷ 8 ∷ 8 ∷ 19 ∷ 7 ∷ 10 ∷ 11 ∷ 12 ∷ 17 ∷ 16 ∷ 21 ∷ 20 ∷ []
+  pub take-numbers : (s : Session) (g : Log) (w : Model) (c : TakeLent) → map lineNumber (takeLines s g w c) ≡ 1 ∷ 2 ∷ 3 ∷ 3 ∷ 4 ∷ 4 ∷ 5 ∷ 8 ∷ 8 ∷ 19 ∷ 7 ∷ 16 ∷ 15 ∷ 21 ∷ 20 ∷ []
+  pub move-numbers : (from to : Version) (bytes lent : List ℕ) → map lineNumber (convertLines from to bytes lent) ≡ 14 ∷ 14 ∷ 14 ∷ 14 ∷ 14 ∷ 14 ∷ 14 ∷ 14 ∷ 14 ∷ 14 ∷ 18 ∷ 1 ∷ []
   -- each answers by its table
-  pub build : (l : BuildLent) (o : BuildOutcome l) → BuildWorks l (leftBuilt o)
-  pub trial : (s : Session) (w : Model) (c : TrialLent) (o : TrialOutcome s w c) → TrialWorks s w c (leftTried o)
-  pub keep : (s : Session) (g : Log) (w : Model) (c : KeepLent) (o : KeepOutcome s g w c) → KeepWorks s g w c (leftKept o)
-  pub take-back : (s : Session) (g : Log) (w : Model) (c : TakeLent) (o : TakeOutcome s g w c) → TakeWorks s g w c (leftTaken o)
-  pub write : (v : Version) (c : Contents) (lent : List ℕ) (o : WriteOutcome v c lent) → WriteWorks v c lent (leftWritten o)
-  pub read : (v : Version) (bytes : List ℕ) (lent : Contents) (o : ReadOutcome v bytes lent) → ReadWorks v bytes lent (leftRead o)
-  pub move : (from to : Version) (bytes lent : List ℕ) (o : MoveOutcome from to bytes lent) → MoveWorks from to bytes lent (leftMoved o)
+  pub build : (l : BuildLent) (o : BuildOutcome l) → Works (buildLines l) (l .tables .m) (λ (x : BuildLeft). x .answer) (λ x. buildAsWas l (x .answer)) (leftBuilt o)
+  pub trial : (s : Session) (w : Model) (c : TrialLent) (o : TrialOutcome s w c) → let t = w .tables in
+      let count = size (evaluates t (storedValues w) (routeOf (c .route)) (movePairs (c .move)) (askedList c)) (t .n) in
+      Works (trialLines s w c) count (λ (x : TrialLeft). x .answer) (λ x. trialAsWas s c (x .answer)) (leftTried o)
+  pub keep : (s : Session) (g : Log) (w : Model) (c : KeepLent) (o : KeepOutcome s g w c)
+      → Works (keepLines s g w c) (keptCount (w .tables) (w .stored) c) (λ (x : KeepLeft). x .answer) (λ x. keepAsWas s g w (c .flags) (x .answer)) (leftKept o)
+  pub take-back : (s : Session) (g : Log) (w : Model) (c : TakeLent) (o : TakeOutcome s g w c)
+      → Works (takeLines s g w c) (keptCount (w .tables) (w .stored) (latest g c)) (λ (x : KeepLeft). x .answer) (λ x. keepAsWas s g w (c .flags) (x .answer)) (leftTaken o)
+  pub write : (v : Version) (c : Contents) (lent : List ℕ) (o : WriteOutcome v c lent) → Works (writeLines v c lent) 0 (λ x. answered (x .0) 0) (λ x. (x .0, lent)) (leftWritten o)
+  pub read : (v : Version) (bytes : List ℕ) (lent : Contents) (o : ReadOutcome v bytes lent) → Works (readLines v bytes lent) 0 (λ x. answered (x .0) 0) (λ x. (x .0, counted 0 0 0 lent)) (leftRead o)
+  pub move : (from to : Version) (bytes lent : List ℕ) (o : MoveOutcome from to bytes lent) → Works (convertLines from to bytes lent) 0 (λ x. answered (x .0) 0) (λ x. (x .0, (0, lent))) (leftMoved o)
   -- any two outcomes that a statement allows are equal: the answer, the record, every row to its end
   pub build-one : (l : BuildLent) (o o′ : BuildOutcome l) → (o .done ≡ o′ .done) × (leftBuilt o ≡ leftBuilt o′)
   pub trial-one : (s : Session) (w : Model) (c : TrialLent) (o o′ : TrialOutcome s w c) → (o .done ≡ o′ .done) × (leftTried o ≡ leftTried o′)

@@ -1,11 +1,7 @@
-pub mod Stated
-pub mod Refusals
-pub mod Files
 pub mod Sentences
+pub mod Refusals
 pub mod Runs
 pub mod Planners
-pub mod Undetermined
 pub mod Demands
-pub mod OneOutcome
-pub mod Buffers
+pub mod Products
 pub mod All

@@ -12,7 +12,7 @@ use Rattle.paper.specs.Checks.{Move}
 use lib.IntN.{ℤ}
 use Rattle.paper.specs.Calls.{numberOf, BuildLent, Model}
 use Rattle.paper.specs.Moves.{Moves, Apart, AllPairs, bothMoves}
-use Rattle.demands.specs.Stated.{BuildOutcome, leftBuilt, KeepOutcome, leftKept}
+use Rattle.records.specs.Stated.{BuildOutcome, leftBuilt, KeepOutcome, leftKept}
 use Rattle.demands.specs.Runs.{State, Mine, Run}
 
 module _ {b : BuildLent} (start : BuildOutcome b) where

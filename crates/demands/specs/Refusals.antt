@@ -1,107 +1,30 @@
--- The paper's table of refusals, one list of lines for each call in the order in which they are checked, and what it is that a list gives a
--- number and a place, or accepts. Assumes nothing.
-use Prim.Native.Nat.{ℕ, pred, _<_}
-use mathlib.Core.Bool.{Bool, true, false}
-use mathlib.Core.List.{List, [], _∷_, _++_}
+-- What it is that a list of lines of the table of refusals gives a number and a place, or accepts; that a call answers by its list; and exactly which calls give a
+-- number of the chains, and at which variable: 20 and 21 link by link, as 6 is said. Assumes nothing.
+use Prim.Native.Nat.{ℕ, _<_}
+use mathlib.Core.Bool.{true, false}
+use mathlib.Core.List.{List, [], _∷_}
+use mathlib.Core.Logic.{_⊎_}
 use mathlib.Core.Path.{_≡_}
-use lib.Dec.{eqb, ltb}
-use lib.ListN.{take}
-use Rattle.paper.specs.Lists.{between, total, nat}
-use Rattle.paper.specs.Net.{moved}
-use Rattle.paper.specs.Tables.{Tables}
-use Rattle.paper.specs.Chains.{permitted, determined, groupsNumbered, storedFresh}
-use Rattle.paper.specs.Checks.{Bounds, Verdict, accepted, refused, kindGood, shapeGood, numberGood, madeOnce, indexed, Move, movePairs, movable, namedOnce, hasValue, boundsGood, startAllowed, storedAllowed, pairWithin}
-use Rattle.paper.specs.Log.{Log, logged, logGood}
-use Rattle.paper.specs.Calls.{Session, blanksAmong, BuildLent, buildFits, startValues, Model, storedValues, TrialLent, trialFits, KeepLent, keepFits, latest, TakeLent, takeFits}
+use Rattle.paper.specs.Net.{Values, Depends, moved}
+use Rattle.paper.specs.Tables.{Tables, inputsOf}
+use Rattle.paper.specs.Chains.{worth, LeastOf}
+use Rattle.paper.specs.Checks.{Line, places, whole, movePairs}
+use Rattle.paper.specs.Log.{Log}
+use Rattle.paper.specs.Calls.{Session, Answer, Accepted, Refused, numberOf, placeOf, BuildLent, startValues, buildLines, Model, storedValues, TrialLent, trialLines, KeepLent, keepLines, latest, TakeLent, takeLines}
+use Rattle.records.specs.Stated.{BuildOutcome, leftBuilt, TrialOutcome, leftTried, KeepOutcome, leftKept, TakeOutcome, leftTaken}
+use Rattle.demands.specs.Sentences.{Undetermined}
 
--- a number with a test of each place below a bound, or with one test and a fixed place
-pub data Line : Type 0 where
-  places : (number bound : ℕ) (good : ℕ → Bool) → Line
-  whole : (number place : ℕ) (good : Bool) → Line
-
+-- ── what a list says ──
 abbrev pub lineNumber : Line → ℕ
 lineNumber (places number bound good) = number
 lineNumber (whole number place good) = number
 
--- ── the lines of each call ──
--- 2 to 5, of the tables
-abbrev pub tableLines : Tables → Bounds → List Line
-tableLines t bs =
-    places 2 (t .m) (kindGood t)
-    ∷ places 3 (t .m) (shapeGood t)
-    ∷ whole 3 (pred (t .m)) (eqb (total (take (t .m) (t .counts))) (t .e))
-    ∷ places 4 (t .m) (numberGood t)
-    ∷ places 4 (t .n) (boundsGood t bs)
-    ∷ places 5 (t .m) (madeOnce t)
-    ∷ []
-
--- 8 of the numbers and order, 8 of the index, 19 of the record, and then 7, of the model lent to trial, keep and taking back
-abbrev pub modelLines : Session → Model → List Line
-modelLines s w = let t = w .tables in
-    whole 8 0 (groupsNumbered t (w .numbers) (w .order))
-    ∷ whole 8 0 (indexed t (w .index))
-    ∷ whole 19 0 (eqb (s .blanks) (blanksAmong (t .n) (storedValues w)))
-    ∷ places 7 (t .n) (storedAllowed t (w .bounds) (storedValues w))
-    ∷ []
-
--- 10 to 12 and 17, of the move
-abbrev pub moveLines : Model → Move → List Line
-moveLines w mv =
-    places 10 (mv .pairs) (movable mv (w .tables)) ∷ places 11 (mv .pairs) (namedOnce mv) ∷ places 12 (mv .pairs) (hasValue mv) ∷ places 17 (mv .pairs) (pairWithin mv (w .bounds)) ∷ []
-
--- 21, of the stored values, and 20, of the search variables' new ones, last of all
-abbrev pub freshLines : Model → Move → List Line
-freshLines w mv = let t = w .tables in
-    places 21 (t .n) (storedFresh t (storedValues w))
-    ∷ places 20 (t .n) (determined t (moved (movePairs mv) (storedValues w)))
-    ∷ []
-
--- 6, of the chains that are not permitted, and 7 and 20, of the start values
-abbrev pub startLines : BuildLent → List Line
-startLines l = let t = l .tables in
-    places 6 (t .n) (permitted t)
-    ∷ places 7 (t .n) (startAllowed t (l .bounds) (startValues l))
-    ∷ places 20 (t .n) (determined t (startValues l))
-    ∷ []
-
--- 1 to 5 of build
-abbrev pub fiveLines : BuildLent → List Line
-fiveLines l = whole 1 0 (buildFits l) ∷ tableLines (l .tables) (l .bounds)
-
-abbrev pub buildTable : BuildLent → List Line
-buildTable l = fiveLines l ++ startLines l
-
-abbrev pub trialTable : Session → Model → TrialLent → List Line
-trialTable s w c = let t = w .tables in
-    whole 1 0 (trialFits w c) ∷ (tableLines t (w .bounds) ++ modelLines s w ++ (whole 9 0 (between 1 (c .route) 3) ∷ [])
-    ++ moveLines w (c .move) ++ (places 13 (c .asked) (λ i. ltb (nat (c .askedVars) i) (t .n)) ∷ []) ++ freshLines w (c .move))
-
--- 16, of the log
-abbrev pub logLines : Session → Log → Model → List Line
-logLines s g w = whole 16 0 (logGood g (w .tables) (w .bounds) (s .kept)) ∷ []
-
-abbrev pub keepTable : Session → Log → Model → KeepLent → List Line
-keepTable s g w c = whole 1 0 (keepFits g w c) ∷ (tableLines (w .tables) (w .bounds) ++ modelLines s w ++ moveLines w (c .move) ++ logLines s g w ++ freshLines w (c .move))
-
--- 15, of a log with no move, and then those of the move that takes the latest back
-abbrev pub takeTable : Session → Log → Model → TakeLent → List Line
-takeTable s g w c =
-    whole 1 0 (takeFits g w c)
-    ∷ (tableLines (w .tables) (w .bounds) ++ modelLines s w ++ logLines s g w ++ (whole 15 0 (ltb 0 (logged g)) ∷ []) ++ freshLines w (latest g c .move))
-
--- ── what a list says ──
 abbrev pub Passed : Line → Type 0
 Passed (places number bound good) = (i : ℕ) → i < bound → good i ≡ true
 Passed (whole number place good) = good ≡ true
 
--- p is the least place that fails
-pub record Least (bound : ℕ) (good : ℕ → Bool) (p : ℕ) : Type 0 where
-  pub low : p < bound
-  pub fails : good p ≡ false
-  pub before : (i : ℕ) → i < p → good i ≡ true
-
 abbrev pub Fails : Line → ℕ → ℕ → Type 0
-Fails (places number bound good) k p = (number ≡ k) × Least bound good p
+Fails (places number bound good) k p = (number ≡ k) × LeastOf bound (λ i. good i ≡ false) p
 Fails (whole number place good) k p = (number ≡ k) × (place ≡ p) × (good ≡ false)
 
 -- it accepts: every line is passed
@@ -114,6 +37,51 @@ pub data Gives (k p : ℕ) : List Line → Type 0 where
   here : {line : Line} {rest : List Line} → Fails line k p → Gives k p (line ∷ rest)
   later : {line : Line} {rest : List Line} → Passed line → Gives k p rest → Gives k p (line ∷ rest)
 
-abbrev pub Says : List Line → Verdict → Type 0
-Says table accepted = Passes table
-Says table (refused k p) = Gives k p table
+-- ── a call answers by its list; an accepted answer has that count of evaluations ──
+pub record Exactly (table : List Line) (count : ℕ) (a : Answer) : Type 0 where
+  pub accepted-if : Passes table → a ≡ Accepted count
+  pub accepted-only : numberOf a ≡ 0 → Passes table
+  pub refused-if : (k p : ℕ) → Gives k p table → a ≡ Refused k p
+  pub refused-only : (numberOf a ≡ 0 → ⊥) → Gives (numberOf a) (placeOf a) table
+
+-- x is what a call leaves; `asWas` puts all but the answer as it was lent
+pub record Works {Left : Type 0} (table : List Line) (count : ℕ) (answer : Left → Answer) (asWas : Left → Left) (x : Left) : Type 0 where
+  pub exactly : Exactly table count (answer x)
+  pub unchanged : (numberOf (answer x) ≡ 0 → ⊥) → x ≡ asWas x
+
+-- a number is given exactly if the lines before it are passed and something holds of a variable, at the least such variable
+pub record GivenExactly (before : List Line) (number n : ℕ) (holds : ℕ → Type 0) (a : Answer) : Type 0 where
+  pub given : Passes before → (v : ℕ) → v < n → holds v → numberOf a ≡ number
+  pub only : numberOf a ≡ number → Passes before
+  pub place : numberOf a ≡ number → LeastOf n holds (placeOf a)
+  pub none : numberOf a ≡ 0 → (v : ℕ) → v < n → holds v → ⊥
+
+-- ── 20: working v out comes to a variable that needs itself; s are the values that the search variables have after the call ──
+-- the lines of a table but the last
+abbrev pub beforeLast : List Line → List Line
+beforeLast [] = []
+beforeLast (line ∷ []) = []
+beforeLast (line ∷ another ∷ rest) = line ∷ beforeLast (another ∷ rest)
+
+-- it is the last line of its table
+abbrev pub UndeterminedExactly : List Line → Tables → Values → Answer → Type 0
+UndeterminedExactly table t s = GivenExactly (beforeLast table) 20 (t .n) (Undetermined t s)
+
+-- ── 21: some chain of inputs closes, and v is not determined by the stored values, or its stored value is not the fresh one ──
+abbrev pub Stale : Tables → Values → ℕ → Type 0
+Stale t old v = ((u : ℕ) × Depends (inputsOf t) u u) × (Undetermined t old v ⊎ (old v ≡ worth t old v → ⊥))
+
+-- it is the last line but one
+abbrev pub StaleExactly : List Line → Tables → Values → Answer → Type 0
+StaleExactly table t old = GivenExactly (beforeLast (beforeLast table)) 21 (t .n) (Stale t old)
+
+-- ── each call ──
+pub record ChoicesExactly : Type 0 where
+  pub build : (l : BuildLent) (o : BuildOutcome l) → UndeterminedExactly (buildLines l) (l .tables) (startValues l) (leftBuilt o .answer)
+  pub trial : (s : Session) (w : Model) (c : TrialLent) (o : TrialOutcome s w c) → let old = storedValues w in
+      UndeterminedExactly (trialLines s w c) (w .tables) (moved (movePairs (c .move)) old) (leftTried o .answer) × StaleExactly (trialLines s w c) (w .tables) old (leftTried o .answer)
+  pub keep : (s : Session) (g : Log) (w : Model) (c : KeepLent) (o : KeepOutcome s g w c) → let old = storedValues w in
+      UndeterminedExactly (keepLines s g w c) (w .tables) (moved (movePairs (c .move)) old) (leftKept o .answer) × StaleExactly (keepLines s g w c) (w .tables) old (leftKept o .answer)
+  pub take-back : (s : Session) (g : Log) (w : Model) (c : TakeLent) (o : TakeOutcome s g w c) → let old = storedValues w in
+      UndeterminedExactly (takeLines s g w c) (w .tables) (moved (movePairs (latest g c .move)) old) (leftTaken o .answer)
+      × StaleExactly (takeLines s g w c) (w .tables) old (leftTaken o .answer)

@@ -10,7 +10,7 @@ use Rattle.paper.specs.Log.{Log, logIn}
 use Rattle.paper.specs.Moves.{Moves, rest}
 use Rattle.paper.specs.Calls.{Session, Answer, Accepted, Refused, numberOf, BuildLent, Model, upToCounts, TrialLent, KeepLent, KeepLeft, TakeLent}
 use Rattle.records.specs.Left.{recordIn}
-use Rattle.demands.specs.Stated.{BuildOutcome, TrialOutcome, leftTried, KeepOutcome, leftKept, TakeOutcome, leftTaken}
+use Rattle.records.specs.Stated.{BuildOutcome, TrialOutcome, leftTried, KeepOutcome, leftKept, TakeOutcome, leftTaken}
 
 -- what the calls hand on: the record, and the session's own row of stored values, its reasons and its log
 pub record State : Type 0 where

@@ -83,10 +83,14 @@ pub record FormulasRight (param : ℤ) (coefs : List ℤ) : Type 0 where
 abbrev pub ComesTo : Tables → Values → ℕ → ℕ → Type 0
 ComesTo t s v u = (v ≡ u) ⊎ Depends (needs t s) v u
 
--- a variable is determined exactly if nothing that working it out comes to needs itself; and its value does not depend on where the uses of the rule start
+-- and so comes to a variable that needs itself
+abbrev pub Undetermined : Tables → Values → ℕ → Type 0
+Undetermined t s v = (u : ℕ) × ComesTo t s v u × Depends (needs t s) u u
+
+-- a variable is determined exactly if working it out does not; and its value does not depend on where the uses of the rule start
 pub record DeterminedExactly (t : Tables) (s : Values) (v : ℕ) : Type 0 where
-  pub ends : determined t s v ≡ true → (u : ℕ) → ComesTo t s v u → Depends (needs t s) u u → ⊥
-  pub round : determined t s v ≡ false → (u : ℕ) × ComesTo t s v u × Depends (needs t s) u u
+  pub ends : determined t s v ≡ true → Undetermined t s v → ⊥
+  pub round : determined t s v ≡ false → Undetermined t s v
   pub from-anywhere : determined t s v ≡ true → (start : Values) → runs (valuation (net t) s) start (t .n) v ≡ worth t s v
 
 pub record SentencesRight : Type 0 where

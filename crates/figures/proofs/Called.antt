@@ -8,7 +8,8 @@ use lib.ListN.{length}
 use borrow.Author.Tests.{leb-true}
 use Rattle.paper.specs.Calls.{Session, Model}
 use Rattle.paper.proofs.Lists.{and-left, and-right}
-use Rattle.figures.specs.Figures.{Batch, outcomes, totals, tallies, fits, figures}
+use Rattle.trials.specs.Batch.{Batch}
+use Rattle.figures.specs.Figures.{outcomes, totals, tallies, fits, figures}
 use Rattle.figures.specs.declared.Totals.{Totals}
 use Rattle.figures.specs.declared.Counted.the-variants.{Accepted, Refused}
 

@@ -15,7 +15,8 @@ use Rattle.paper.specs.Calls.{Session, Model}
 use Rattle.paper.proofs.Buffers.{over-length, over-at, over-over, over-of}
 use Rattle.figures.specs.Outcomes.{outcome, SmallOutcome}
 use Rattle.figures.specs.declared.outcomes.Outcome.{Outcome}
-use Rattle.figures.specs.Figures.{Batch, unpacked, outcomes, having, totals, tallies}
+use Rattle.trials.specs.Batch.{Batch, unpacked}
+use Rattle.figures.specs.Figures.{outcomes, having, totals, tallies}
 use Rattle.figures.specs.Adding.{single, plus, RoomForOne}
 use Rattle.figures.specs.declared.Totals.{Totals}
 use Rattle.figures.proofs.Adding.{plus-assoc, none-plus, plus-none, totals-next, Bounded, bounded-none, bounded-room, bounded-next}

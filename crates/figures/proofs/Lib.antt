@@ -5,3 +5,4 @@ pub mod Going
 pub mod Called
 pub mod Order
 pub mod Routes
+pub mod Read

@@ -13,27 +13,18 @@ use Rattle.paper.specs.Calls.{Session, Model}
 use Rattle.paper.proofs.Buffers.{over-same}
 use Rattle.figures.specs.Outcomes.{outcome}
 use Rattle.figures.specs.declared.outcomes.Outcome.{Outcome}
-use Rattle.figures.specs.Figures.{unpacked, movesOf, outcomes, having, totals, tallies}
+use Rattle.trials.specs.Batch.{unpacked, movesOf}
+use Rattle.figures.specs.Figures.{outcomes, having, totals, tallies}
 use Rattle.figures.specs.Adding.{single, plus}
-use Rattle.figures.specs.Laws.{Rearranged, same, behind, swapped, next, laidBehind, asBatch, OrderChangesNothing}
+use Rattle.trials.specs.Laws.{Rearranged, same, behind, swapped, next}
+use Rattle.trials.proofs.Order.{length-kept, map-kept}
+use Rattle.figures.specs.Laws.{laidBehind, asBatch, OrderChangesNothing}
 use Rattle.figures.specs.declared.Totals.{Totals}
 use Rattle.figures.specs.declared.Counted.{Counted}
 use Rattle.figures.specs.declared.Counted.the-variants.{Accepted, Refused}
 use Rattle.figures.proofs.Adding.{plus-assoc, plus-comm, totals-next}
 
 -- ── what another order leaves as it is ──
-length-kept : {A : Type 0} {xs ys : List A} → Rearranged xs ys → length xs ≡ length ys
-length-kept same = refl
-length-kept (behind r) = ap suc (length-kept r)
-length-kept swapped = refl
-length-kept (next r s) = length-kept r ∙ length-kept s
-
-map-kept : {A B : Type 0} (f : A → B) {xs ys : List A} → Rearranged xs ys → Rearranged (map f xs) (map f ys)
-map-kept f same = same
-map-kept f (behind r) = behind (map-kept f r)
-map-kept f swapped = swapped
-map-kept f (next r s) = next (map-kept f r) (map-kept f s)
-
 having-kept : (k : ℕ) {xs ys : List Outcome} → Rearranged xs ys → having k xs ≡ having k ys
 having-kept k same = refl
 having-kept k (behind {x} r) = ap (cond (eqb (x .number) k) 1 0 +_) (having-kept k r)
@@ -51,7 +42,7 @@ totals-kept (swapped {x} {y} {xs}) =
 totals-kept (next r s) = totals-kept r ∙ totals-kept s
 
 -- ── packed moves ──
-abbrev moveIn : List (ℕ × ℤ) → Move
+abbrev pub moveIn : List (ℕ × ℤ) → Move
 moveIn mv = record { pairs = length mv; vars = map (λ (p : ℕ × ℤ). p .0) mv; values = map (λ (p : ℕ × ℤ). p .1) mv }
 
 unpacked-again : (moves : List (List (ℕ × ℤ))) → unpacked (map length moves) (laidBehind (λ p. p .0) moves) (laidBehind (λ p. p .1) moves) ≡ map moveIn moves
@@ -65,7 +56,7 @@ unpacked-again (mv ∷ moves) =
     ∙ ap₂ (λ a b. moveIn mv ∷ unpacked (map length moves) a b) (drop-at v vs (length mv) lv) (drop-at x xs (length mv) lx)
     ∙ ap (moveIn mv ∷_) (unpacked-again moves)
 
-moves-again : (moves : List (List (ℕ × ℤ))) → movesOf (asBatch moves) ≡ map moveIn moves
+pub moves-again : (moves : List (List (ℕ × ℤ))) → movesOf (asBatch moves) ≡ map moveIn moves
 moves-again moves =
     ap (λ ks. unpacked ks (laidBehind (λ p. p .0) moves) (laidBehind (λ p. p .1) moves)) (take-all (length moves) (map length moves) (let h = length-map moves length in omega arith))
     ∙ unpacked-again moves

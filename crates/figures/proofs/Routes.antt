@@ -7,8 +7,8 @@ use lib.Dec.{leb, ltb}
 use lib.ListN.{length}
 use borrow.Author.Tests.{le-leb}
 use Rattle.paper.specs.Lists.{every, between, nat}
-use Rattle.paper.specs.Checks.{Verdict, accepted, refused, require, check, sized, Move, moveFits, freshChecks}
-use Rattle.paper.specs.Calls.{Session, numberOf, answered, Model, storedValues, TrialLent, TrialLeft, indexFits, boundsFit, modelChecks, changeChecks, trialFits, trialVerdict, trialLeaves, trial}
+use Rattle.paper.specs.Checks.{Verdict, accepted, refused, require, check, sized, Move, moveFits, freshLines, byLines, moveLines}
+use Rattle.paper.specs.Calls.{Session, numberOf, answered, Model, storedValues, TrialLent, TrialLeft, indexFits, boundsFit, modelLines, trialFits, trialVerdict, trialLeaves, trial}
 use Rattle.paper.proofs.Outcomes.{trial-judged}
 use Rattle.figures.specs.Outcomes.{triedOnce, asOneTrial}
 use Rattle.figures.specs.Laws.{SameNumber}
@@ -29,8 +29,8 @@ number-is s w c = go (trialVerdict s w c) refl
 verdict-alike : (s : Session) (w : Model) (asked : ℕ) (mv : Move) (r : ℕ) → between 1 r 3 ≡ true → trialVerdict s w (asOneTrial s w asked r mv) ≡ trialVerdict s w (asOneTrial s w asked 1 mv)
 unfolding trialVerdict
 verdict-alike s w asked mv r e =
-    ap (λ b. require 1 0 (trialFits w (asOneTrial s w asked 1 mv)) (modelChecks w (s .blanks) (require 9 0 b
-    (changeChecks w mv (check 13 1 (λ i. ltb (nat (asked ∷ []) i) (w .tables .n)) (freshChecks (w .tables) (storedValues w) mv)))))) e
+    ap (λ b. require 1 0 (trialFits w (asOneTrial s w asked 1 mv)) (byLines (modelLines w (s .blanks)) (require 9 0 b
+    (byLines (moveLines mv (w .tables) (w .bounds)) (check 13 1 (λ i. ltb (nat (asked ∷ []) i) (w .tables .n)) (byLines (freshLines mv (w .tables) (storedValues w)) accepted)))))) e
 
 pub same-number : SameNumber
 unfolding triedOnce
@@ -49,8 +49,8 @@ module _ (s : Session) (w : Model) (c : TrialLent) (row : List ℕ) (long : w .t
       (sized t && every (leb n (length (w .numbers)) ∷ leb (t .m) (length (w .order)) ∷ leb n (length (w .stored)) ∷ indexFits t (w .index) ∷ boundsFit t (w .bounds) ∷ room ∷ []))
       ∷ moveFits (c .move) ∷ leb (c .asked) 32 ∷ leb (c .asked) (length (c .askedVars))
       ∷ leb (c .asked) (length (c .results)) ∷ leb n (length (c .trial)) ∷ leb n (length (c .flags)) ∷ leb (c .asked) (length (c .why)) ∷ []))
-      (modelChecks w (s .blanks) (require 9 0 (between 1 (c .route) 3)
-      (changeChecks w (c .move) (check 13 (c .asked) (λ i. ltb (nat (c .askedVars) i) n) (freshChecks t (storedValues w) (c .move))))))
+      (byLines (modelLines w (s .blanks)) (require 9 0 (between 1 (c .route) 3)
+      (byLines (moveLines (c .move) (w .tables) (w .bounds)) (check 13 (c .asked) (λ i. ltb (nat (c .askedVars) i) n) (byLines (freshLines (c .move) t (storedValues w)) accepted)))))
 
   verdict-stays : trialVerdict s (reasonsAs w row) c ≡ trialVerdict s w c
   unfolding trialVerdict

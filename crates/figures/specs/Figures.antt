@@ -5,35 +5,17 @@ use mathlib.Core.Bool.{Bool, cond, _&&_}
 use mathlib.Core.List.{List, [], _∷_, map}
 use lib.IntN.{ℤ, pos, _+ℤ_}
 use lib.Dec.{eqb, leb}
-use lib.ListN.{length, take, drop}
+use lib.ListN.{length}
 use Rattle.integers.specs.Integers.{eqZ}
 use Rattle.paper.specs.Lists.{total, tally, over}
 use Rattle.paper.specs.Formula.{blank, lesser, greater}
-use Rattle.paper.specs.Checks.{Move}
 use Rattle.paper.specs.Calls.{Session, Model}
 use Rattle.figures.specs.Outcomes.{outcome}
 use Rattle.figures.specs.declared.outcomes.Outcome.{Outcome}
 use Rattle.figures.specs.declared.Totals.{Totals}
 use Rattle.figures.specs.declared.Counted.{Counted}
 use Rattle.figures.specs.declared.Counted.the-variants.{Accepted, Refused}
-
--- ── the moves as they are lent: how many there are, the number of pairs of each, and all pairs one move after another ──
-pub record Batch : Type 0 where
-  pub moves : ℕ
-  pub pairs : List ℕ
-  pub vars : List ℕ
-  pub values : List ℤ
-
-abbrev pub batchOf : ℕ → List ℕ → List ℕ → List ℤ → Batch
-batchOf moves pairs vars values = record { moves = moves; pairs = pairs; vars = vars; values = values }
-
--- the pairs of each move are behind those of the moves before it; of pairs that are not lent it has none
-abbrev pub unpacked : List ℕ → List ℕ → List ℤ → List Move
-unpacked [] vars values = []
-unpacked (k ∷ ks) vars values = record { pairs = k; vars = take k vars; values = take k values } ∷ unpacked ks (drop k vars) (drop k values)
-
-abbrev pub movesOf : Batch → List Move
-movesOf b = unpacked (take (b .moves) (b .pairs)) (b .vars) (b .values)
+pub use Rattle.trials.specs.Batch.{Batch, batchOf, movesOf}
 
 abbrev pub outcomes : Session → Model → ℕ → Batch → List Outcome
 outcomes s w asked b = map (outcome s w asked) (movesOf b)

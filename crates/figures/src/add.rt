@@ -12,7 +12,7 @@ use formulas::blanks::BLANK;
 use formulas::blanks::is_blank;
 
 // The greater of two results if max, else the lesser; a blank one is left out.
-fn one_of(max: bool, a: i32, b: i32) -> i32
+pub fn one_of(max: bool, a: i32, b: i32) -> i32
     ensures { λ r. ⌜ r ≡ oneOf (cond max greater lesser) a b ⌝ }
 {
     if is_blank(a) {

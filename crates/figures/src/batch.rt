@@ -1,13 +1,15 @@
 // A batch: its moves one after another.
 ghost use mathlib.Core.List.{List, []};
 ghost use mathlib.Core.Path.{_≡_};
-ghost use Prim.Native.Nat.{suc, _+_, min, _≤_, _<_};
-ghost use lib.ListN.{length, take, drop, set, replicate};
+ghost use Prim.Native.Nat.{suc, _≤_, _<_};
+ghost use lib.ListN.{length, set, replicate};
 ghost use Rattle.paper.specs.Lists.{nat, over};
 ghost use Rattle.verdicts.specs.Lent.{toModel};
 ghost use Rattle.records.specs.Left.{recordIn};
 ghost use Rattle.figures.specs.declared.outcomes.Outcome.{Outcome};
-ghost use Rattle.figures.specs.Figures.{outcomes, totals, tallies, batchOf, figures as counted};
+ghost use Rattle.trials.specs.Batch.{batchOf};
+ghost use Rattle.trials.specs.Once.{OnceJudged};
+ghost use Rattle.figures.specs.Figures.{outcomes, totals, tallies, figures as counted};
 use crate::Counted;
 use crate::Totals;
 use crate::add::add;
@@ -15,6 +17,10 @@ use crate::outcomes::try_move;
 use formulas::blanks::BLANK;
 use integers::wide;
 use records::Session;
+use tables::Answer;
+use trials::once::judge_model;
+use trials::parts::part_of_values;
+use trials::parts::part_of_vars;
 
 // The figures of no move.
 fn none() -> Totals
@@ -29,36 +35,6 @@ fn none() -> Totals
         second: 0,
         third: 0,
     }
-}
-
-// The lesser of two numbers.
-fn lesser(a: usize, b: usize) -> usize
-    ensures { λ r. ⌜ r ≡ min a b ⌝ }
-{
-    if a <= b {
-        return a;
-    }
-    b
-}
-
-// The variables of a move's pairs, as many of them as there are.
-fn part_of_vars<'a>(at: usize, pairs: usize, rows: &'a [u16]) -> &'a [u16]
-    requires { ⌜ at + pairs < 4294967296 ⌝ }
-    ensures { λ r. ⌜ now r ≡ take pairs (drop at (now (rows .entry))) ⌝ }
-{
-    let end = lesser(at + pairs, rows.len());
-    let start = lesser(at, end);
-    &rows[start..end]
-}
-
-// The new values of a move's pairs, as many of them as there are.
-fn part_of_values<'a>(at: usize, pairs: usize, rows: &'a [i32]) -> &'a [i32]
-    requires { ⌜ at + pairs < 4294967296 ⌝ }
-    ensures { λ r. ⌜ now r ≡ take pairs (drop at (now (rows .entry))) ⌝ }
-{
-    let end = lesser(at + pairs, rows.len());
-    let start = lesser(at, end);
-    &rows[start..end]
 }
 
 // Puts 0 at the 22 places of a row of tallies.
@@ -81,7 +57,87 @@ fn count(by_number: &mut [u32], number: u32)
     by_number[place] = by_number[place] + 1;
 }
 
-// Tries the moves one after another, counts each under its number, and answers the figures of all.
+// Tries the moves one after another over a judged model, counts each under its number, and answers the figures of all.
+fn try_each(
+    judged: Answer,
+    by: &[u16],
+    closed: bool,
+    session: Session,
+    n: usize,
+    m: usize,
+    e: usize,
+    kinds: &[u16],
+    makes: &[u16],
+    params: &[i32],
+    firsts: &[u16],
+    counts: &[u16],
+    vars: &[u16],
+    coefs: &[i16],
+    lows: &[i32],
+    highs: &[i32],
+    numbers: &[u16],
+    order: &[u16],
+    stored: &[i32],
+    reader_starts: &[u16],
+    reader_places: &[u16],
+    reasons: &[u8],
+    moves: usize,
+    move_pairs: &[u16],
+    move_vars: &[u16],
+    move_values: &[i32],
+    asked: u16,
+    trial: &mut [i32],
+    flags: &mut [u8],
+    by_number: &mut [u32],
+) -> Totals
+    ghost { List Outcome }
+    requires fits { λ os. ⌜ (moves ≤ 1000) × (moves ≤ length (now «move_pairs»)) × (22 ≤ length (now «by_number»)) × (length (now trial) ≡ 4096) × (length (now flags) ≡ 4096) × OnceJudged (toModel n m e (now kinds) (now makes) (now params) (now firsts) (now counts) (now vars) (now coefs) (now lows) (now highs) (now numbers) (now order) (now stored) (now «reader_starts») (now «reader_places») (now reasons)) (session .blanks) (now by) closed judged ⌝ }
+    requires tried { λ os. ⌜ outcomes (recordIn session) (toModel n m e (now kinds) (now makes) (now params) (now firsts) (now counts) (now vars) (now coefs) (now lows) (now highs) (now numbers) (now order) (now stored) (now «reader_starts») (now «reader_places») (now reasons)) asked (batchOf moves (now «move_pairs») (now «move_vars») (now «move_values»)) ≡ os ⌝ }
+    ensures { λ os r. ⌜ (r ≡ totals os) × (now («by_number» .exit) ≡ tallies os (now («by_number» .entry))) ⌝ }
+{
+    let mut totals = none();
+    let mut at: usize = 0;
+    clear(by_number);
+    for i in 0..moves {
+        let pairs = wide(move_pairs[i]);
+        let outcome = try_move(
+            judged,
+            by,
+            closed,
+            session,
+            n,
+            m,
+            e,
+            kinds,
+            makes,
+            params,
+            firsts,
+            counts,
+            vars,
+            coefs,
+            lows,
+            highs,
+            numbers,
+            order,
+            stored,
+            reader_starts,
+            reader_places,
+            reasons,
+            pairs,
+            part_of_vars(at, pairs, move_vars),
+            part_of_values(at, pairs, move_values),
+            asked,
+            trial,
+            flags,
+        );
+        count(by_number, outcome.number);
+        totals = add(totals, outcome);
+        at += pairs;
+    }
+    totals
+}
+
+// Judges the model once, tries the moves over it, and answers the figures of all.
 fn try_all(
     session: Session,
     n: usize,
@@ -113,40 +169,66 @@ fn try_all(
     requires tried { λ os. ⌜ outcomes (recordIn session) (toModel n m e (now kinds) (now makes) (now params) (now firsts) (now counts) (now vars) (now coefs) (now lows) (now highs) (now numbers) (now order) (now stored) (now «reader_starts») (now «reader_places») (replicate 4096 0)) asked (batchOf moves (now «move_pairs») (now «move_vars») (now «move_values»)) ≡ os ⌝ }
     ensures { λ os r. ⌜ (r ≡ totals os) × (now («by_number» .exit) ≡ tallies os (now («by_number» .entry))) ⌝ }
 {
-    let mut totals = none();
-    let mut at: usize = 0;
-    clear(by_number);
-    for i in 0..moves {
-        let pairs = wide(move_pairs[i]);
-        let outcome = try_move(
-            session,
-            n,
-            m,
-            e,
-            kinds,
-            makes,
-            params,
-            firsts,
-            counts,
-            vars,
-            coefs,
-            lows,
-            highs,
-            numbers,
-            order,
-            stored,
-            reader_starts,
-            reader_places,
-            pairs,
-            part_of_vars(at, pairs, move_vars),
-            part_of_values(at, pairs, move_values),
-            asked,
-        );
-        count(by_number, outcome.number);
-        totals = add(totals, outcome);
-        at += pairs;
-    }
-    totals
+    let reasons = [0u8; 4096];
+    let mut by = [0u16; 4096];
+    let mut closed = false;
+    let mut trial = [0i32; 4096];
+    let mut flags = [0u8; 4096];
+    let judged = judge_model(
+        session.blanks,
+        n,
+        m,
+        e,
+        kinds,
+        makes,
+        params,
+        firsts,
+        counts,
+        vars,
+        coefs,
+        lows,
+        highs,
+        numbers,
+        order,
+        stored,
+        reader_starts,
+        reader_places,
+        &reasons,
+        &mut by,
+        &mut closed,
+    );
+    try_each(
+        judged,
+        &by,
+        closed,
+        session,
+        n,
+        m,
+        e,
+        kinds,
+        makes,
+        params,
+        firsts,
+        counts,
+        vars,
+        coefs,
+        lows,
+        highs,
+        numbers,
+        order,
+        stored,
+        reader_starts,
+        reader_places,
+        &reasons,
+        moves,
+        move_pairs,
+        move_vars,
+        move_values,
+        asked,
+        &mut trial,
+        &mut flags,
+        by_number,
+    )
 }
 
 // The figures of up to 1,000 moves, each tried on the stored values and a copy of the record with one variable asked. Move i has as many pairs as `move_pairs` says at place

@@ -4,6 +4,7 @@ mod batch;
 mod outcomes;
 mod sums;
 
+pub use add::one_of;
 pub use batch::figures;
 
 // The figures of the moves together: blank results; least, greatest and sum of those that have a value; evaluations by each route.

@@ -1,16 +1,19 @@
 // What comes of one move: it is tried on the stored values by each of the three routes, and not kept.
 ghost use mathlib.Core.Path.{_≡_};
 ghost use Prim.Native.Nat.{_≤_, _<_};
-ghost use lib.ListN.{replicate};
+ghost use lib.ListN.{length};
 ghost use Rattle.integers.specs.Integers.{away};
 ghost use Rattle.paper.specs.Calls.{Model};
 ghost use Rattle.verdicts.specs.Lent.{toModel};
 ghost use Rattle.checks.specs.Moves.{moveOf};
 ghost use Rattle.records.specs.Left.{recordIn};
+ghost use Rattle.trials.specs.Once.{OnceJudged};
 ghost use Rattle.figures.specs.Outcomes.{triedOnce, outcome, SmallOutcome};
 use records::Session;
 use records::answers::evaluations_of;
 use records::answers::number_of;
+use tables::Answer;
+use trials::given::try_given;
 
 // What comes of a move by one route: the number that the engine answers, its evaluations, and the value of the asked variable.
 pub struct Tried {
@@ -28,8 +31,11 @@ pub struct Outcome {
     pub third: u32,
 }
 
-// Tries a move by a route, with one variable asked, over a copy of the record and rows of its own.
+// Tries a move by a route over a judged model, with one variable asked.
 fn try_by(
+    judged: Answer,
+    by: &[u16],
+    closed: bool,
     session: Session,
     n: usize,
     m: usize,
@@ -48,23 +54,28 @@ fn try_by(
     stored: &[i32],
     reader_starts: &[u16],
     reader_places: &[u16],
+    reasons: &[u8],
     pairs: usize,
     move_vars: &[u16],
     move_values: &[i32],
     asked: u16,
     route: u32,
+    trial: &mut [i32],
+    flags: &mut [u8],
 ) -> Tried
     ghost { Model }
-    requires lent { λ w. ⌜ toModel n m e (now kinds) (now makes) (now params) (now firsts) (now counts) (now vars) (now coefs) (now lows) (now highs) (now numbers) (now order) (now stored) (now «reader_starts») (now «reader_places») (replicate 4096 0) ≡ w ⌝ }
+    requires lent { λ w. ⌜ toModel n m e (now kinds) (now makes) (now params) (now firsts) (now counts) (now vars) (now coefs) (now lows) (now highs) (now numbers) (now order) (now stored) (now «reader_starts») (now «reader_places») (now reasons) ≡ w ⌝ }
+    requires judged { λ w. ⌜ OnceJudged w (session .blanks) (now by) closed judged ⌝ }
+    requires rows { λ _. ⌜ (length (now trial) ≡ 4096) × (length (now flags) ≡ 4096) ⌝ }
     ensures { λ w r. ⌜ (r ≡ triedOnce (recordIn session) w asked route (moveOf pairs (now («move_vars» .entry)) (now («move_values» .entry)))) × (r .number < 22) × (r .evaluations ≤ 4096) × (away (r .result) ≤ 2147483648) ⌝ }
 {
-    let reasons = [0u8; 4096];
     let asked_vars = [asked; 1];
     let mut results = [0i32; 1];
-    let mut trial = [0i32; 4096];
-    let mut flags = [0u8; 4096];
     let mut why = [0u8; 1];
-    let done = calls::trying::trial_core(
+    let answer = try_given(
+        judged,
+        by,
+        closed,
         session,
         n,
         m,
@@ -83,7 +94,7 @@ fn try_by(
         stored,
         reader_starts,
         reader_places,
-        &reasons,
+        reasons,
         pairs,
         move_vars,
         move_values,
@@ -91,11 +102,10 @@ fn try_by(
         &asked_vars,
         route,
         &mut results,
-        &mut trial,
-        &mut flags,
+        trial,
+        flags,
         &mut why,
     );
-    let answer = done.answer;
     Tried {
         number: number_of(answer),
         evaluations: evaluations_of(answer),
@@ -105,6 +115,9 @@ fn try_by(
 
 // Tries a move by each route; the number and the result are those of the first.
 pub(crate) fn try_move(
+    judged: Answer,
+    by: &[u16],
+    closed: bool,
     session: Session,
     n: usize,
     m: usize,
@@ -123,16 +136,24 @@ pub(crate) fn try_move(
     stored: &[i32],
     reader_starts: &[u16],
     reader_places: &[u16],
+    reasons: &[u8],
     pairs: usize,
     move_vars: &[u16],
     move_values: &[i32],
     asked: u16,
+    trial: &mut [i32],
+    flags: &mut [u8],
 ) -> Outcome
     ghost { Model }
-    requires lent { λ w. ⌜ toModel n m e (now kinds) (now makes) (now params) (now firsts) (now counts) (now vars) (now coefs) (now lows) (now highs) (now numbers) (now order) (now stored) (now «reader_starts») (now «reader_places») (replicate 4096 0) ≡ w ⌝ }
+    requires lent { λ w. ⌜ toModel n m e (now kinds) (now makes) (now params) (now firsts) (now counts) (now vars) (now coefs) (now lows) (now highs) (now numbers) (now order) (now stored) (now «reader_starts») (now «reader_places») (now reasons) ≡ w ⌝ }
+    requires judged { λ w. ⌜ OnceJudged w (session .blanks) (now by) closed judged ⌝ }
+    requires rows { λ _. ⌜ (length (now trial) ≡ 4096) × (length (now flags) ≡ 4096) ⌝ }
     ensures { λ w r. ⌜ (r ≡ outcome (recordIn session) w asked (moveOf pairs (now («move_vars» .entry)) (now («move_values» .entry)))) × SmallOutcome r ⌝ }
 {
     let first = try_by(
+        judged,
+        by,
+        closed,
         session,
         n,
         m,
@@ -151,13 +172,19 @@ pub(crate) fn try_move(
         stored,
         reader_starts,
         reader_places,
+        reasons,
         pairs,
         move_vars,
         move_values,
         asked,
         1,
+        trial,
+        flags,
     );
     let second = try_by(
+        judged,
+        by,
+        closed,
         session,
         n,
         m,
@@ -176,13 +203,19 @@ pub(crate) fn try_move(
         stored,
         reader_starts,
         reader_places,
+        reasons,
         pairs,
         move_vars,
         move_values,
         asked,
         2,
+        trial,
+        flags,
     );
     let third = try_by(
+        judged,
+        by,
+        closed,
         session,
         n,
         m,
@@ -201,11 +234,14 @@ pub(crate) fn try_move(
         stored,
         reader_starts,
         reader_places,
+        reasons,
         pairs,
         move_vars,
         move_values,
         asked,
         3,
+        trial,
+        flags,
     );
     Outcome {
         number: first.number,

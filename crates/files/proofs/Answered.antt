@@ -12,7 +12,7 @@ use Rattle.paper.specs.Tables.{Tables, lent}
 use Rattle.paper.specs.Checks.{Verdict, accepted, leaves}
 use Rattle.paper.specs.File.{Version, version1, Contents, contents, unboundedContents, headOf, bounded, boundsFrom, endsAt, held, nIn, mIn, eIn, header, column, startsFrom, tablesFrom, counted, laid, readVerdict, read}
 use Rattle.paper.proofs.Verdicts.{require-held, then-second}
-use Rattle.paper.proofs.Reading.{headed, read-refused, read-short, read-done, read-headed, same-contents, read-plain}
+use Rattle.paper.proofs.Reading.{headed, read-verdict, read-refused, read-short, read-done, read-headed, same-contents, read-plain}
 use Rattle.files.specs.HeaderAnswers.{answer, Stated}
 use Rattle.files.specs.declared.headers.Reading.{Reading}
 use Rattle.files.specs.declared.headers.Reading.the-variants.{Accepted, Refused}
@@ -44,10 +44,9 @@ module _ (v : Version) (bytes : List ℕ) (c : Contents) where
 
       -- the rows have room, and the file ends where its counts say
       pub roomy : (held v (counted n m e c) ≡ true) × (length bytes ≡ endsAt v n m e)
-      unfolding readVerdict
       roomy =
           let s = found in let right = read-headed v bytes c (s .good) in (
-            rw (s .n-is, s .m-is, s .e-is) (require-held 1 0 _ accepted (then-second (header v bytes) _ (s .good))),
+            rw (s .n-is, s .m-is, s .e-is) (require-held 1 0 _ accepted (then-second (header v bytes) _ (sym (read-verdict v bytes c) ∙ s .good))),
             rw (s .n-is, s .m-is, s .e-is) (headed v bytes right .whole),
           )
 

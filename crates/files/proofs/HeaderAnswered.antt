@@ -5,8 +5,8 @@ use mathlib.Core.Bool.{Bool, true, false, cond}
 use mathlib.Core.List.{List}
 use mathlib.Core.Path.{_≡_, refl, ap, sym, _∙_}
 use lib.ListN.{length}
-use Rattle.paper.specs.Checks.{Verdict, accepted, refused, require}
-use Rattle.paper.specs.File.{Version, headed, header, endsAt}
+use Rattle.paper.specs.Checks.{Verdict, accepted, refused, require, byLines}
+use Rattle.paper.specs.File.{Version, headLines, header, endsAt}
 use Rattle.paper.proofs.Reading as reading
 use Rattle.files.specs.HeaderAnswers.{answer, Stated}
 use Rattle.files.specs.declared.headers.Reading.{Reading}
@@ -29,13 +29,13 @@ turned bytes accepted q = let z : _≡_ {A = ℕ} 0 1 = cc in absurd (omega arit
 turned bytes (refused number place) q = cc
 
 -- ── the answer to the counts, and the rest of the header ──
-module _ (v : Version) (bytes : List ℕ) {r : Reading} (q : r ≡ answer bytes (headed v bytes accepted)) where
+module _ (v : Version) (bytes : List ℕ) {r : Reading} (q : r ≡ answer bytes (byLines (headLines v bytes) accepted)) where
   pub refused-counts : {number place : ℕ} → r ≡ Refused number place → r ≡ answer bytes (header v bytes)
   unfolding header
-  refused-counts h = h ∙ sym (ap (answer bytes) (counted-stops v bytes (turned bytes (headed v bytes accepted) (sym h ∙ q)) _))
+  refused-counts h = h ∙ sym (ap (answer bytes) (counted-stops v bytes (turned bytes (byLines (headLines v bytes) accepted) (sym h ∙ q)) _))
 
-  pub given-counts : {n m e : ℕ} → r ≡ Accepted n m e → Stated bytes (headed v bytes accepted) n m e × Counted v bytes
-  given-counts h = let s = stated bytes (headed v bytes accepted) (sym h ∙ q) in (s, counted-facts v bytes (s .good))
+  pub given-counts : {n m e : ℕ} → r ≡ Accepted n m e → Stated bytes (byLines (headLines v bytes) accepted) n m e × Counted v bytes
+  given-counts h = let s = stated bytes (byLines (headLines v bytes) accepted) (sym h ∙ q) in (s, counted-facts v bytes (s .good))
 
 -- ── what an accepted header states ──
 module _ (v : Version) (bytes : List ℕ) {r : Reading} (q : r ≡ answer bytes (header v bytes)) where

@@ -3,7 +3,7 @@ ghost use mathlib.Core.Path.{_≡_};
 ghost use mathlib.Core.Bool.{cond};
 ghost use Prim.Native.Nat.{_≤_, _<_};
 ghost use lib.ListN.{length};
-ghost use Rattle.paper.specs.Checks.{accepted};
+ghost use Rattle.paper.specs.Checks.{accepted, byLines};
 ghost use Rattle.paper.specs.File as File;
 ghost use Rattle.files.specs.HeaderAnswers.{answer};
 use fields::get;
@@ -33,7 +33,7 @@ fn right(place: u32, good: bool, answer: Reading) -> Reading
 
 // The counts that a file states, or the first of its length, its version and its counts that is wrong.
 pub fn counts_as(bytes: &[u8], bounds: bool) -> Reading
-    ensures { λ r. ⌜ r ≡ answer (now (bytes .entry)) (File.headed (File.versionOf bounds) (now (bytes .entry)) accepted) ⌝ }
+    ensures { λ r. ⌜ r ≡ answer (now (bytes .entry)) (byLines (File.headLines (File.versionOf bounds) (now (bytes .entry))) accepted) ⌝ }
 {
     if bytes.len() < head_length(bounds) {
         return Reading::Refused {

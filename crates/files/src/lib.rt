@@ -7,7 +7,7 @@ mod store;
 
 ghost use mathlib.Core.Path.{_≡_};
 ghost use Rattle.paper.specs.Tables.{lent};
-ghost use Rattle.paper.specs.Checks.{accepted};
+ghost use Rattle.paper.specs.Checks.{accepted, byLines};
 ghost use Rattle.files.specs.HeaderAnswers.{answer};
 ghost use Rattle.files.specs.Answers.{verdict, hasRead};
 ghost use Rattle.paper.specs.File as File;
@@ -24,7 +24,7 @@ pub enum Written {
 
 // The counts that a file of version 1 states, or the first of its length, its version and its counts that is wrong.
 pub fn counts(bytes: &[u8]) -> Reading
-    ensures { λ r. ⌜ r ≡ answer (now (bytes .entry)) (File.headed File.version1 (now (bytes .entry)) accepted) ⌝ }
+    ensures { λ r. ⌜ r ≡ answer (now (bytes .entry)) (byLines (File.headLines File.version1 (now (bytes .entry))) accepted) ⌝ }
 {
     counts_as(bytes, false)
 }

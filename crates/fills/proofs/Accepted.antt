@@ -40,10 +40,9 @@ all-low n (suc k) (x ∷ l) h low = ap₂ _&&_ (lt-ltb x n (low 0 (omega arith))
 -- what is known of the model and the move, checks 21 and 20, and flags that are lent
 keeping : (w : Model) (c : KeepLent) → ModelKnown w → MoveKnown (w .tables) (w .bounds) (c .move) → ((v : ℕ) → v < w .tables .n → storedFresh (w .tables) (storedValues w) v ≡ true)
     → ((v : ℕ) → determined (w .tables) (moved (movePairs (c .move)) (storedValues w)) v ≡ true) → w .tables .n ≤ length (c .flags)
-    → KeepAccepted (w .tables) (w .numbers) (w .order) (w .index) (w .stored) c
+    → KeepAccepted (w .tables) (w .order) (w .index) (w .stored) c
 keeping w c k v fresh det h = let (starts, places) = index-long (w .tables) (w .index) (k .index-fits) in record {
   sound = k .sound;
-  grouped = record { permitted = k .permitted; shared = record { long = k .numbers-long; at = k .numbers-are } };
   in-order = k .order-long;
   order-is = k .order-is;
   fresh = fresh;
@@ -84,7 +83,7 @@ module _ (s : Session) (g : Log) (w : Model) where
   unfolding takeVerdict
   take-by-kept u = refl
 
-  pub keeping-of : (c : KeepLent) → keepVerdict s g w c ≡ accepted → KeepAccepted (w .tables) (w .numbers) (w .order) (w .index) (w .stored) c
+  pub keeping-of : (c : KeepLent) → keepVerdict s g w c ≡ accepted → KeepAccepted (w .tables) (w .order) (w .index) (w .stored) c
   unfolding keepVerdict
   keeping-of c e =
       let k = keep-known s g w c e in let fits = each _ (require-held 1 0 (keepFits g w c) _ e) in
@@ -102,18 +101,18 @@ module _ (s : Session) (g : Log) (w : Model) where
         let sizes = leb-true 65 (length (g .sizes)) (fits .0) in let vars = leb-true 4096 (length (g .vars)) (fits .1 .0) in let values = leb-true 4096 (length (g .values)) (fits .1 .1 .0) in
         record { few = omega arith; in-sizes = omega arith; in-vars = omega arith; in-values = omega arith }
 
-    pub taking-of : (c : KeepLent) → c ≡ latest g u → KeepAccepted (w .tables) (w .numbers) (w .order) (w .index) (w .stored) c
+    pub taking-of : (c : KeepLent) → c ≡ latest g u → KeepAccepted (w .tables) (w .order) (w .index) (w .stored) c
     unfolding takeVerdict
     taking-of c is =
         let k = take-known s g w u e in let fits = each _ (require-held 1 0 (takeFits g w u) _ e) in
-        subst (KeepAccepted (w .tables) (w .numbers) (w .order) (w .index) (w .stored)) (sym is) (keeping w (latest g u) (k .model) (latest-known s g w u k) (k .fresh) (k .determined) (leb-true _ _ (fits .1 .0)))
+        subst (KeepAccepted (w .tables) (w .order) (w .index) (w .stored)) (sym is) (keeping w (latest g u) (k .model) (latest-known s g w u k) (k .fresh) (k .determined) (leb-true _ _ (fits .1 .0)))
 
 -- of the record only the number of blanks plays a part
 pub trial-by-blanks : (s : Session) (w : Model) (c : TrialLent) → trialVerdict s w c ≡ trialVerdict (record { kept = 0; evaluations = 0; blanks = s .blanks }) w c
 unfolding trialVerdict
 trial-by-blanks s w c = refl
 
-pub trying-of : (s : Session) (w : Model) (c : TrialLent) → trialVerdict s w c ≡ accepted → Trying (w .tables) (w .numbers) (w .order) (w .index) (w .stored) (withoutReasons c)
+pub trying-of : (s : Session) (w : Model) (c : TrialLent) → trialVerdict s w c ≡ accepted → Trying (w .tables) (w .order) (w .index) (w .stored) (withoutReasons c)
 unfolding trialVerdict
 trying-of s w c e =
     let k = trial-known s w c e in let fits = each _ (require-held 1 0 (trialFits w c) _ e) .1 .1 .1 in let long = leb-true (c .asked) (length (c .askedVars)) (fits .0) in

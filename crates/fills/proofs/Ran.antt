@@ -36,7 +36,7 @@ use Rattle.fills.specs.Running.{Running}
 use Rattle.fills.specs.Accepted.{KeepAccepted}
 use Rattle.fills.proofs.Settled.{idle-new, all-new}
 
-module _ (t : Tables) (nums ord : List ℕ) (x : Index) (stored : List ℤ) (c : KeepLent) (k : KeepAccepted t nums ord x stored c) where
+module _ (t : Tables) (ord : List ℕ) (x : Index) (stored : List ℤ) (c : KeepLent) (k : KeepAccepted t ord x stored c) where
   -- the pairs, the stored values, and these with the pairs put in
   abbrev mv : List (ℕ × ℤ)
   mv = movePairs (c .move)
@@ -118,10 +118,9 @@ module _ (t : Tables) (nums ord : List ℕ) (x : Index) (stored : List ℤ) (c :
     }
 
     -- and a route can be run
-    pub running : Running t nums ord stored trial
+    pub running : Running t ord stored trial
     running = record {
       sound = k .sound;
-      grouped = k .grouped;
       in-order = k .in-order;
       order-is = k .order-is;
       fresh = k .fresh;

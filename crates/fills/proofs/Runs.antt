@@ -11,7 +11,7 @@ use Rattle.routes.specs.Rows.{Along}
 use Rattle.closed_routes.specs.Following.{Steady}
 use Rattle.fills.specs.Running.{Running}
 
-module _ (t : Tables) (nums ord : List ℕ) (stored trial : List ℤ) (k : Running t nums ord stored trial) where
+module _ (t : Tables) (ord : List ℕ) (stored trial : List ℤ) (k : Running t ord stored trial) where
   pub along : closes t ≡ false → Along t ord
   along e = let o = opened t (k .sound) e in record { sound = k .sound; chains = o .chains; long = k .in-order; order-is = k .order-is ∙ o .order-is }
 

@@ -28,26 +28,26 @@ use Rattle.fills.proofs.Ran.{Ran, ran}
 pub count-fits : (p : ℕ → Bool) (n count : ℕ) → n ≤ 4096 → count ≡ size p n → count < 4294967296
 count-fits p n count h e = omega (arith, size-le p n)
 
-module _ (t : Tables) (nums ord : List ℕ) (x : Index) (stored : List ℤ) where
+module _ (t : Tables) (ord : List ℕ) (x : Index) (stored : List ℤ) where
   abbrev old : Values
   old = valuesIn t stored
 
-  pub held : (c : KeepLent) → KeepAccepted t nums ord x stored c → Sized t
+  pub held : (c : KeepLent) → KeepAccepted t ord x stored c → Sized t
   held c k = sized-facts t (k .sound .sized)
 
-  pub keep-filled : (c : KeepLent) (k : KeepAccepted t nums ord x stored c) (before row row′ stored′ : List ℤ) (flags flags′ : List ℕ) (count : ℕ) → t .n ≤ length before
+  pub keep-filled : (c : KeepLent) (k : KeepAccepted t ord x stored c) (before row row′ stored′ : List ℤ) (flags flags′ : List ℕ) (count : ℕ) → t .n ≤ length before
       → row ≡ over (t .n) (moved (movePairs (c .move)) (λ v. getD stored v (pos 0))) before → flags ≡ over (t .n) (λ v. 0) (c .flags)
       → Routed t input-to-output stored row flags [] row′ flags′ → stored′ ≡ over (t .n) (λ v. getD row′ v (pos 0)) stored
       → count ≡ size (λ v. eqb (nat flags′ v) 1) (t .n) → KeepFilled t stored c count stored′ flags′
   keep-filled c k before row row′ stored′ flags flags′ count room is cleared d copied counted =
-      let a = ran t nums ord x stored c k input-to-output [] before row row′ flags flags′ room is cleared d in
+      let a = ran t ord x stored c k input-to-output [] before row row′ flags flags′ room is cleared d in
       record {
         count-is = counted ∙ a .count-is;
         stored-is = copied ∙ over-same (λ v. getD row′ v (pos 0)) (t .n) stored (newValues t old input-to-output (movePairs (c .move)) []) (λ v l. a .new-at v l (λ e. e));
         flags-are = a .flags-are;
       }
 
-  module _ (c : TrialLent) (k : Trying t nums ord x stored c) where
+  module _ (c : TrialLent) (k : Trying t ord x stored c) where
     abbrev asked : List ℕ
     asked = askedList c
 
@@ -77,8 +77,8 @@ module _ (t : Tables) (nums ord : List ℕ) (x : Index) (stored : List ℤ) wher
         worth : Values
         worth = newValues t old (routeOf (c .route)) (movePairs (c .move)) asked
 
-        a : Ran t nums ord x stored kept (k .keeping) (routeOf (c .route)) asked (c .trial) trial′ flags′
-        a = ran t nums ord x stored kept (k .keeping) (routeOf (c .route)) asked (c .trial) trial trial′ flags flags′ (k .in-trial) is cleared d
+        a : Ran t ord x stored kept (k .keeping) (routeOf (c .route)) asked (c .trial) trial′ flags′
+        a = ran t ord x stored kept (k .keeping) (routeOf (c .route)) asked (c .trial) trial trial′ flags flags′ (k .in-trial) is cleared d
 
         each : (i : ℕ) → i < c .asked → getD trial′ (nat asked i) (pos 0) ≡ worth (nat (c .askedVars) i)
         each i l =

@@ -13,7 +13,6 @@ use Rattle.paper.specs.Checks.{accepted, boundsIn, movePairs, Sound}
 use Rattle.paper.specs.Chains.{groupOrder, determined, storedFresh}
 use Rattle.paper.specs.Calls.{evaluationsOf, TrialLent, TrialLeft, askedList, trialLeaves, KeepLent, keptCount, keptStored, keptFlags}
 use Rattle.rows.specs.Put.{PairsFit}
-use Rattle.chains.specs.Links.{Grouped}
 use Rattle.index.specs.Index.{Indexed}
 
 -- what a trial is lent without the row for reasons, which are asked over what it has written
@@ -29,11 +28,10 @@ withoutReasons c = record {
   why = [];
 }
 
-module _ (t : Tables) (nums ord : List ℕ) (x : Index) (stored : List ℤ) where
-  -- sound tables, the numbers, order and index of build, and fresh stored values that a move of search variables leaves determined; the flags are lent
+module _ (t : Tables) (ord : List ℕ) (x : Index) (stored : List ℤ) where
+  -- sound tables, the order and index of build, and fresh stored values that a move of search variables leaves determined; the flags are lent
   pub record KeepAccepted (c : KeepLent) : Type 0 where
     pub sound : Sound t
-    pub grouped : Grouped t nums
     pub in-order : t .m ≤ length ord
     pub order-is : take (t .m) ord ≡ groupOrder t
     pub fresh : (v : ℕ) → v < t .n → storedFresh t (valuesIn t stored) v ≡ true

@@ -8,13 +8,11 @@ use lib.ListN.{length, take}
 use Rattle.paper.specs.Tables.{Tables, valuesIn}
 use Rattle.paper.specs.Checks.{Sound}
 use Rattle.paper.specs.Chains.{groupOrder, determined, storedFresh}
-use Rattle.chains.specs.Links.{Grouped}
 
-module _ (t : Tables) (nums ord : List ℕ) (stored : List ℤ) where
-  -- the numbers and the order are build's, the stored values passed check 21, and those of a begun trial row leave every variable determined
+module _ (t : Tables) (ord : List ℕ) (stored : List ℤ) where
+  -- the order is build's, the stored values passed check 21, and those of a begun trial row leave every variable determined
   pub record Running (trial : List ℤ) : Type 0 where
     pub sound : Sound t
-    pub grouped : Grouped t nums
     pub in-order : t .m ≤ length ord
     pub order-is : take (t .m) ord ≡ groupOrder t
     pub fresh : (v : ℕ) → v < t .n → storedFresh t (valuesIn t stored) v ≡ true

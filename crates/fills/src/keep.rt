@@ -1,5 +1,8 @@
 // What an accepted keep writes.
+ghost use mathlib.Core.Path.{_≡_};
 ghost use Rattle.paper.specs.Tables.{lent, indexIn};
+ghost use Rattle.paper.specs.Chains.{closes};
+ghost use Rattle.tables.specs.Makers.{Makers};
 ghost use Rattle.verdicts.specs.Lent.{toKeep};
 ghost use Rattle.fills.specs.Accepted.{KeepAccepted, KeepFilled};
 use crate::running::run_route;
@@ -7,7 +10,8 @@ use rows::copies::begin_route;
 use rows::copies::copy_values;
 use rows::steps::evaluations;
 
-// Works the move out by route 1 in a row of its own, stores the new values, and answers with the number of evaluations.
+// Works the move out by route 1 in a row of its own, stores the new values, and answers with the number of evaluations. `by` holds the makers, and `closed` says
+// whether some chain closes.
 pub fn fill_keep(
     n: usize,
     m: usize,
@@ -19,7 +23,8 @@ pub fn fill_keep(
     counts: &[u16],
     vars: &[u16],
     coefs: &[i16],
-    numbers: &[u16],
+    by: &[u16],
+    closed: bool,
     order: &[u16],
     stored: &mut [i32],
     reader_starts: &[u16],
@@ -29,7 +34,9 @@ pub fn fill_keep(
     move_values: &[i32],
     flags: &mut [u8],
 ) -> u32
-    requires { ⌜ KeepAccepted (lent n m e (now kinds) (now makes) (now params) (now firsts) (now counts) (now vars) (now coefs)) (now numbers) (now order) (indexIn (now «reader_starts») (now «reader_places»)) (now stored) (toKeep pairs (now «move_vars») (now «move_values») (now flags)) ⌝ }
+    requires { ⌜ KeepAccepted (lent n m e (now kinds) (now makes) (now params) (now firsts) (now counts) (now vars) (now coefs)) (now order) (indexIn (now «reader_starts») (now «reader_places»)) (now stored) (toKeep pairs (now «move_vars») (now «move_values») (now flags)) ⌝ }
+    requires makers { ⌜ Makers (lent n m e (now kinds) (now makes) (now params) (now firsts) (now counts) (now vars) (now coefs)) (now by) ⌝ }
+    requires closing { ⌜ closed ≡ closes (lent n m e (now kinds) (now makes) (now params) (now firsts) (now counts) (now vars) (now coefs)) ⌝ }
     ensures { λ r. ⌜ KeepFilled (lent n m e (now (kinds .entry)) (now (makes .entry)) (now (params .entry)) (now (firsts .entry)) (now (counts .entry)) (now (vars .entry)) (now (coefs .entry))) (now (stored .entry)) (toKeep pairs (now («move_vars» .entry)) (now («move_values» .entry)) (now (flags .entry))) r (now (stored .exit)) (now (flags .exit)) ⌝ }
 {
     let mut row = [0i32; 4096];
@@ -45,7 +52,8 @@ pub fn fill_keep(
         counts,
         vars,
         coefs,
-        numbers,
+        by,
+        closed,
         order,
         reader_starts,
         reader_places,

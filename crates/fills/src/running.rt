@@ -4,17 +4,18 @@ ghost use mathlib.Core.Path.{_≡_};
 ghost use lib.Dec.{ltb};
 ghost use Rattle.paper.specs.Lists.{all};
 ghost use Rattle.paper.specs.Tables.{lent};
+ghost use Rattle.paper.specs.Chains.{closes};
 ghost use Rattle.paper.specs.Calls.{routeOf};
+ghost use Rattle.tables.specs.Makers.{Makers};
 ghost use Rattle.index.specs.Index.{Indexed};
 ghost use Rattle.routes.specs.Routed.{Begun, Named, Routed};
 ghost use Rattle.fills.specs.Running.{Running};
-use chains::closed::some_closes;
 use closed_routes::followed::follow_route;
 use routes::input_to_output;
 use routes::mark_guided;
 use routes::output_to_input;
 
-// Works a begun move out by the route of that number: by following the choices where a chain closes. What is not 1, 2 or 3 is refused before, so the last arm is
+// Works a begun move out by the route of that number: by following the choices where `closed` says that some chain closes. What is not 1, 2 or 3 is refused before, so the last arm is
 // route 3.
 pub fn run_route(
     n: usize,
@@ -27,7 +28,8 @@ pub fn run_route(
     counts: &[u16],
     vars: &[u16],
     coefs: &[i16],
-    numbers: &[u16],
+    by: &[u16],
+    closed: bool,
     order: &[u16],
     reader_starts: &[u16],
     reader_places: &[u16],
@@ -38,14 +40,16 @@ pub fn run_route(
     trial: &mut [i32],
     flags: &mut [u8],
 )
-    requires running { ⌜ Running (lent n m e (now kinds) (now makes) (now params) (now firsts) (now counts) (now vars) (now coefs)) (now numbers) (now order) (now stored) (now trial) ⌝ }
+    requires running { ⌜ Running (lent n m e (now kinds) (now makes) (now params) (now firsts) (now counts) (now vars) (now coefs)) (now order) (now stored) (now trial) ⌝ }
+    requires closing { ⌜ closed ≡ closes (lent n m e (now kinds) (now makes) (now params) (now firsts) (now counts) (now vars) (now coefs)) ⌝ }
     requires index { ⌜ Indexed (lent n m e (now kinds) (now makes) (now params) (now firsts) (now counts) (now vars) (now coefs)) (now «reader_starts») (now «reader_places») ⌝ }
     requires named { ⌜ Named (lent n m e (now kinds) (now makes) (now params) (now firsts) (now counts) (now vars) (now coefs)) (now stored) (now trial) (now moves) ⌝ }
     requires begun { ⌜ Begun (lent n m e (now kinds) (now makes) (now params) (now firsts) (now counts) (now vars) (now coefs)) (now stored) (now trial) (now flags) ⌝ }
     requires asked { ⌜ all (λ v. ltb v n) (now asked) ≡ true ⌝ }
+    requires makers { ⌜ Makers (lent n m e (now kinds) (now makes) (now params) (now firsts) (now counts) (now vars) (now coefs)) (now by) ⌝ }
     ensures { λ _. ⌜ Routed (lent n m e (now (kinds .entry)) (now (makes .entry)) (now (params .entry)) (now (firsts .entry)) (now (counts .entry)) (now (vars .entry)) (now (coefs .entry))) (routeOf route) (now (stored .entry)) (now (trial .entry)) (now (flags .entry)) (now (asked .entry)) (now (trial .exit)) (now (flags .exit)) ⌝ }
 {
-    if some_closes(n, m, kinds, makes, firsts, counts, vars, numbers) {
+    if closed {
         follow_route(
             n,
             m,
@@ -57,6 +61,7 @@ pub fn run_route(
             counts,
             vars,
             coefs,
+            by,
             reader_starts,
             reader_places,
             moves,
@@ -99,6 +104,7 @@ pub fn run_route(
             counts,
             vars,
             coefs,
+            by,
             asked,
             stored,
             trial,
@@ -115,6 +121,7 @@ pub fn run_route(
             counts,
             vars,
             coefs,
+            by,
             reader_starts,
             reader_places,
             moves,

@@ -2,7 +2,9 @@
 ghost use mathlib.Core.List.{[]};
 ghost use mathlib.Core.Path.{_≡_};
 ghost use Rattle.paper.specs.Tables.{Tables, lent, indexIn};
+ghost use Rattle.paper.specs.Chains.{closes};
 ghost use Rattle.paper.specs.Calls.{TrialLent};
+ghost use Rattle.tables.specs.Makers.{Makers};
 ghost use Rattle.verdicts.specs.Lent.{toTry};
 ghost use Rattle.fills.specs.Accepted.{Trying, TrialFilled};
 use crate::running::run_route;
@@ -10,7 +12,7 @@ use rows::copies::begin_route;
 use rows::copies::copy_asked;
 use rows::steps::evaluations;
 
-// Works the move out in the trial row, and answers with the number of evaluations.
+// Works the move out in the trial row, and answers with the number of evaluations. `by` holds the makers, and `closed` says whether some chain closes.
 pub fn fill_trial(
     n: usize,
     m: usize,
@@ -22,7 +24,8 @@ pub fn fill_trial(
     counts: &[u16],
     vars: &[u16],
     coefs: &[i16],
-    numbers: &[u16],
+    by: &[u16],
+    closed: bool,
     order: &[u16],
     stored: &[i32],
     reader_starts: &[u16],
@@ -39,7 +42,9 @@ pub fn fill_trial(
 ) -> u32
     ghost { Tables × TrialLent }
     requires lent { λ w. ⌜ (lent n m e (now kinds) (now makes) (now params) (now firsts) (now counts) (now vars) (now coefs), toTry pairs (now «move_vars») (now «move_values») asked (now «asked_vars») route (now results) (now trial) (now flags) []) ≡ w ⌝ }
-    requires trying { λ (t, tried). ⌜ Trying t (now numbers) (now order) (indexIn (now «reader_starts») (now «reader_places»)) (now stored) tried ⌝ }
+    requires trying { λ (t, tried). ⌜ Trying t (now order) (indexIn (now «reader_starts») (now «reader_places»)) (now stored) tried ⌝ }
+    requires makers { λ (t, _). ⌜ Makers t (now by) ⌝ }
+    requires closing { λ (t, _). ⌜ closed ≡ closes t ⌝ }
     ensures { λ (t, tried) r. ⌜ TrialFilled t (now (stored .entry)) tried r (now (results .exit)) (now (trial .exit)) (now (flags .exit)) ⌝ }
 {
     begin_route(n, stored, pairs, move_vars, move_values, trial, flags);
@@ -55,7 +60,8 @@ pub fn fill_trial(
         counts,
         vars,
         coefs,
-        numbers,
+        by,
+        closed,
         order,
         reader_starts,
         reader_places,

@@ -1,13 +1,15 @@
 -- A row's inputs place by place. Assumes nothing.
 use Prim.Native.Nat.{ℕ, zero, suc, _+_, _≤_, _<_}
 use native.Mathlib.Omega.{arith}
+use mathlib.Core.Bool.{_||_, or-false, or-assoc}
 use mathlib.Core.List.{List, [], _∷_}
 use mathlib.Core.Path.{_≡_, refl, ap, sym, _∙_}
 use lib.IntN.{ℤ, pos}
 use lib.ListN.{length, getD, take, drop, length-map, drop-of-length-le}
 use lib.Seq.{take-all}
+use Rattle.integers.specs.Integers.{eqZ}
 use Rattle.paper.specs.Lists.{nat}
-use Rattle.paper.specs.Formula.{blank, inputAt}
+use Rattle.paper.specs.Formula.{blank, inputAt, someBlank}
 use Rattle.paper.proofs.Buffers.{Filled, below-list}
 use Rattle.paper.proofs.Scan.{next}
 use Rattle.formulas.specs.Inputs.{inputs}
@@ -32,3 +34,18 @@ pub inputs-at : (vars : List ℕ) (values : List ℤ) (i : ℕ) → i < length v
 inputs-at [] values i h = absurd (omega arith)
 inputs-at (v ∷ vars) values zero h = refl
 inputs-at (v ∷ vars) values (suc i) h = inputs-at vars values i (omega arith)
+
+-- ── whether one of two or of three is blank ──
+pub two-blank : (vars : List ℕ) (values : List ℤ) → length vars ≡ 2
+    → let xs = inputs vars values in (eqZ (inputAt xs 0) blank || eqZ (inputAt xs 1) blank) ≡ someBlank xs
+two-blank [] values e = absurd (omega arith)
+two-blank (v ∷ []) values e = absurd (omega arith)
+two-blank (v ∷ w ∷ []) values e = ap (eqZ (getD values v (pos 0)) blank ||_) (sym (or-false _))
+two-blank (v ∷ w ∷ u ∷ vars) values e = absurd (omega arith)
+
+pub three-blank : (vars : List ℕ) (values : List ℤ) → length vars ≡ 3
+    → let xs = inputs vars values in ((eqZ (inputAt xs 0) blank || eqZ (inputAt xs 1) blank) || eqZ (inputAt xs 2) blank) ≡ someBlank xs
+three-blank [] values e = absurd (omega arith)
+three-blank (v ∷ vars) values e = let two : length vars ≡ 2 = omega arith in
+    let xs = inputs vars values in
+    or-assoc (eqZ (getD values v (pos 0)) blank) (eqZ (inputAt xs 0) blank) (eqZ (inputAt xs 1) blank) ∙ ap (eqZ (getD values v (pos 0)) blank ||_) (two-blank vars values two)

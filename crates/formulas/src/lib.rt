@@ -1,5 +1,6 @@
 // The nine formulas over a part of the lent entries and the lent row of values.
 pub mod blanks;
+mod buckets;
 mod element;
 pub mod extremes;
 pub mod inputs;

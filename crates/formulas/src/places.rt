@@ -5,21 +5,12 @@ ghost use lib.IntN.{pos};
 ghost use lib.ListN.{length};
 ghost use Rattle.paper.specs.Formula as Formula;
 ghost use Rattle.formulas.specs.Inputs.{inputs, unlessBlank, Within};
+use crate::blanks::BLANK;
+use crate::blanks::blanks_among;
+use crate::buckets::sharing_places;
 use crate::inputs::copy_inputs;
 use crate::inputs::places;
 use crate::inputs::unless_blank;
-use crate::shares::sharing_places;
-
-// How many places hold a value that another place also holds.
-fn sharing(vars: &[u16], values: &[i32]) -> usize
-    requires { ⌜ length (now vars) ≤ 256 ⌝ }
-    requires { ⌜ Within (now vars) (now values) ⌝ }
-    ensures { λ r. ⌜ r ≡ Formula.sharing (inputs (now (vars .entry)) (now (values .entry))) ⌝ }
-{
-    let mut held = [0i32; 256];
-    copy_inputs(vars, values, &mut held);
-    sharing_places(&held[..vars.len()])
-}
 
 // A number of places as the result of a formula.
 fn counted(n: usize, vars: &[u16], values: &[i32]) -> i32
@@ -36,7 +27,12 @@ pub fn shared(vars: &[u16], values: &[i32]) -> i32
     requires { ⌜ Within (now vars) (now values) ⌝ }
     ensures { λ r. ⌜ r ≡ unlessBlank (λ xs. pos (Formula.sharing xs)) (inputs (now (vars .entry)) (now (values .entry))) ⌝ }
 {
-    counted(sharing(vars, values), vars, values)
+    let mut held = [0i32; 256];
+    copy_inputs(vars, values, &mut held);
+    if blanks_among(vars.len(), &held) != 0 {
+        return BLANK;
+    }
+    sharing_places(&held[..vars.len()]) as i32
 }
 
 // COUNT: how many inputs equal the parameter.

@@ -117,7 +117,7 @@ fn last_places(before: usize, first: usize, held: &[i32], marks: &mut [u32]) -> 
 }
 
 // How many of these places hold a value that another of them also holds.
-pub fn sharing_places(held: &[i32]) -> usize
+pub fn sharing_pairs(held: &[i32]) -> usize
     requires { ⌜ length (now held) ≤ 256 ⌝ }
     ensures { λ r. ⌜ r ≡ Formula.sharing (now (held .entry)) ⌝ }
 {

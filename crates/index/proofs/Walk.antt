@@ -4,35 +4,54 @@ use Prim.Native.Nat.{ℕ, zero, suc, _+_, _≤_, _<_}
 use native.Mathlib.Nat.{lt-irrefl, not-suc-le-zero}
 use native.Mathlib.Numerals.{add-one}
 use native.Mathlib.Omega.{arith}
-use mathlib.Core.Bool.{Bool, true, false, cond, _&&_}
+use mathlib.Core.Bool.{Bool, true, false, cond, _&&_, false≢true}
 use mathlib.Core.List.{List, [], _∷_, _++_, List·Memᴰ}
+use mathlib.Core.Logic.{_≢_}
 use mathlib.Core.Path.{_≡_, refl, ap, ap₂, sym, _∙_, subst}
 use lib.Dec.{eqb, ltb}
-use lib.ListN.{length, take, length-append, List·getD-append}
+use lib.ListN.{length, take, set, length-append, List·getD-append}
 use lib.Seq.{getD-take, length-take-le, getD-append-seam}
-use borrow.Author.Tests.{ltb-true, ltb-false, eqb-true, eq-eqb, lt-ltb}
-use Rattle.paper.specs.Lists.{all, nat, those, allBelow, over}
+use borrow.Author.Tests.{ltb-true, ltb-false, eqb-true, eqb-false, eq-eqb, lt-ltb}
+use Rattle.paper.specs.Lists.{all, nat, those, allBelow}
 use Rattle.paper.specs.Tables.{Tables, Index, indexIn, part, reads, readers, readersStart}
 use Rattle.paper.specs.Checks.{indexed}
 use Rattle.paper.proofs.Lists.{clash, and-left, and-right, all-in, all-of, all-places, any-has, any-in, eqb-self}
 use Rattle.paper.proofs.Those.{joined-grown}
 use Rattle.paper.proofs.Least.{allBelow-at, below-all}
-use Rattle.paper.proofs.Buffers.{over-at, over-length}
 use Rattle.paper.proofs.Sections.{those-place}
 use Rattle.paper.proofs.Indexed.{readers-within, indexed-start, indexed-place, indexed-from}
-use Rattle.order.specs.Numbering.{Clean}
-use Rattle.index.specs.Walk.{rowAt, Untried, GoneOn, RowTried, endsMeet}
+use Rattle.order.specs.Numbering.{above}
+use Rattle.index.specs.Walk.{rowAt, placeIn, foundFrom, behind, stands, Begun, Untried, GoneOn, RowTried, endsMeet, RowsWalked}
 use Rattle.index.specs.Index.{EntriesLaid}
 use Rattle.index.proofs.Parts.{part-long, entry-low}
 use Rattle.index.proofs.Few.{readers-few}
+use Rattle.index.proofs.Tried.{put}
+
+-- ── the cells as they begin ──
+module _ (starts cells : List ℕ) where
+  pub begun-start : Begun 0 starts cells
+  begun-start = record { at = λ v l. absurd (not-suc-le-zero l); none = λ v l. absurd (not-suc-le-zero l) }
+
+  pub begun-next : (k : ℕ) → Begun k starts cells → k < length cells → (x : ℕ) → x ≡ nat starts k → x < 65536 → Begun (k + 1) starts (set cells k x)
+  begun-next k B h x e s = record { at = λ v l. at v l (eqb v k) refl; none = λ v l. none v l (eqb v k) refl }
+    where
+      at : (v : ℕ) → v < k + 1 → (b : Bool) → eqb v k ≡ b → placeIn (nat (set cells k x) v) ≡ nat starts v
+      at v l true q = let p = put cells k x v h ∙ ap (λ b. cond b x (nat cells v)) q in let z = e ∙ ap (nat starts) (sym (eqb-true v k q)) in omega arith
+      at v l false q = let n = eqb-false v k q in ap placeIn (put cells k x v h ∙ ap (λ b. cond b x (nat cells v)) q) ∙ B .at v (omega arith)
+
+      none : (v : ℕ) → v < k + 1 → (b : Bool) → eqb v k ≡ b → nat (set cells k x) v < 65536
+      none v l true q = let p = put cells k x v h ∙ ap (λ b. cond b x (nat cells v)) q in omega arith
+      none v l false q = let n = eqb-false v k q in let p = put cells k x v h ∙ ap (λ b. cond b x (nat cells v)) q in let i = B .none v (omega arith) in omega arith
+
+  pub begun-end : (k n : ℕ) → Begun k starts cells → k ≡ n → Begun n starts cells
+  begun-end k n B e = rw (← e) B
 
 -- the first k rows stand where they are to among the places that build may fill
-pub record Walked (t : Tables) (starts filled : List ℕ) (k : ℕ) (reached last : List ℕ) : Type 0 where
-  pub reached-long : t .n ≤ length reached
-  pub last-long : t .n ≤ length last
-  pub on : (v : ℕ) → v < t .n → nat reached v ≡ nat starts v + length (those (reads t v) k)
+pub record Walked (t : Tables) (starts filled : List ℕ) (k : ℕ) (cells : List ℕ) : Type 0 where
+  pub long : t .n ≤ length cells
+  pub on : (v : ℕ) → v < t .n → placeIn (nat cells v) ≡ nat starts v + length (those (reads t v) k)
   pub at : (v j : ℕ) → v < t .n → j < length (those (reads t v) k) → rowAt (nat (those (reads t v) k) j) filled (nat starts v + j) ≡ true
-  pub low : (v : ℕ) → nat last v ≤ k
+  pub low : (v : ℕ) → v < t .n → nat cells v < foundFrom k
 
 module _ (t : Tables) (L : EntriesLaid t) (starts places : List ℕ) (room : t .e ≤ length places) where
   abbrev lentIndex : Index
@@ -45,31 +64,30 @@ module _ (t : Tables) (L : EntriesLaid t) (starts places : List ℕ) (room : t .
   abbrev before : ℕ → ℕ → List ℕ
   before k v = those (reads t v) k
 
-  pub walked-start : (reached₀ reached last : List ℕ) → Clean (t .n) reached₀ → Clean (t .n) last → reached ≡ over (t .n) (nat starts) reached₀ → Walked t starts filled 0 reached last
-  walked-start reached₀ reached last C D e = record {
-    reached-long = let a = ap length e ∙ over-length (nat starts) (t .n) reached₀ (C .long) in let c = C .long in omega arith;
-    last-long = D .long;
-    on = λ v l. let a = ap (λ (x : List ℕ). nat x v) e ∙ over-at (nat starts) (t .n) reached₀ v 0 l in omega arith;
+  pub walked-start : (cells : List ℕ) → t .n ≤ length cells → Begun (t .n) starts cells → Walked t starts filled 0 cells
+  walked-start cells long B = record {
+    long = long;
+    on = λ v l. let a = B .at v l in omega arith;
     at = λ v j l h. absurd (not-suc-le-zero h);
-    low = λ v. let z = D .at v in omega arith;
+    low = λ v l. let a = B .none v l in omega arith;
   }
 
-  module _ (k : ℕ) (reached last : List ℕ) (W : Walked t starts filled k reached last) (l : k < t .m) where
+  module _ (k : ℕ) (cells : List ℕ) (W : Walked t starts filled k cells) (l : k < t .m) where
     abbrev inputs : List ℕ
     inputs = part t k (t .vars)
 
     abbrev good : ℕ → Bool
-    good v = rowAt k filled (nat reached v)
+    good = stands k filled cells
 
-    pub walked-untried : (part′ : List ℕ) → part′ ≡ inputs → Untried k part′ filled reached last
-    walked-untried part′ e =
+    pub walked-untried : (nums part′ : List ℕ) → t .n ≤ length nums → part′ ≡ inputs → Untried k part′ nums filled cells
+    walked-untried nums part′ numbers e =
         let n = L .few in let m = L .rows in
         record {
           row = omega arith;
           room = let a = length-take-le (t .e) places room in let e = L .small in omega arith;
-          in-reached = λ i h. let b = low i h in let k = W .reached-long in omega arith;
-          in-last = λ i h. let b = low i h in let k = W .last-long in omega arith;
-          not-found = W .low;
+          in-nums = λ i h. let b = low i h in omega arith;
+          in-cells = λ i h. let b = low i h in let k = W .long in omega arith;
+          not-found = λ i h. W .low (nat part′ i) (low i h);
         }
       where
         low : (i : ℕ) → i < length part′ → nat part′ i < t .n
@@ -78,19 +96,32 @@ module _ (t : Tables) (L : EntriesLaid t) (starts places : List ℕ) (room : t .
             omega arith
 
     -- ── the row stands behind them ──
-    row-next : all good inputs ≡ true → (reached′ last′ : List ℕ) → GoneOn k inputs reached last reached′ last′ → Walked t starts filled (k + 1) reached′ last′
-    row-next ok reached′ last′ P = rw (add-one k) (record {
-      reached-long = let a = P .reached-long in let b = W .reached-long in omega arith;
-      last-long = let a = P .last-long in let b = W .last-long in omega arith;
-      on = λ v h. on v (reads t v k) (P .on v) (W .on v h);
+    row-next : all good inputs ≡ true → (cells′ : List ℕ) → GoneOn k inputs cells cells′ → Walked t starts filled (k + 1) cells′
+    row-next ok cells′ P = rw (add-one k) (record {
+      long = let a = P .long in let b = W .long in omega arith;
+      on = λ v h. on v h (reads t v k) refl (P .on v);
       at = λ v j h. at v j h (ltb j (length (before k v))) refl (reads t v k) refl;
-      low = λ v. low v (reads t v k) (P .at v);
+      low = λ v h. low v h (reads t v k) refl (P .on v);
     })
       where
-        on : (v : ℕ) (b : Bool) → nat reached′ v ≡ nat reached v + cond b 1 0 → nat reached v ≡ nat starts v + length (before k v)
-            → nat reached′ v ≡ nat starts v + length (before k v ++ cond b (k ∷ []) [])
-        on v true p q = let a = length-append (before k v) (k ∷ []) in omega arith
-        on v false p q = let a = length-append (before k v) [] in omega arith
+        -- an input's readers have reached a place that build may fill
+        good-at : (v : ℕ) → reads t v k ≡ true → good v ≡ true
+        good-at v e =
+            let (u, m, w) = any-has (eqb v) inputs e in
+            all-in good inputs ok (subst (λ x. List·Memᴰ x inputs) (sym (eqb-true v u w)) m)
+
+        small : (v : ℕ) → reads t v k ≡ true → placeIn (nat cells v) < 16384
+        small v e =
+            let at = placeIn (nat cells v) in let s = L .small in let f = length-take-le (t .e) places room in
+            let g = ltb-true at (length filled) (and-left (ltb at (length filled)) (eqb (nat filled at) k) (good-at v e)) in
+            omega arith
+
+        on : (v : ℕ) → v < t .n → (b : Bool) → reads t v k ≡ b → nat cells′ v ≡ cond b (behind k cells v) (nat cells v)
+            → placeIn (nat cells′ v) ≡ nat starts v + length (before k v ++ cond b (k ∷ []) [])
+        on v h true q p =
+            let a = length-append (before k v) (k ∷ []) in let w = W .on v h in let s = small v q in
+            omega arith
+        on v h false q p = let a = length-append (before k v) [] in let w = W .on v h in omega arith
 
         at : (v j : ℕ) → v < t .n → (c : Bool) → ltb j (length (before k v)) ≡ c → (b : Bool) → reads t v k ≡ b → j < length (before k v ++ cond b (k ∷ []) [])
             → rowAt (nat (before k v ++ cond b (k ∷ []) []) j) filled (nat starts v + j) ≡ true
@@ -100,16 +131,14 @@ module _ (t : Tables) (L : EntriesLaid t) (starts places : List ℕ) (room : t .
         at v j h false q true e s =
             let i = ltb-false j (length (before k v)) q in let a = length-append (before k v) (k ∷ []) in
             let z : j ≡ length (before k v) = omega arith in
-            let (u, m, w) = any-has (eqb v) inputs e in
-            let g = all-in good inputs ok (subst (λ x. List·Memᴰ x inputs) (sym (eqb-true v u w)) m) in
-            rw z (ap₂ (λ r p. rowAt r filled p) (getD-append-seam (before k v) k [] 0) (sym (W .on v h)) ∙ g)
+            rw z (ap₂ (λ r p. rowAt r filled p) (getD-append-seam (before k v) k [] 0) (sym (W .on v h)) ∙ good-at v e)
         at v j h false q false e s =
             let i = ltb-false j (length (before k v)) q in let a = length-append (before k v) [] in
             absurd (lt-irrefl j (omega arith))
 
-        low : (v : ℕ) (b : Bool) → nat last′ v ≡ cond b (k + 1) (nat last v) → nat last′ v ≤ suc k
-        low v true e = omega arith
-        low v false e = let a = W .low v in omega arith
+        low : (v : ℕ) → v < t .n → (b : Bool) → reads t v k ≡ b → nat cells′ v ≡ cond b (behind k cells v) (nat cells v) → nat cells′ v < foundFrom (suc k)
+        low v h true q e = let s = small v q in omega arith
+        low v h false q e = let a = W .low v h in omega arith
 
     -- ── or the index is not build's ──
     next-good : indexed t lentIndex ≡ true → (v : ℕ) → List·Memᴰ v inputs → v < t .n → good v ≡ true
@@ -117,11 +146,12 @@ module _ (t : Tables) (L : EntriesLaid t) (starts places : List ℕ) (room : t .
         let (less, is) = those-place (reads t v) k (t .m) l (any-in (eqb v) inputs m (eqb-self v)) in
         let start = indexed-start t lentIndex ok v (omega arith) in let r = W .on v low in
         let within = readers-within t v (length (before k v)) low less in let few = readers-few t L in
-        let here : nat reached v ≡ readersStart t v + length (before k v) = omega arith in
+        let at = placeIn (nat cells v) in
+        let here : at ≡ readersStart t v + length (before k v) = omega arith in
         ap₂ _&&_
-        (lt-ltb (nat reached v) (length filled) (let a = length-take-le (t .e) places room in omega arith))
-        (eq-eqb (nat filled (nat reached v)) k
-        (getD-take (t .e) places (nat reached v) 0 (omega arith) ∙ ap (nat places) here ∙ indexed-place t lentIndex ok v (length (before k v)) low less ∙ is))
+        (lt-ltb at (length filled) (let a = length-take-le (t .e) places room in omega arith))
+        (eq-eqb (nat filled at) k
+        (getD-take (t .e) places at 0 (omega arith) ∙ ap (nat places) here ∙ indexed-place t lentIndex ok v (length (before k v)) low less ∙ is))
 
     inputs-low : (v : ℕ) → List·Memᴰ v inputs → v < t .n
     inputs-low v m =
@@ -136,30 +166,57 @@ module _ (t : Tables) (L : EntriesLaid t) (starts places : List ℕ) (room : t .
         go false ok = refl
 
     -- ── the row has been tried ──
-    module _ (part′ reached′ last′ : List ℕ) (e : part′ ≡ inputs) {b : Bool} (T : RowTried k part′ filled reached last reached′ last′ b) where
-      tried : RowTried k inputs filled reached last reached′ last′ b
-      tried = subst (λ (p : List ℕ). RowTried k p filled reached last reached′ last′ b) e T
+    module _ (nums part′ cells′ : List ℕ) (e : part′ ≡ inputs) {d : ℕ} (T : RowTried k part′ nums filled cells cells′ d) (some : 1 ≤ nat (t .counts) k) where
+      abbrev asked : ℕ
+      asked = above (nat nums) inputs
 
-      pub walked-next : b ≡ true → Walked t starts filled (k + 1) reached′ last′
-      walked-next h = row-next (sym (tried .is) ∙ h) reached′ last′ (tried .passed h)
+      is : d ≡ cond (all good inputs) asked 0
+      is = subst (λ (p : List ℕ). RowTried k p nums filled cells cells′ d) e T .is
 
-      pub walked-stop : b ≡ false → false ≡ indexed t lentIndex
-      walked-stop h = row-stop (sym h ∙ tried .is)
+      -- some number is due from inputs, so that 0 is due only where the row does not stand
+      asks : 1 ≤ asked
+      asks = go inputs (part-long t L k l)
+        where
+          go : (p : List ℕ) → length p ≡ nat (t .counts) k → 1 ≤ above (nat nums) p
+          go [] h = absurd (lt-irrefl 0 (omega arith))
+          go (x ∷ xs) h = omega arith
+
+      pub walked-next : d ≢ 0 → Walked t starts filled (k + 1) cells′
+      walked-next h = go (all good inputs) refl
+        where
+          go : (b : Bool) → all good inputs ≡ b → Walked t starts filled (k + 1) cells′
+          go true q = row-next q cells′ (subst (λ (p : List ℕ). GoneOn k p cells cells′) e (T .passed (let z = is ∙ ap (λ b. cond b asked 0) q in let a = asks in omega arith)))
+          go false q = absurd (h (is ∙ ap (λ b. cond b asked 0) q))
+
+      pub walked-stop : d ≡ 0 → false ≡ indexed t lentIndex
+      walked-stop h = go (all good inputs) refl
+        where
+          go : (b : Bool) → all good inputs ≡ b → false ≡ indexed t lentIndex
+          go true q = absurd (lt-irrefl 0 (let z = is ∙ ap (λ b. cond b asked 0) q in let a = asks in omega arith))
+          go false q = row-stop (sym q)
+
+      -- what was found due is what the paper asks of what the row makes
+      pub due-is : d ≢ 0 → d ≡ asked
+      due-is h = go (all good inputs) refl
+        where
+          go : (b : Bool) → all good inputs ≡ b → d ≡ asked
+          go true q = is ∙ ap (λ b. cond b asked 0) q
+          go false q = absurd (h (is ∙ ap (λ b. cond b asked 0) q))
 
   -- ── all rows ──
-  module _ (reached last : List ℕ) (W : Walked t starts filled (t .m) reached last) where
+  module _ (cells : List ℕ) (W : Walked t starts filled (t .m) cells) where
     abbrev meets : ℕ → Bool
-    meets v = eqb (nat reached v) (nat starts (v + 1))
+    meets v = eqb (placeIn (nat cells v)) (nat starts (v + 1))
 
     -- the starts follow from the ends
-    closed-start : endsMeet (t .n) starts reached ≡ true → (v : ℕ) → v ≤ t .n → nat starts v ≡ readersStart t v
+    closed-start : endsMeet (t .n) starts cells ≡ true → (v : ℕ) → v ≤ t .n → nat starts v ≡ readersStart t v
     closed-start ok zero l = eqb-true (nat starts 0) 0 (and-right (allBelow meets (t .n)) (eqb (nat starts 0) 0) ok)
     closed-start ok (suc v) l =
         let i = closed-start ok v (omega arith) in let s = joined-grown (readers t) v in let w = W .on v l in
-        let e = eqb-true (nat reached v) (nat starts (v + 1)) (allBelow-at meets (t .n) (and-left (allBelow meets (t .n)) (eqb (nat starts 0) 0) ok) v l) ∙ ap (nat starts) (add-one v) in
+        let e = eqb-true (placeIn (nat cells v)) (nat starts (v + 1)) (allBelow-at meets (t .n) (and-left (allBelow meets (t .n)) (eqb (nat starts 0) 0) ok) v l) ∙ ap (nat starts) (add-one v) in
         omega arith
 
-    closed-indexed : endsMeet (t .n) starts reached ≡ true → indexed t lentIndex ≡ true
+    closed-indexed : endsMeet (t .n) starts cells ≡ true → indexed t lentIndex ≡ true
     closed-indexed ok = indexed-from t lentIndex (closed-start ok) (λ v j l h.
         let at = nat starts v + j in let r = nat (readers t v) j in let w = W .at v j l h in
         let low = ltb-true at (length filled) (and-left (ltb at (length filled)) (eqb (nat filled at) r) w) in
@@ -167,7 +224,7 @@ module _ (t : Tables) (L : EntriesLaid t) (starts places : List ℕ) (room : t .
         ap (λ p. nat places (p + j)) (sym (closed-start ok v (omega arith)))
         ∙ sym (getD-take (t .e) places at 0 (omega arith)) ∙ eqb-true (nat filled at) r (and-right (ltb at (length filled)) (eqb (nat filled at) r) w))
 
-    indexed-closed : indexed t lentIndex ≡ true → endsMeet (t .n) starts reached ≡ true
+    indexed-closed : indexed t lentIndex ≡ true → endsMeet (t .n) starts cells ≡ true
     indexed-closed ok = ap₂ _&&_ (below-all meets (t .n) ends) (eq-eqb (nat starts 0) 0 (start 0 (omega arith)))
       where
         start : (v : ℕ) → v ≤ t .n → nat starts v ≡ readersStart t v
@@ -176,15 +233,19 @@ module _ (t : Tables) (L : EntriesLaid t) (starts places : List ℕ) (room : t .
         ends : (v : ℕ) → v < t .n → meets v ≡ true
         ends v l =
             let a = start v (omega arith) in let b = ap (nat starts) (add-one v) ∙ start (suc v) l in let s = joined-grown (readers t) v in let w = W .on v l in
-            eq-eqb (nat reached v) (nat starts (v + 1)) (omega arith)
+            eq-eqb (placeIn (nat cells v)) (nat starts (v + 1)) (omega arith)
 
-    closed-is : endsMeet (t .n) starts reached ≡ indexed t lentIndex
-    closed-is = go (endsMeet (t .n) starts reached) refl (indexed t lentIndex) refl
+    closed-is : endsMeet (t .n) starts cells ≡ indexed t lentIndex
+    closed-is = go (endsMeet (t .n) starts cells) refl (indexed t lentIndex) refl
       where
-        go : (a : Bool) → endsMeet (t .n) starts reached ≡ a → (b : Bool) → indexed t lentIndex ≡ b → a ≡ b
+        go : (a : Bool) → endsMeet (t .n) starts cells ≡ a → (b : Bool) → indexed t lentIndex ≡ b → a ≡ b
         go true p b q = sym (closed-indexed p) ∙ q
         go false p true q = clash (indexed-closed q) p
         go false p false q = refl
 
-  pub walked-end : (k : ℕ) (reached last : List ℕ) → Walked t starts filled k reached last → k ≡ t .m → endsMeet (t .n) starts reached ≡ indexed t lentIndex
-  walked-end k reached last W e = closed-is reached last (subst (λ j. Walked t starts filled j reached last) e W)
+  pub walked-end : (k : ℕ) (cells : List ℕ) → Walked t starts filled k cells → k ≡ t .m → endsMeet (t .n) starts cells ≡ indexed t lentIndex
+  walked-end k cells W e = closed-is cells (subst (λ j. Walked t starts filled j cells) e W)
+
+-- ── a row that does not stand decides ──
+pub rows-stopped : (t u : Tables) (nums starts places : List ℕ) → false ≡ indexed t (indexIn starts places) → RowsWalked t u nums starts places (record { indexed = false; due = false })
+rows-stopped t u nums starts places e = record { index = e; numbers = λ h. absurd (false≢true h) }

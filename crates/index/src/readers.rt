@@ -3,5 +3,6 @@ mod right;
 mod rows;
 mod write;
 
-pub use right::readers_right;
+pub use right::Held;
+pub use right::rows_right;
 pub use write::write_readers;

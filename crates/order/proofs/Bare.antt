@@ -5,7 +5,7 @@ use mathlib.Core.Path.{_≡_, refl}
 use Prim.Native.Nat.{ℕ}
 use Rattle.paper.specs.Tables.{Tables, net, rowOf, ends}
 use Rattle.paper.specs.Checks.{Sound}
-use Rattle.paper.specs.Straight.{number, numbered}
+use Rattle.paper.proofs.Straight.{number, numbered}
 use Rattle.paper.proofs.Sizes.{sized-facts}
 use Rattle.paper.proofs.Accept.{sound-row, row-of, made-by, made-below, inputs-below}
 use Rattle.tables.specs.Makers.{Makers}

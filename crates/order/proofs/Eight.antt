@@ -5,19 +5,18 @@ use native.Mathlib.Nat.{not-suc-le-zero, lt-irrefl}
 use native.Mathlib.Omega.{arith}
 use mathlib.Core.Bool.{Bool, true, false, cond, _&&_}
 use mathlib.Core.List.{List, [], _∷_, map, List·Memᴰ, List·Memᴰ·head, List·Memᴰ·tail, List·Memᴰ·not-nil}
-use mathlib.Core.Logic.{inl, inr, _≢_}
+use mathlib.Core.Logic.{inl, inr}
 use mathlib.Core.Path.{_≡_, refl, ap, ap₂, sym, _∙_, subst}
 use lib.Dec.{ltb}
 use lib.ListN.{length, take, List·getD-eq-default}
 use lib.Seq.{getD-take, length-take-le}
-use borrow.Author.Tests.{ltb-true, ltb-false, leb-true, eqb-true, eq-eqb, ne-eqb, lt-ltb, le-leb}
+use borrow.Author.Tests.{ltb-true, ltb-false, leb-true, eqb-true, eq-eqb, lt-ltb, le-leb}
 use Rattle.paper.specs.Lists.{greatest, nat, allBelow}
 use Rattle.paper.specs.Net.{able}
-use Rattle.paper.specs.Tables.{Tables, part, isMade, inputsOf, net}
-use Rattle.paper.specs.Straight.{numbering, number, order, numbered}
-use Rattle.paper.proofs.Lists.{clash, and-left, and-right, all-of, all-at}
+use Rattle.paper.specs.Tables.{Tables, isMade, inputsOf, net}
+use Rattle.paper.proofs.Straight.{numbering, number, order, numbered}
+use Rattle.paper.proofs.Lists.{and-left, and-right, all-of, all-at}
 use Rattle.paper.proofs.Least.{allBelow-at, below-all}
-use Rattle.paper.proofs.Scan.{Scan, scan-next}
 use Rattle.paper.proofs.Lawful.{lawful}
 use Rattle.paper.proofs.Numbers.{Numbers, numbering-local, number-right, numbers-unique}
 use Rattle.paper.proofs.Circle.{numbers-end, ends-everywhere}
@@ -26,43 +25,24 @@ use Rattle.paper.proofs.Eight.{numbered-ends, numbered-numbers, numbered-order,
 use Rattle.tables.specs.Makers.{Makers}
 use Rattle.order.specs.Formed.{Formed}
 use Rattle.order.specs.Ascent.{rankOf, floor, risesAt}
-use Rattle.order.proofs.Climbs.{fails-here}
 use Rattle.order.specs.Numbering.{above, searchedRight, madeRight}
-use Rattle.order.proofs.ByRows.{rightAt, iff, by-rows}
+use Rattle.order.proofs.ByRows.{rightAt, iff, at-all, made-of, searched-of}
 use Rattle.order.proofs.Sweeps.{numbering-above}
 
 -- ── the number that the inputs' numbers ask: those in `left` are still to be looked at ──
-pub record Asking (n : ℕ) (f : ℕ → ℕ) (inputs left : List ℕ) (best : ℕ) : Type 0 where
-  pub below : (w : ℕ) → List·Memᴰ w left → w < n
+pub record Asking (f : ℕ → ℕ) (inputs left : List ℕ) (best : ℕ) : Type 0 where
   pub small : best ≤ 65536
   pub all : max best (above f left) ≡ above f inputs
 
-module _ (n : ℕ) (f : ℕ → ℕ) (inputs : List ℕ) where
-  pub asking-start : (left : List ℕ) → left ≡ inputs → ((w : ℕ) → List·Memᴰ w inputs → w < n) → Asking n f inputs left 0
-  asking-start left e h = rw e (record { below = h; small = omega arith; all = omega arith })
+module _ (f : ℕ → ℕ) (inputs : List ℕ) where
+  pub asking-start : Asking f inputs inputs 0
+  asking-start = record { small = omega arith; all = omega arith }
 
-  pub asking-end : (left : List ℕ) (best : ℕ) → Asking n f inputs left best → left ≡ [] → best ≡ above f inputs
+  pub asking-end : (left : List ℕ) (best : ℕ) → Asking f inputs left best → left ≡ [] → best ≡ above f inputs
   asking-end left best A e = let h = rw e at (A .all) in omega arith
 
-  module _ (left more : List ℕ) (best w : ℕ) (A : Asking n f inputs left best) (e : left ≡ w ∷ more) where
-    pub asked-below : w < n
-    asked-below = A .below w (subst (List·Memᴰ w) (sym e) (List·Memᴰ·head refl))
-
-    pub asking-next : (x b : ℕ) → x ≡ f w → x < 65536 → b ≡ max best (x + 1) → Asking n f inputs more b
-    asking-next x b p l q = record {
-      below = λ u m. A .below u (subst (List·Memᴰ u) (sym e) (List·Memᴰ·tail m));
-      small = let s = A .small in omega arith;
-      all = let h = rw e at (A .all) in omega arith;
-    }
-
--- ── the pass over the rows ──
-module _ (t : Tables) (nums : List ℕ) (r x y : ℕ) (S : Scan (madeRight t nums) (t .m) r) (l : r < t .m) (ex : x ≡ nat nums (nat (t .makes) r))
-    (ey : y ≡ above (nat nums) (part t r (t .vars))) where
-  pub right-next : x ≡ y → Scan (madeRight t nums) (t .m) (r + 1)
-  right-next e = scan-next (madeRight t nums) (t .m) r S l (eq-eqb (nat nums (nat (t .makes) r)) (above (nat nums) (part t r (t .vars))) (sym ex ∙ e ∙ ey))
-
-  pub wrong-here : x ≢ y → false ≡ allBelow (madeRight t nums) (t .m)
-  wrong-here ne = fails-here (madeRight t nums) (t .m) r S l (ne-eqb (nat nums (nat (t .makes) r)) (above (nat nums) (part t r (t .vars))) (λ e. ne (ex ∙ e ∙ sym ey)))
+  pub asking-next : (left more : List ℕ) (best w : ℕ) → Asking f inputs left best → left ≡ w ∷ more → (x b : ℕ) → x ≡ f w → x < 65536 → b ≡ max best (x + 1) → Asking f inputs more b
+  asking-next left more best w A e x b p l q = record { small = let s = A .small in omega arith; all = let h = rw e at (A .all) in omega arith }
 
 -- ── neighbours ──
 index-of : {w : ℕ} (l : List ℕ) → List·Memᴰ w l → (j : ℕ) × (j < length l) × (w ≡ nat l j)
@@ -179,33 +159,30 @@ module _ (t : Tables) (F : Formed t) (nums ord : List ℕ) (long : t .n ≤ leng
             omega arith
 
   -- ── both ──
-  passes : allBelow (rightAt (inputsOf t) nums) (t .n) ≡ true → allBelow (risesAt (rankOf (t .makes) nums) (t .m) ord) (t .m) ≡ numbered t nums ord
-  passes e =
-      let right = allBelow-at (rightAt (inputsOf t) nums) (t .n) e in
-      iff (allBelow (risesAt (rankOf (t .makes) nums) (t .m) ord) (t .m)) (numbered t nums ord)
-      (λ q. numbered-of t nums ord (λ v l. ends-all right v) (numbers-are right)
-      (order-is (numbers-are right) (allBelow-at (risesAt (rankOf (t .makes) nums) (t .m) ord) (t .m) q)))
-      (λ q. below-all (risesAt (rankOf (t .makes) nums) (t .m) ord) (t .m) (order-rises (numbers-are right) (numbered-order t nums ord q room)))
+  eight-right : (by : List ℕ) → Makers t by → {due b : Bool} → due ≡ allBelow (madeRight t nums) (t .m)
+      → b ≡ ((due && allBelow (searchedRight by nums) (t .n)) && allBelow (risesAt (rankOf (t .makes) nums) (t .m) ord) (t .m)) → b ≡ true → numbered t nums ord ≡ true
+  eight-right by M {due} made e yes-all =
+      let rises = allBelow (risesAt (rankOf (t .makes) nums) (t .m) ord) (t .m) in let searched = allBelow (searchedRight by nums) (t .n) in
+      let both = sym e ∙ yes-all in let numbers = and-left (due && searched) rises both in
+      let right = at-all t F by nums M (and-right due searched numbers) (sym made ∙ and-left due searched numbers) in let is = numbers-are right in
+      numbered-of t nums ord (λ v l. ends-all right v) is (order-is is (allBelow-at (risesAt (rankOf (t .makes) nums) (t .m) ord) (t .m) (and-right (due && searched) rises both)))
 
-  -- the paper's numbers meet the equations
-  fails : allBelow (rightAt (inputsOf t) nums) (t .n) ≡ false → false ≡ numbered t nums ord
-  fails e = go (numbered t nums ord) refl
-    where
-      go : (b : Bool) → numbered t nums ord ≡ b → false ≡ b
-      go true q =
-          let is = numbered-numbers t nums ord q in
-          let ends = ends-everywhere (net t) (lawful t) (t .n) (F .inputs-below) (F .made-below) (F .some) (numbered-ends t nums ord q) in
-          clash (below-all (rightAt (inputsOf t) nums) (t .n) (λ v l. eq-eqb (nat nums v) (above (nat nums) (inputsOf t v))
-          (is v l ∙ number-right (net t) (lawful t) (t .n) ends v
-          ∙ numbering-local (net t) (number (net t) (t .n)) (nat nums) v (λ i m. sym (is i (F .inputs-below v i m))) ∙ numbering-above t F (nat nums) v))) e
-      go false q = refl
+  -- the paper's numbers meet the equations, and its order rises
+  numbers-meet : numbered t nums ord ≡ true → (v : ℕ) → v < t .n → rightAt (inputsOf t) nums v ≡ true
+  numbers-meet q v l =
+      let is = numbered-numbers t nums ord q in
+      let ends = ends-everywhere (net t) (lawful t) (t .n) (F .inputs-below) (F .made-below) (F .some) (numbered-ends t nums ord q) in
+      eq-eqb (nat nums v) (above (nat nums) (inputsOf t v))
+      (is v l ∙ number-right (net t) (lawful t) (t .n) ends v
+      ∙ numbering-local (net t) (number (net t) (t .n)) (nat nums) v (λ i m. sym (is i (F .inputs-below v i m))) ∙ numbering-above t F (nat nums) v)
 
-  module _ (by : List ℕ) (M : Makers t by) {a b : Bool} (p : a ≡ allBelow (searchedRight by nums) (t .n)) (q : b ≡ allBelow (madeRight t nums) (t .m)) where
-    told : (a && b) ≡ allBelow (rightAt (inputsOf t) nums) (t .n)
-    told = ap₂ _&&_ p q ∙ by-rows t F by nums M
+  eight-found : (by : List ℕ) → Makers t by → {due b : Bool} → due ≡ allBelow (madeRight t nums) (t .m)
+      → b ≡ ((due && allBelow (searchedRight by nums) (t .n)) && allBelow (risesAt (rankOf (t .makes) nums) (t .m) ord) (t .m)) → numbered t nums ord ≡ true → b ≡ true
+  eight-found by M made e q =
+      let is = numbered-numbers t nums ord q in
+      e ∙ ap₂ _&&_ (ap₂ _&&_ (made ∙ made-of t F by nums M (numbers-meet q)) (searched-of t F by nums M (numbers-meet q)))
+      (below-all (risesAt (rankOf (t .makes) nums) (t .m) ord) (t .m) (order-rises is (numbered-order t nums ord q room)))
 
-    pub eight-right : {c : Bool} → (a && b) ≡ true → c ≡ allBelow (risesAt (rankOf (t .makes) nums) (t .m) ord) (t .m) → c ≡ numbered t nums ord
-    eight-right e h = h ∙ passes (sym told ∙ e)
-
-    pub eight-wrong : (a && b) ≡ false → false ≡ numbered t nums ord
-    eight-wrong e = fails (sym told ∙ e)
+  pub eight-is : (by : List ℕ) → Makers t by → {due b : Bool} → due ≡ allBelow (madeRight t nums) (t .m)
+      → b ≡ ((due && allBelow (searchedRight by nums) (t .n)) && allBelow (risesAt (rankOf (t .makes) nums) (t .m) ord) (t .m)) → b ≡ numbered t nums ord
+  eight-is by M {due} {b} made e = iff b (numbered t nums ord) (eight-right by M made e) (eight-found by M made e)

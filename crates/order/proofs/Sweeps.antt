@@ -5,13 +5,13 @@ use native.Mathlib.Omega.{arith}
 use mathlib.Core.Bool.{Bool, true, false, cond}
 use mathlib.Core.List.{List, [], _∷_, map, List·Memᴰ, List·Memᴰ·not-nil}
 use mathlib.Core.Logic.{⊎-elim}
-use mathlib.Core.Path.{_≡_, refl, sym, _∙_, subst, fun-ext}
+use mathlib.Core.Path.{_≡_, refl, sym, _∙_, subst}
 use lib.Dec.{eqb, leb, ltb}
 use lib.ListN.{length, replicate, length-replicate, getD-replicate, List·getD-eq-default}
 use borrow.Author.Tests.{leb-true, leb-false, le-leb, ltb-true, ltb-false, eqb-true}
 use Rattle.paper.specs.Lists.{all, greatest, nat, over, size, firstFail}
 use Rattle.paper.specs.Net.{runs, able, Depends, direct, through}
-use Rattle.paper.specs.Straight.{numbering, number}
+use Rattle.paper.proofs.Straight.{numbering, number}
 use Rattle.paper.specs.Tables.{Tables, part, rowOf, isMade, inputsOf, net, ends}
 use Rattle.paper.proofs.Lists.{clash, all-in}
 use Rattle.paper.proofs.Buffers.{over-length, over-at}
@@ -23,8 +23,8 @@ use Rattle.paper.proofs.Numbers.{Numbers, number-right, numbers-unique}
 use Rattle.paper.proofs.Circle.{numbers-end, has-able}
 use Rattle.tables.specs.Makers.{Makers}
 use Rattle.order.specs.Formed.{Formed}
-use Rattle.order.specs.Numbering.{Clean, above, partAt, searchState, ended, numberIn, NumberVisit, NumberedBelow, NumbersFound}
-use Rattle.order.proofs.Parted.{Parts, over-out, search-none}
+use Rattle.order.specs.Numbering.{Clean, above, searchState, ended, numberIn, NumberVisit, NumberedBelow, NumbersFound}
+use Rattle.order.proofs.Parted.{over-out, search-none}
 
 -- a new row is clean
 pub clean-new : (n k : ℕ) → n ≤ k → Clean n (replicate k 0)
@@ -48,7 +48,7 @@ module _ (n : ℕ) (dep : ℕ → List ℕ) where
       go u l false e = let x = ltb-false u v e in let s : v ≡ u = omega arith in subst (λ z. 0 < nat after z) s (rw (← (W .is)) (W .begun))
 
 -- ── before the loop: search variables have ended, and no other visit has begun ──
-module _ (t : Tables) (F : Formed t) (by : List ℕ) (M : Makers t by) {begins stops : List ℕ} (P : Parts t begins stops) (zeros : List ℕ) (C : Clean (t .n) zeros) where
+module _ (t : Tables) (F : Formed t) (by : List ℕ) (M : Makers t by) (zeros : List ℕ) (C : Clean (t .n) zeros) where
   abbrev begun : List ℕ
   begun = over (t .n) (λ v. searchState (nat by v)) zeros
 
@@ -67,10 +67,10 @@ module _ (t : Tables) (F : Formed t) (by : List ℕ) (M : Makers t by) {begins s
   two : (u : ℕ) → 0 < nat begun u → nat begun u ≡ 2
   two u h = let (l, e) = some u h in over-at (λ v. searchState (nat by v)) (t .n) zeros u 0 l ∙ rw e
 
-  none : (u : ℕ) → 0 < nat begun u → partAt begins stops (t .vars) u ≡ []
-  none u h = let (l, e) = some u h in P .inputs u ∙ search-none t F by M u l e
+  none : (u : ℕ) → 0 < nat begun u → inputsOf t u ≡ []
+  none u h = let (l, e) = some u h in search-none t F by M u l e
 
-  pub swept-start : NumberedBelow (t .n) (partAt begins stops (t .vars)) 0 begun
+  pub swept-start : NumberedBelow (t .n) (inputsOf t) 0 begun
   swept-start = record {
     right = record {
       long = let e = over-length (λ v. searchState (nat by v)) (t .n) zeros (C .long) in let h = C .long in omega arith;
@@ -148,8 +148,8 @@ module _ (t : Tables) (F : Formed t) (state : List ℕ) (S : NumberedBelow (t .n
         let chain = numbers-end (net t) (lawful t) (t .n) (F .inputs-below) (F .made-below) (F .some) (numberIn state) meets-all in
         numbers-unique (net t) (lawful t) (t .n) chain (numberIn state) (number (net t) (t .n)) meets-all (number-right (net t) (lawful t) (t .n) chain) v
 
-  found : (r : ℕ) → r ≡ firstFail (ended state) (t .n) → NumbersFound t state r
-  found r e = record {
+  pub swept-found : (r : ℕ) → r ≡ firstFail (ended state) (t .n) → NumbersFound t state r
+  swept-found r e = record {
     least = e ∙ firstFail-same (ended state) (ends t) (t .n) ended-ends;
     which = λ v l. sym (ended-ends v l);
     numbered = λ h. record { few = F .few; at = λ v l. let q = numbers-are (past h) v in let k = leb-true 2 (nat state v) (past h v l) in omega arith };
@@ -157,7 +157,3 @@ module _ (t : Tables) (F : Formed t) (state : List ℕ) (S : NumberedBelow (t .n
     where
       past : t .n ≤ r → (v : ℕ) → v < t .n → ended state v ≡ true
       past h v l = firstFail-before (ended state) (t .n) v (omega arith)
-
-pub swept-found : (t : Tables) → Formed t → (begins stops state : List ℕ) (r : ℕ) → Parts t begins stops
-    → NumberedBelow (t .n) (partAt begins stops (t .vars)) (t .n) state → r ≡ firstFail (ended state) (t .n) → NumbersFound t state r
-swept-found t F begins stops state r P S e = found t F state (subst (λ dep. NumberedBelow (t .n) dep (t .n) state) (fun-ext (P .inputs)) S) r e

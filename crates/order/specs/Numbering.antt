@@ -8,7 +8,7 @@ use lib.Dec.{eqb, leb}
 use lib.ListN.{length}
 use lib.Seq.{slice}
 use Rattle.paper.specs.Lists.{nat, size, firstFail}
-use Rattle.paper.specs.Straight.{number}
+use Rattle.paper.proofs.Straight.{number}
 use Rattle.paper.specs.Tables.{Tables, part, net, ends}
 
 -- a row of zeros, at least n long
@@ -27,10 +27,6 @@ searchedRight by nums v = not (eqb (nat by v) 0) || eqb (nat nums v) 0
 
 abbrev pub madeRight : Tables → List ℕ → ℕ → Bool
 madeRight t nums r = eqb (nat nums (nat (t .makes) r)) (above (nat nums) (part t r (t .vars)))
-
--- all these inputs are below n
-pub record Inputs (n : ℕ) (inputs : List ℕ) : Type 0 where
-  pub below : (i : ℕ) → List·Memᴰ i inputs → i < n
 
 -- what the maker's row has in a column, 0 without a maker; and where its part stops
 abbrev pub ofMaker : ℕ → List ℕ → ℕ

@@ -12,10 +12,10 @@ use lib.Seq.{getD-take}
 use borrow.Author.Tests.{ltb-true, leb-true, eqb-true, eq-eqb, ne-eqb, lt-ltb, not-true}
 use Rattle.paper.specs.Lists.{any, all, between, total, nat, seek}
 use Rattle.paper.specs.Tables.{Tables, part, rowOf, isMade, inputsOf}
-use Rattle.paper.specs.Checks.{Verdict, accepted, refused, check, require, arity, sized, kindGood, shapeGood, numberGood, Bounds, boundsGood, madeOnce, rowChecks, tableChecks, Sound}
+use Rattle.paper.specs.Checks.{Verdict, accepted, refused, arity, sized, kindGood, shapeGood, numberGood, Bounds, boundsGood, madeOnce, tableLines, Sound, byLines}
 use Rattle.paper.proofs.Lists.{clash, and-left, and-right, each, all-in, all-at, any-at}
 use Rattle.paper.proofs.Scan.{part-length}
-use Rattle.paper.proofs.Verdicts.{Chain, chain-after, check-then, require-then, check-next, check-rest, check-held, check-other, require-next, require-rest, require-held, require-other}
+use Rattle.paper.proofs.Verdicts.{check-next, check-rest, check-held, check-other, require-next, require-rest, require-held, require-other}
 use Rattle.paper.proofs.Sizes.{Sized, sized-facts}
 
 -- ── checks 2 to 5 in a chain ──
@@ -28,24 +28,13 @@ module _ (t : Tables) where
   BoundsGood bs = (v : ℕ) → v < t .n → boundsGood t bs v ≡ true
 
   -- passed: the next decides
-  pub tables-next : (bs : Bounds) → Sound t → BoundsGood bs → (next : Verdict) → tableChecks t bs next ≡ next
+  pub tables-next : (bs : Bounds) → Sound t → BoundsGood bs → (next : Verdict) → byLines (tableLines t bs) next ≡ next
   tables-next bs s good next =
       check-next 2 (t .m) (kindGood t) _ (s .kinds) ∙ check-next 3 (t .m) (shapeGood t) _ (s .shapes) ∙ require-next 3 (pred (t .m)) filled _ (s .whole)
       ∙ check-next 4 (t .m) (numberGood t) _ (s .numbers) ∙ check-next 4 (t .n) (boundsGood t bs) _ good ∙ check-next 5 (t .m) (madeOnce t) next (s .once)
 
-  -- they decide where they refuse, and the next where they accept
-  pub rows-then : Chain (rowChecks t)
-  rows-then =
-      chain-after (check 2 (t .m) (kindGood t)) _ (check-then 2 (t .m) (kindGood t)) (chain-after (check 3 (t .m) (shapeGood t)) _ (check-then 3 (t .m) (shapeGood t))
-      (chain-after (require 3 (pred (t .m)) filled) (check 4 (t .m) (numberGood t)) (require-then 3 (pred (t .m)) filled) (check-then 4 (t .m) (numberGood t))))
-
-  pub tables-then : (bs : Bounds) → Chain (tableChecks t bs)
-  tables-then bs =
-      chain-after (rowChecks t) (λ next. check 4 (t .n) (boundsGood t bs) (check 5 (t .m) (madeOnce t) next)) rows-then
-      (chain-after (check 4 (t .n) (boundsGood t bs)) (check 5 (t .m) (madeOnce t)) (check-then 4 (t .n) (boundsGood t bs)) (check-then 5 (t .m) (madeOnce t)))
-
   -- accepted: passed, and so was the next
-  pub tables-passed : (bs : Bounds) → sized t ≡ true → (next : Verdict) → tableChecks t bs next ≡ accepted → Sound t × BoundsGood bs × (next ≡ accepted)
+  pub tables-passed : (bs : Bounds) → sized t ≡ true → (next : Verdict) → byLines (tableLines t bs) next ≡ accepted → Sound t × BoundsGood bs × (next ≡ accepted)
   tables-passed bs fits next e =
       let e₃ = check-rest 2 (t .m) (kindGood t) _ e in
       let e₃′ = check-rest 3 (t .m) (shapeGood t) _ e₃ in
@@ -65,7 +54,7 @@ module _ (t : Tables) where
       )
 
   -- refused with a number above 5: passed, and the refusal is the next one's
-  pub tables-other : (bs : Bounds) → sized t ≡ true → (next : Verdict) (c p : ℕ) → 5 < c → tableChecks t bs next ≡ refused c p → Sound t × BoundsGood bs × (next ≡ refused c p)
+  pub tables-other : (bs : Bounds) → sized t ≡ true → (next : Verdict) (c p : ℕ) → 5 < c → byLines (tableLines t bs) next ≡ refused c p → Sound t × BoundsGood bs × (next ≡ refused c p)
   tables-other bs fits next c p l e =
       let r₂ = check-other 2 (t .m) (kindGood t) _ c p (λ q. omega arith) e in
       let r₃ = check-other 3 (t .m) (shapeGood t) _ c p (λ q. omega arith) (r₂ .1) in

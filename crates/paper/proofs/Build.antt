@@ -12,11 +12,10 @@ use borrow.Author.Tests.{ltb-true, ltb-false}
 use Rattle.paper.specs.Lists.{firstFail, over}
 use Rattle.paper.specs.Net.{valuation}
 use Rattle.paper.specs.Tables.{Tables, net, inputsOf, index}
-use Rattle.paper.specs.Chains.{permitted, groupNumbering, groupNumber, groupOrder, worth, determined}
-use Rattle.paper.specs.Checks.{Verdict, accepted, refused, check, require, sized, tableChecks, startAllowed, Sound}
+use Rattle.paper.specs.Chains.{permitted, groupNumbering, groupNumber, groupOrder, worth, determined, Barred, Circular, LeastOf}
+use Rattle.paper.specs.Checks.{Verdict, accepted, refused, check, require, sized, tableLines, startAllowed, Sound, byLines}
 use Rattle.paper.specs.Reason.{reasonOf}
 use Rattle.paper.specs.Calls.{blanksAmong, Accepted, numberOf, placeOf, BuildLent, BuildLeft, buildFits, startValues, buildVerdict, buildLeaves, build}
-use Rattle.paper.specs.Permitted.{Barred, Circular, LeastOf}
 use Rattle.paper.proofs.Lists.{and-left}
 use Rattle.paper.proofs.Least.{firstFail-before, firstFail-fails}
 use Rattle.paper.proofs.Verdicts.{refused-not, check-stops, check-other, check-own, require-next, require-rest, require-held, require-other}
@@ -50,7 +49,7 @@ module _ (b : BuildLent) where
 
   -- checks 1 to 5 are passed
   abbrev pub FivePassed : Type 0
-  FivePassed = require 1 0 (buildFits b) (tableChecks t (b .bounds) accepted) ≡ accepted
+  FivePassed = require 1 0 (buildFits b) (byLines (tableLines t (b .bounds)) accepted) ≡ accepted
 
   pub record BuildRight : Type 0 where
     pub not-circular : Circular t → ⊥

@@ -16,7 +16,7 @@ use Rattle.paper.specs.Lists.{nat, allBelow}
 use Rattle.paper.specs.Net.{Values, able}
 use Rattle.paper.specs.Tables.{Tables, net, isMade, inputsOf, ends}
 use Rattle.paper.specs.Checks.{Sound}
-use Rattle.paper.specs.Straight.{number, order}
+use Rattle.paper.proofs.Straight.{number, order}
 use Rattle.paper.specs.Chains.{permitted, groupNumber, groupOrder, worth, determined, closes, groupsNumbered, storedFresh}
 use Rattle.paper.proofs.Lists.{each, all-yes, and-left, and-right}
 use Rattle.paper.proofs.Least.{allBelow-at, below-all}

@@ -15,10 +15,10 @@ use borrow.Author.Tests.{le-leb, lt-leb, eqb-true, eq-eqb}
 use Rattle.paper.specs.Lists.{nat, joined, firstFail, over}
 use Rattle.paper.specs.Tables.{Tables}
 use Rattle.paper.specs.Checks.{Verdict, accepted, refused, check, require, leaves, lowest, highest}
-use Rattle.paper.specs.File.{field, Version, headOf, bounded, boundsFrom, endsAt, Contents, contents, counted, headBytes, held, nIn, mIn, eIn, header, column, startsFrom, tablesFrom, laid, read, fullBytes, fullIn, converted, endIn, convertVerdict, convert}
+use Rattle.paper.specs.File.{field, Version, headOf, bounded, boundsFrom, endsAt, Contents, contents, counted, headBytes, held, nIn, mIn, eIn, headerLines, header, column, startsFrom, tablesFrom, laid, read, fullBytes, fullIn, converted, endIn, convertVerdict, convert}
 use Rattle.paper.proofs.Lists.{and-left, and-right}
 use Rattle.paper.proofs.Least.{firstFail-none}
-use Rattle.paper.proofs.Verdicts.{andThen, then-first, then-second, Past, check-stops, check-passes, check-held, require-next, require-stops}
+use Rattle.paper.proofs.Verdicts.{andThen, then-first, then-second, lines-then, Past, check-stops, check-passes, check-held, require-next, require-stops}
 use Rattle.paper.proofs.Buffers.{over-same}
 use Rattle.paper.proofs.Bytes.{length-joined, go-on, sets-front}
 use Rattle.paper.proofs.Written.{head-length}
@@ -82,18 +82,21 @@ module _ (from to : Version) (bytes : List ℕ) where
     abbrev behind : Verdict
     behind = check 18 (bounded from n) (fullIn from bytes) room
 
+    -- the header's verdict, and then those of the bounds and of the buffer
+    pub convert-verdict : convertVerdict from to bytes file ≡ andThen (header from bytes) behind
+    unfolding convertVerdict header
+    convert-verdict = lines-then (headerLines from bytes) behind
+
     told : {w : Verdict} → convertVerdict from to bytes file ≡ w → _≡_ {A = Verdict × (ℕ × List ℕ)} (w, left w) (convert from to bytes file)
     told h = ap (λ w. (w, left w)) (sym h)
 
     pub convert-headless : (number place : ℕ) → header from bytes ≡ refused number place
         → _≡_ {A = Verdict × (ℕ × List ℕ)} (refused number place, (0, file)) (convert from to bytes file)
-    unfolding convertVerdict
-    convert-headless number place h = told (ap (λ w. andThen w behind) h)
+    convert-headless number place h = told (convert-verdict ∙ ap (λ w. andThen w behind) h)
 
     module _ (good : header from bytes ≡ accepted) where
       after : {w : Verdict} → behind ≡ w → convertVerdict from to bytes file ≡ w
-      unfolding convertVerdict
-      after h = ap (λ w. andThen w behind) good ∙ h
+      after h = convert-verdict ∙ ap (λ w. andThen w behind) good ∙ h
 
       pub convert-lost : (k : ℕ) → k ≡ firstFail (fullIn from bytes) (bounded from n) → k < bounded from n
           → _≡_ {A = Verdict × (ℕ × List ℕ)} (refused 18 k, (0, file)) (convert from to bytes file)
@@ -131,13 +134,14 @@ module _ (from to : Version) (bytes file : List ℕ) (ok : convert from to bytes
   abbrev next : Verdict
   next = require 1 0 (leb (endIn to bytes) (length file)) accepted
 
+  both : andThen (header from bytes) (check 18 (bounded from (nIn bytes)) (fullIn from bytes) next) ≡ accepted
+  both = sym (convert-verdict from to bytes file) ∙ ok
+
   good : header from bytes ≡ accepted
-  unfolding convertVerdict
-  good = then-first (header from bytes) (check 18 (bounded from (nIn bytes)) (fullIn from bytes) next) ok
+  good = then-first (header from bytes) (check 18 (bounded from (nIn bytes)) (fullIn from bytes) next) both
 
   full : (i : ℕ) → i < bounded from (nIn bytes) → fullIn from bytes i ≡ true
-  unfolding convertVerdict
-  full = check-held 18 (bounded from (nIn bytes)) (fullIn from bytes) next (then-second (header from bytes) (check 18 (bounded from (nIn bytes)) (fullIn from bytes) next) ok)
+  full = check-held 18 (bounded from (nIn bytes)) (fullIn from bytes) next (then-second (header from bytes) (check 18 (bounded from (nIn bytes)) (fullIn from bytes) next) both)
 
   abbrev new : List ℕ
   new = converted from to bytes

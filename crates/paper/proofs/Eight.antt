@@ -13,7 +13,7 @@ use Rattle.paper.specs.Lists.{nat}
 use Rattle.paper.specs.Net.{able}
 use Rattle.paper.specs.Tables.{Tables, net, inputsOf, ends}
 use Rattle.paper.specs.Checks.{Sound}
-use Rattle.paper.specs.Straight.{number, order, numbered}
+use Rattle.paper.proofs.Straight.{number, order, numbered}
 use Rattle.paper.proofs.Lists.{each, all-yes}
 use Rattle.paper.proofs.Least.{allBelow-at, below-all}
 use Rattle.paper.proofs.Sizes.{sized-facts}

@@ -14,9 +14,9 @@ use Rattle.paper.specs.Formula.{blank}
 use Rattle.paper.specs.Net.{Values, Route, names, moved}
 use Rattle.paper.specs.Tables.{Tables, net, isMade}
 use Rattle.paper.specs.Chains.{permitted, groupNumber, groupOrder, determined, closes, groupsNumbered, storedFresh}
-use Rattle.paper.specs.Checks.{Verdict, accepted, check, sized, Bounds, startGood, storedGood, inBounds, startAllowed, storedAllowed, indexed, Move, movePairs, moveFits, movable, namedOnce, hasValue, pairWithin, moveChecks, freshChecks, Sound}
+use Rattle.paper.specs.Checks.{Verdict, accepted, sized, Bounds, startGood, storedGood, inBounds, startAllowed, storedAllowed, indexed, Move, movePairs, moveFits, movable, namedOnce, hasValue, pairWithin, moveLines, freshLines, Sound, byLines}
 use Rattle.paper.specs.Log.{Log, moveGood, logged, back, logFits, logGood}
-use Rattle.paper.specs.Calls.{Session, blanksAmong, BuildLent, indexFits, boundsFit, buildFits, startValues, buildVerdict, Model, modelFits, storedValues, modelChecks, TrialLent, trialFits, trialVerdict, KeepLent, keepFits, keepVerdict, latest, TakeLent, takeFits, takeVerdict}
+use Rattle.paper.specs.Calls.{Session, blanksAmong, BuildLent, indexFits, boundsFit, buildFits, startValues, buildVerdict, Model, modelFits, storedValues, modelLines, TrialLent, trialFits, trialVerdict, KeepLent, keepFits, keepVerdict, latest, TakeLent, takeFits, takeVerdict}
 use Rattle.paper.proofs.Lists.{and-left, and-right, each, all-yes}
 use Rattle.paper.proofs.Least.{allBelow-at}
 use Rattle.paper.proofs.Verdicts.{check-rest, check-held, require-rest, require-held}
@@ -84,7 +84,7 @@ pub record ModelKnown (w : Model) : Type 0 where
 abbrev pub BlanksKnown : ℕ → Model → Type 0
 BlanksKnown blanks w = blanks ≡ blanksAmong (w .tables .n) (storedValues w)
 
-pub model-known : (w : Model) (blanks : ℕ) (next : Verdict) → modelFits w ≡ true → modelChecks w blanks next ≡ accepted → ModelKnown w × BlanksKnown blanks w × (next ≡ accepted)
+pub model-known : (w : Model) (blanks : ℕ) (next : Verdict) → modelFits w ≡ true → byLines (modelLines w blanks) next ≡ accepted → ModelKnown w × BlanksKnown blanks w × (next ≡ accepted)
 model-known w blanks next fits e =
     let t = w .tables in
     let p = tables-passed t (w .bounds) (and-left (sized t) _ fits) _ e in
@@ -147,7 +147,7 @@ pub record MoveKnown (t : Tables) (bs : Bounds) (mv : Move) : Type 0 where
   pub full : (i : ℕ) → i < mv .pairs → eqZ (getD (mv .values) i (pos 0)) blank ≡ false
   pub inside : (i : ℕ) → i < mv .pairs → pairWithin mv bs i ≡ true
 
-pub move-known : (t : Tables) (bs : Bounds) (mv : Move) (next : Verdict) → moveFits mv ≡ true → moveChecks mv t (check 17 (mv .pairs) (pairWithin mv bs) next) ≡ accepted
+pub move-known : (t : Tables) (bs : Bounds) (mv : Move) (next : Verdict) → moveFits mv ≡ true → byLines (moveLines mv t bs) next ≡ accepted
     → MoveKnown t bs mv × (next ≡ accepted)
 move-known t bs mv next fits e =
     let e₁₁ = check-rest 10 (mv .pairs) (movable mv t) _ e in
@@ -169,7 +169,7 @@ move-known t bs mv next fits e =
     )
 
 -- ── checks 21 and 20 ──
-pub fresh-known : (t : Tables) → Sound t → (old : Values) (mv : Move) → freshChecks t old mv ≡ accepted
+pub fresh-known : (t : Tables) → Sound t → (old : Values) (mv : Move) → byLines (freshLines mv t old) accepted ≡ accepted
     → ((v : ℕ) → v < t .n → storedFresh t old v ≡ true) × ((v : ℕ) → determined t (moved (movePairs mv) old) v ≡ true)
 fresh-known t s old mv e = (
   check-held 21 (t .n) (storedFresh t old) _ e,

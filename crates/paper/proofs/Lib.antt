@@ -1,4 +1,5 @@
 pub mod Lists
+pub mod Straight
 pub mod Those
 pub mod Least
 pub mod Count

@@ -18,10 +18,10 @@ use Rattle.paper.specs.Formula.{blank}
 use Rattle.paper.specs.Net.{Net, Values, Route, input-to-output, runs, new, moved, names}
 use Rattle.paper.specs.Tables.{Tables, net, isMade, valuesIn}
 use Rattle.paper.specs.Chains.{determined, groupsNumbered, storedFresh}
-use Rattle.paper.specs.Checks.{Verdict, accepted, Bounds, within, indexed, storedGood, inBounds, storedAllowed, Move, movePairs, moveFits, movable, namedOnce, hasValue, pairWithin, freshChecks}
+use Rattle.paper.specs.Checks.{Verdict, accepted, Bounds, within, indexed, storedGood, inBounds, storedAllowed, Move, movePairs, moveFits, movable, namedOnce, hasValue, pairWithin, freshLines, byLines}
 use Rattle.paper.specs.Log.{Log, logged, logFits, logGood}
 use Rattle.paper.specs.Reason.{reasonKept}
-use Rattle.paper.specs.Calls.{Session, blanksAmong, newValues, evaluates, Model, modelFits, modelChecks, storedValues, KeepLent, keptBlanks, keptStored, keptReasons, keepFits, keepVerdict, latest, TakeLent, takeFits, takeVerdict}
+use Rattle.paper.specs.Calls.{Session, blanksAmong, newValues, evaluates, Model, modelFits, modelLines, storedValues, KeepLent, keptBlanks, keptStored, keptReasons, keepFits, keepVerdict, latest, TakeLent, takeFits, takeVerdict}
 use Rattle.paper.proofs.Lists.{clash, eqb-self, all-yes, any-at}
 use Rattle.paper.proofs.Buffers.{length-below, getD-below, over-length, over-front}
 use Rattle.paper.proofs.Scan.{any-append}
@@ -276,7 +276,7 @@ module _ (w : Model) (model : ModelKnown w) where
   model-fits : modelFits w ≡ true
   model-fits = ap₂ _&&_ (model .sound .sized) (all-yes _ (le-leb _ _ (model .numbers-long), (le-leb _ _ (model .order-long), (le-leb _ _ (model .stored-long), (model .index-fits, (model .bounds-fit, (le-leb _ _ (model .reasons-long), tt)))))))
 
-  model-next : (blanks : ℕ) → BlanksKnown blanks w → (next : Verdict) → modelChecks w blanks next ≡ next
+  model-next : (blanks : ℕ) → BlanksKnown blanks w → (next : Verdict) → byLines (modelLines w blanks) next ≡ next
   model-next blanks same next = let t = w .tables in
       tables-next t (w .bounds) (model .sound) (model .bounds) _
       ∙ require-next 8 0 (groupsNumbered t (w .numbers) (w .order)) _ (groups-of t (w .numbers) (w .order) (model .permitted) (model .numbers-are) (model .order-is))
@@ -286,7 +286,7 @@ module _ (w : Model) (model : ModelKnown w) where
 
   -- values that are fresh and stay determined
   fresh-next : (mv : Move) → ((v : ℕ) → v < w .tables .n → storedFresh (w .tables) (storedValues w) v ≡ true)
-      → ((v : ℕ) → determined (w .tables) (moved (movePairs mv) (storedValues w)) v ≡ true) → freshChecks (w .tables) (storedValues w) mv ≡ accepted
+      → ((v : ℕ) → determined (w .tables) (moved (movePairs mv) (storedValues w)) v ≡ true) → byLines (freshLines mv (w .tables) (storedValues w)) accepted ≡ accepted
   fresh-next mv fresh det = let t = w .tables in
       check-next 21 (t .n) (storedFresh t (storedValues w)) _ fresh ∙ check-next 20 (t .n) (determined t (moved (movePairs mv) (storedValues w))) accepted (λ v l. det v)
 

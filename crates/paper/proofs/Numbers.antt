@@ -8,7 +8,7 @@ use mathlib.Core.List.{List, [], _∷_, map, List·Memᴰ, List·Memᴰ·head, L
 use mathlib.Core.Path.{_≡_, refl, ap, subst}
 use Rattle.paper.specs.Lists.{greatest}
 use Rattle.paper.specs.Net.{Net, runs, able, Depends, direct, through}
-use Rattle.paper.specs.Straight.{numbering, number}
+use Rattle.paper.proofs.Straight.{numbering, number}
 use Rattle.paper.proofs.Lists.{map-same}
 use Rattle.paper.proofs.Fix.{Local, unique, solution}
 use Rattle.paper.proofs.Lawful.{Lawful}

@@ -12,7 +12,7 @@ use borrow.Author.Tests.{ltb-true, ltb-false}
 use Rattle.paper.specs.Lists.{joined, greatest}
 use Rattle.paper.specs.Net.{Values, Rule, runs, able, Depends, direct}
 use Rattle.paper.specs.Tables.{Tables, net, isMade, inputsOf, levels}
-use Rattle.paper.specs.Straight.{number, order}
+use Rattle.paper.proofs.Straight.{number, order}
 use Rattle.paper.proofs.Those.{joined-none}
 use Rattle.paper.proofs.Lawful.{lawful}
 use Rattle.paper.proofs.Circle.{circle-unable}

@@ -10,9 +10,9 @@ use Rattle.paper.specs.Lists.{between, total, nat, firstFail}
 use Rattle.paper.specs.Net.{Values, moved}
 use Rattle.paper.specs.Tables.{Tables}
 use Rattle.paper.specs.Chains.{permitted, determined, groupsNumbered, storedFresh}
-use Rattle.paper.specs.Checks.{Verdict, accepted, refused, check, require, Bounds, kindGood, shapeGood, numberGood, boundsGood, madeOnce, tableChecks, startAllowed, storedAllowed, indexed, Move, movePairs, movable, namedOnce, hasValue, pairWithin, freshChecks}
+use Rattle.paper.specs.Checks.{Verdict, accepted, refused, check, require, Bounds, kindGood, shapeGood, numberGood, boundsGood, madeOnce, tableLines, startAllowed, storedAllowed, indexed, Move, movePairs, movable, namedOnce, hasValue, pairWithin, freshLines, byLines, moveLines}
 use Rattle.paper.specs.Log.{Log, logged, logGood}
-use Rattle.paper.specs.Calls.{Session, blanksAmong, Answer, numberOf, BuildLent, BuildLeft, buildFits, startValues, buildVerdict, buildLeaves, build, Model, storedValues, modelChecks, changeChecks, TrialLent, TrialLeft, trialFits, trialVerdict, trialLeaves, trial, KeepLent, KeepLeft, keepFits, keepVerdict, keepLeaves, keep, latest, TakeLent, takeFits, takeVerdict, takeLeaves, takeBack, buildAsWas, trialAsWas, keepAsWas}
+use Rattle.paper.specs.Calls.{Session, blanksAmong, Answer, numberOf, BuildLent, BuildLeft, buildFits, startValues, buildVerdict, buildLeaves, build, Model, storedValues, modelLines, TrialLent, TrialLeft, trialFits, trialVerdict, trialLeaves, trial, KeepLent, KeepLeft, keepFits, keepVerdict, keepLeaves, keep, latest, TakeLent, takeFits, takeVerdict, takeLeaves, takeBack, buildAsWas, trialAsWas, keepAsWas}
 use Rattle.paper.proofs.Verdicts.{refused-not}
 
 -- build gives 1 to 7 and 20; trial all of 1 to 13 but 6, 17 and 19 to 21; keep the same except 9 and 13, and 16; taking back 1 to 8 but 6, 15, 16 and 19 to 21
@@ -45,7 +45,7 @@ module _ (ok : ℕ → Bool) where
   lacks code place true o h = h
   lacks code place false o h = stopped o
 
-  tables-give : (t : Tables) (b : Bounds) {next : Verdict} → ok 2 ≡ true → ok 3 ≡ true → ok 4 ≡ true → ok 5 ≡ true → Gives ok next → Gives ok (tableChecks t b next)
+  tables-give : (t : Tables) (b : Bounds) {next : Verdict} → ok 2 ≡ true → ok 3 ≡ true → ok 4 ≡ true → ok 5 ≡ true → Gives ok next → Gives ok (byLines (tableLines t b) next)
   tables-give t b o₂ o₃ o₄ o₅ h =
       fails 1 (t .m) (kindGood t) o₂ (fails 2 (t .m) (shapeGood t) o₃
       (lacks 2 (pred (t .m)) (eqb (total (take (t .m) (t .counts))) (t .e)) o₃ (fails 3 (t .m) (numberGood t) o₄ (fails 3 (t .n) (boundsGood t b) o₄ (fails 4 (t .m) (madeOnce t) o₅ h)))))
@@ -58,17 +58,17 @@ build-gives l = let t = l .tables in let ok = buildNumber in
 
 -- trial, keep and taking back: the same checks of model and move
 module _ (ok : ℕ → Bool) where
-  model-gives : (w : Model) (blanks : ℕ) {next : Verdict} → ok 2 ≡ true → ok 3 ≡ true → ok 4 ≡ true → ok 5 ≡ true → ok 8 ≡ true → ok 19 ≡ true → ok 7 ≡ true → Gives ok next → Gives ok (modelChecks w blanks next)
+  model-gives : (w : Model) (blanks : ℕ) {next : Verdict} → ok 2 ≡ true → ok 3 ≡ true → ok 4 ≡ true → ok 5 ≡ true → ok 8 ≡ true → ok 19 ≡ true → ok 7 ≡ true → Gives ok next → Gives ok (byLines (modelLines w blanks) next)
   model-gives w blanks o₂ o₃ o₄ o₅ o₈ o₁₉ o₇ h = let t = w .tables in
       tables-give ok t (w .bounds) o₂ o₃ o₄ o₅ (lacks ok 7 0 (groupsNumbered t (w .numbers) (w .order)) o₈ (lacks ok 7 0 (indexed t (w .index)) o₈
       (lacks ok 18 0 (eqb blanks (blanksAmong (t .n) (storedValues w))) o₁₉ (fails ok 6 (t .n) (storedAllowed t (w .bounds) (storedValues w)) o₇ h))))
 
-  move-gives : (w : Model) (mv : Move) {next : Verdict} → ok 10 ≡ true → ok 11 ≡ true → ok 12 ≡ true → ok 17 ≡ true → Gives ok next → Gives ok (changeChecks w mv next)
+  move-gives : (w : Model) (mv : Move) {next : Verdict} → ok 10 ≡ true → ok 11 ≡ true → ok 12 ≡ true → ok 17 ≡ true → Gives ok next → Gives ok (byLines (moveLines mv (w .tables) (w .bounds)) next)
   move-gives w mv o₁₀ o₁₁ o₁₂ o₁₇ h =
       fails ok 9 (mv .pairs) (movable mv (w .tables)) o₁₀ (fails ok 10 (mv .pairs) (namedOnce mv) o₁₁ (fails ok 11 (mv .pairs) (hasValue mv) o₁₂
       (fails ok 16 (mv .pairs) (pairWithin mv (w .bounds)) o₁₇ h)))
 
-  fresh-gives : (t : Tables) (old : Values) (mv : Move) → ok 20 ≡ true → ok 21 ≡ true → Gives ok (freshChecks t old mv)
+  fresh-gives : (t : Tables) (old : Values) (mv : Move) → ok 20 ≡ true → ok 21 ≡ true → Gives ok (byLines (freshLines mv t old) accepted)
   fresh-gives t old mv o₂₀ o₂₁ = fails ok 20 (t .n) (storedFresh t old) o₂₁ (fails ok 19 (t .n) (determined t (moved (movePairs mv) old)) o₂₀ passed)
 
 trial-gives : (s : Session) (w : Model) (c : TrialLent) → Gives trialNumber (trialVerdict s w c)

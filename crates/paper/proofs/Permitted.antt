@@ -14,9 +14,13 @@ use Rattle.paper.specs.Tables.{Tables, inputsOf}
 use Rattle.paper.proofs.Lists.{any-in, any-has, and-left, and-right, clash}
 use Rattle.paper.proofs.Least.{firstFail-le, firstFail-fails, allBelow-at}
 use Rattle.paper.proofs.Circle.{then}
-use Rattle.paper.specs.Chains.{depends, together, isElement, plainInputs, indices, roundIndex, permitted}
-use Rattle.paper.specs.Permitted.{Through, input, index, candidate, isIndex, isCandidate, linked, Chain, link, on, PermittedExactly}
+use Rattle.paper.specs.Chains.{depends, together, isElement, plainInputs, indices, roundIndex, permitted, Through, input, index, candidate, isIndex, isCandidate, linked, Chain, link, on}
 use Rattle.paper.proofs.Depends.{Mutual, depends-yes, depends-is, depends-low, together-yes, together-is}
+
+-- the test is passed exactly if every closed chain through v passes through a candidate and never through an index
+pub record PermittedExactly (t : Tables) (v : ℕ) : Type 0 where
+  pub each : permitted t v ≡ true → (c x : Bool) → Chain t v v c x → (c ≡ true) × (x ≡ false)
+  pub some : permitted t v ≡ false → (c : Bool) × (x : Bool) × Chain t v v c x × ((c ≡ false) ⊎ (x ≡ true))
 
 -- ── the first entry of a list, and the others ──
 first-in : {i : ℕ} (xs : List ℕ) → List·Memᴰ i (take 1 xs) → List·Memᴰ i xs

@@ -3,7 +3,7 @@
 use Prim.Native.Nat.{ℕ, _≤_}
 use mathlib.Core.Bool.{Bool, true, false, _&&_}
 use mathlib.Core.List.{List, [], _∷_, map}
-use mathlib.Core.Path.{_≡_, refl, ap, ap₂, _∙_}
+use mathlib.Core.Path.{_≡_, refl, ap, ap₂, sym, _∙_}
 use lib.IntN.{ℤ}
 use lib.Dec.{leb, eqb}
 use lib.ListN.{length}
@@ -11,10 +11,10 @@ use borrow.Author.Tests.{leb-true, le-leb, eqb-true, eq-eqb}
 use Rattle.paper.specs.Lists.{between}
 use Rattle.paper.specs.Tables.{Tables, lent}
 use Rattle.paper.specs.Checks.{Verdict, accepted, refused, require, leaves}
-use Rattle.paper.specs.File.{field, Version, version1, versionNumber, headOf, rowsFrom, entriesFrom, endsAt, Contents, contents, unboundedContents, counted, held, nIn, mIn, eIn, boundsTold, header, laid, readVerdict, read}
+use Rattle.paper.specs.File.{field, Version, version1, versionNumber, headOf, rowsFrom, entriesFrom, endsAt, Contents, contents, unboundedContents, counted, held, nIn, mIn, eIn, boundsTold, headerLines, header, laid, readVerdict, read}
 use Rattle.paper.proofs.Lists.{and-left, and-right, Each}
 use Rattle.paper.proofs.Least.{between-in}
-use Rattle.paper.proofs.Verdicts.{then-first, require-held, require-rest, require-next}
+use Rattle.paper.proofs.Verdicts.{andThen, then-first, lines-then, require-held, require-rest, require-next}
 
 -- ── check 14: one test after another, each with its place ──
 abbrev judged : List (ℕ × Bool) → Verdict
@@ -74,25 +74,26 @@ module _ (v : Version) (bytes : List ℕ) where
 
   -- ── the call ──
   module _ (c : Contents) where
+    -- the header's verdict, and then that of the lent rows
+    pub read-verdict : readVerdict v bytes c ≡ andThen (header v bytes) (require 1 0 (held v (counted n m e c)) accepted)
+    unfolding readVerdict header
+    read-verdict = lines-then (headerLines v bytes) (require 1 0 (held v (counted n m e c)) accepted)
+
     pub read-refused : (number place : ℕ) → header v bytes ≡ refused number place
         → _≡_ {A = Verdict × Contents} (refused number place, counted 0 0 0 c) (read v bytes c)
-    unfolding readVerdict
-    read-refused number place a = simp a
+    read-refused number place a = simp (read-verdict, a)
 
     pub read-short : header v bytes ≡ accepted → held v (counted n m e c) ≡ false
         → _≡_ {A = Verdict × Contents} (refused 1 0, counted 0 0 0 c) (read v bytes c)
-    unfolding readVerdict
-    read-short a l = simp (a, l)
+    read-short a l = simp (read-verdict, a, l)
 
     pub read-done : header v bytes ≡ accepted → held v (counted n m e c) ≡ true → {after : Contents} → after ≡ laid v bytes n m e c
         → _≡_ {A = Verdict × Contents} (accepted, after) (read v bytes c)
-    unfolding readVerdict
-    read-done a l q = simp (a, l) (ap (λ z. (accepted, z)) q)
+    read-done a l q = simp (read-verdict, a, l) (ap (λ z. (accepted, z)) q)
 
     -- what is accepted had an accepted header
     pub read-headed : readVerdict v bytes c ≡ accepted → header v bytes ≡ accepted
-    unfolding readVerdict
-    read-headed = then-first (header v bytes) (require 1 0 (held v (counted n m e c)) accepted)
+    read-headed ok = then-first (header v bytes) (require 1 0 (held v (counted n m e c)) accepted) (sym read-verdict ∙ ok)
 
 -- contents are their counts and their rows: the columns may be laid one by one
 pub same-contents : {n m e : ℕ} {kinds kinds′ makes makes′ firsts firsts′ counts counts′ vars vars′ : List ℕ} {params params′ coefs coefs′ starts starts′ lows lows′ highs highs′ : List ℤ}

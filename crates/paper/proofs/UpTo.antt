@@ -17,10 +17,10 @@ use Rattle.paper.specs.Formula.{blank, formula, looked}
 use Rattle.paper.specs.Net.{Values, Net, runs, able, afresh, Route, input-to-output, output-to-input, mark-guided, live, new, works, needed, evaluated, moved, names}
 use Rattle.paper.specs.Tables.{Tables, bare, Index, indexIn, part, rowOf, isMade, inputsOf, formOf, asksOf, net, level, reads, readers, readersStart}
 use Rattle.paper.specs.Chains.{depends, together, outside, plainInputs, indices, permitted, groupNumber, groupOrder, worth, determined, groupsNumbered}
-use Rattle.paper.specs.Checks.{Verdict, accepted, refused, check, require, Bounds, boundsIn, within, sized, kindGood, shapeGood, numberGood, madeOnce, boundsGood, tableChecks, storedAllowed, indexed, Move, movePairs, movable, namedOnce, hasValue, pairWithin, moveChecks, freshChecks, Sound}
+use Rattle.paper.specs.Checks.{Verdict, accepted, refused, check, require, Bounds, boundsIn, within, sized, kindGood, shapeGood, numberGood, madeOnce, boundsGood, tableLines, storedAllowed, indexed, Move, movePairs, movable, namedOnce, hasValue, pairWithin, moveLines, freshLines, Sound, byLines}
 use Rattle.paper.specs.Log.{Log, moveGood, logged, back, logGood}
 use Rattle.paper.specs.Reason.{reason, reasonOf}
-use Rattle.paper.specs.Calls.{Session, Accepted, blanksAmong, newValues, evaluates, Model, upToCounts, modelFits, storedValues, modelChecks, TrialLent, askedList, routeOf, trialFits, trialLeaves, trialVerdict, trial, KeepLent, moveLeaves, keepFits, keepVerdict, keepLeaves, keep, latest, TakeLent, takeFits, takeVerdict, takeLeaves, takeBack}
+use Rattle.paper.specs.Calls.{Session, Accepted, blanksAmong, newValues, evaluates, Model, upToCounts, modelFits, storedValues, modelLines, TrialLent, askedList, routeOf, trialFits, trialLeaves, trialVerdict, trial, KeepLent, moveLeaves, keepFits, keepVerdict, keepLeaves, keep, latest, TakeLent, takeFits, takeVerdict, takeLeaves, takeBack}
 use Rattle.paper.proofs.Lists.{and-left, each}
 use Rattle.paper.proofs.Those.{those-same, joined-same}
 use Rattle.paper.proofs.Least.{firstFail-before, allBelow-at}
@@ -68,7 +68,7 @@ module _ (t : Tables) where
   inside-of : (r : ℕ) → shapeGood t r ≡ true → nat (t .firsts) r + nat (t .counts) r ≤ t .e
   inside-of r h = leb-true (nat (t .firsts) r + nat (t .counts) r) (t .e) (each _ h .1 .1 .1 .1 .0)
 
-  tables-alike : (b : Bounds) {next then : Verdict} → sized t ≡ true → (Sound t → next ≡ then) → tableChecks (bare t) (cutBounds (t .n) b) next ≡ tableChecks t b then
+  tables-alike : (b : Bounds) {next then : Verdict} → sized t ≡ true → (Sound t → next ≡ then) → byLines (tableLines (bare t) (cutBounds (t .n) b)) next ≡ byLines (tableLines t b) then
   tables-alike b fits more =
       check-alike 2 (t .m) (kindGood (bare t)) (kindGood t) (kind-same t) (λ two.
       check-alike 3 (t .m) (shapeGood (bare t)) (shapeGood t) (shape-same t) (λ three.
@@ -180,7 +180,7 @@ module _ (t : Tables) (sound : Sound t) where
   unfolding determined
   determined-same s = λ i. able (λ v. asks i v (worth-same s i)) n
 
-  fresh-same : (old : Values) (mv : Move) → freshChecks (bare t) old mv ≡ freshChecks t old mv
+  fresh-same : (old : Values) (mv : Move) → byLines (freshLines mv (bare t) old) accepted ≡ byLines (freshLines mv t old) accepted
   fresh-same old mv =
       λ i. check 21 n (λ v. not (not (allBelow (able (ins i) n) n)) || (determined-same old i v && eqZ (old v) (worth-same old i v)))
       (check 20 n (determined-same (moved (movePairs mv) old) i) accepted)
@@ -241,7 +241,7 @@ fits-same w =
     let t = w .tables in
     rw (sized-same t, cut-long (t .n) (w .numbers), cut-long (t .m) (w .order), cut-long (suc (t .n)) (w .index .starts), cut-long (t .e) (w .index .places), cut-long (t .n) (w .bounds .lows), cut-long (t .n) (w .bounds .highs))
 
-model-alike : (w : Model) (blanks : ℕ) {next then : Verdict} → modelFits w ≡ true → (Sound (w .tables) → next ≡ then) → modelChecks (upToCounts w) blanks next ≡ modelChecks w blanks then
+model-alike : (w : Model) (blanks : ℕ) {next then : Verdict} → modelFits w ≡ true → (Sound (w .tables) → next ≡ then) → byLines (modelLines (upToCounts w) blanks) next ≡ byLines (modelLines w blanks) then
 model-alike w blanks fits more =
     let t = w .tables in let b = w .bounds in let old = storedValues w in
     tables-alike t b (and-left (sized t) _ fits) (λ sound.
@@ -263,7 +263,7 @@ module _ (t : Tables) (b : Bounds) (mv : Move) where
       ap (λ (good : ℤ → Bool). good (getD (mv .values) i (pos 0))) (within-same (t .n) b v (ltb-true v (t .n) (and-left (ltb v (t .n)) _ h)))
 
   move-alike : {next then : Verdict} → next ≡ then
-      → moveChecks mv (bare t) (check 17 (mv .pairs) (pairWithin mv (cutBounds (t .n) b)) next) ≡ moveChecks mv t (check 17 (mv .pairs) (pairWithin mv b) then)
+      → byLines (moveLines mv (bare t) (cutBounds (t .n) b)) next ≡ byLines (moveLines mv t b) then
   move-alike more =
       check-alike 10 (mv .pairs) (movable mv (bare t)) (movable mv t) (λ i l. ap (λ p. p i) movable-same) (λ ten.
       check-alike 11 (mv .pairs) (namedOnce mv) (namedOnce mv) (λ i l. refl) (λ e.

@@ -3,11 +3,12 @@ use Prim.Native.Nat.{ℕ, _≤_, _<_}
 use native.Mathlib.Nat.{lt-irrefl}
 use native.Mathlib.Omega.{arith}
 use mathlib.Core.Bool.{Bool, true, false, cond}
+use mathlib.Core.List.{List, [], _∷_}
 use mathlib.Core.Path.{_≡_, refl, ap, sym, _∙_}
 use lib.Dec.{ltb}
 use borrow.Author.Tests.{ltb-true, ltb-false, lt-ltb, le-ltb}
 use Rattle.paper.specs.Lists.{firstFail}
-use Rattle.paper.specs.Checks.{Verdict, accepted, refused, check, require, leaves}
+use Rattle.paper.specs.Checks.{Verdict, accepted, refused, check, require, Line, places, whole, byLines, leaves}
 use Rattle.paper.proofs.Least.{firstFail-before, firstFail-none}
 
 -- ── two verdicts ──
@@ -54,6 +55,12 @@ check-then code bound good next = go (ltb (firstFail good bound) bound)
 pub require-then : (code place : ℕ) (good : Bool) → Chain (require code place good)
 require-then code place true next = refl
 require-then code place false next = refl
+
+-- the checks of any lines
+pub lines-then : (lines : List Line) → Chain (byLines lines)
+lines-then [] next = refl
+lines-then (places number bound good ∷ rest) next = chain-after (check number bound good) (byLines rest) (check-then number bound good) (lines-then rest) next
+lines-then (whole number place good ∷ rest) next = chain-after (require number place good) (byLines rest) (require-then number place good) (lines-then rest) next
 
 -- ── a loop came to place k ──
 -- it came to the bound: no place fails

@@ -13,7 +13,7 @@ use Rattle.paper.specs.Formula.{blank}
 use Rattle.paper.specs.Net.{Values, Route, input-to-output, output-to-input, mark-guided, new, evaluated, moved, names}
 use Rattle.paper.specs.Tables.{Tables, bare, Index, indexIn, net, valuesIn, index}
 use Rattle.paper.specs.Chains.{permitted, groupNumber, groupOrder, worth, determined, groupsNumbered}
-use Rattle.paper.specs.Checks.{Verdict, accepted, refused, check, require, leaves, sized, Bounds, boundsIn, tableChecks, indexed, startAllowed, storedAllowed, Move, movePairs, moveFits, pairWithin, moveChecks, freshChecks}
+use Rattle.paper.specs.Checks.{Verdict, accepted, refused, Line, places, whole, byLines, leaves, sized, Bounds, boundsIn, tableLines, indexed, startAllowed, storedAllowed, Move, movePairs, moveFits, moveLines, freshLines}
 use Rattle.paper.specs.Log.{Log, logged, back, logFits, logGood, noted, dropped}
 use Rattle.paper.specs.Reason.{reasonOf, reasonAfter, reasonKept}
 
@@ -109,10 +109,16 @@ module _ (l : BuildLent) where
   abbrev pub startValues : Values
   startValues = valuesIn (l .tables) (l .starts)
 
+  -- 1 to 5, and then 6, of chains that are not permitted, 7 and 20, of the start values
+  abbrev pub fiveLines : List Line
+  fiveLines = whole 1 0 buildFits ∷ tableLines (l .tables) (l .bounds)
+
+  abbrev pub buildLines : List Line
+  buildLines = let t = l .tables in
+      fiveLines ++ (places 6 (t .n) (permitted t) ∷ places 7 (t .n) (startAllowed t (l .bounds) startValues) ∷ places 20 (t .n) (determined t startValues) ∷ [])
+
   unfoldable pub buildVerdict : Verdict
-  buildVerdict = let t = l .tables in
-      require 1 0 buildFits (tableChecks t (l .bounds) (check 6 (t .n) (permitted t) (check 7 (t .n) (startAllowed t (l .bounds) startValues)
-      (check 20 (t .n) (determined t startValues) accepted))))
+  buildVerdict = byLines buildLines accepted
 
   abbrev pub buildLeaves : Verdict → BuildLeft
   buildLeaves v = let t = l .tables in record {
@@ -164,15 +170,13 @@ module _ (w : Model) where
   abbrev pub storedValues : Values
   storedValues = valuesIn (w .tables) (w .stored)
 
-  -- checks 2, 3, 4, 5, 8, 19, 7; `blanks` is the record's number of blanks
-  abbrev pub modelChecks : ℕ → Verdict → Verdict
-  modelChecks blanks next = let t = w .tables in
-      tableChecks t (w .bounds) (require 8 0 (groupsNumbered t (w .numbers) (w .order)) (require 8 0 (indexed t (w .index))
-      (require 19 0 (eqb blanks (blanksAmong (t .n) storedValues)) (check 7 (t .n) (storedAllowed t (w .bounds) storedValues) next))))
-
-  -- checks 10, 11, 12, 17 of a move
-  abbrev pub changeChecks : Move → Verdict → Verdict
-  changeChecks mv next = moveChecks mv (w .tables) (check 17 (mv .pairs) (pairWithin mv (w .bounds)) next)
+  -- 2 to 5, 8 of the numbers and order, 8 of the index, 19 of the record's number of blanks, and then 7
+  abbrev pub modelLines : ℕ → List Line
+  modelLines blanks = let t = w .tables in
+      tableLines t (w .bounds)
+      ++ (
+      whole 8 0 (groupsNumbered t (w .numbers) (w .order)) ∷ whole 8 0 (indexed t (w .index))
+      ∷ whole 19 0 (eqb blanks (blanksAmong (t .n) storedValues)) ∷ places 7 (t .n) (storedAllowed t (w .bounds) storedValues) ∷ [])
 
 -- ── trial ──
 pub record TrialLent : Type 0 where
@@ -226,10 +230,13 @@ module _ (w : Model) (c : TrialLent) where
         why = leaves v (askedReasons (c .why)) (c .why);
       }
 
+abbrev pub trialLines : Session → Model → TrialLent → List Line
+trialLines s w c = let t = w .tables in
+    whole 1 0 (trialFits w c) ∷ (modelLines w (s .blanks) ++ (whole 9 0 (between 1 (c .route) 3) ∷ [])
+    ++ moveLines (c .move) t (w .bounds) ++ (places 13 (c .asked) (λ i. ltb (nat (c .askedVars) i) (t .n)) ∷ []) ++ freshLines (c .move) t (storedValues w))
+
 unfoldable pub trialVerdict : Session → Model → TrialLent → Verdict
-trialVerdict s w c = let t = w .tables in
-    require 1 0 (trialFits w c) (modelChecks w (s .blanks) (require 9 0 (between 1 (c .route) 3)
-    (changeChecks w (c .move) (check 13 (c .asked) (λ i. ltb (nat (c .askedVars) i) (t .n)) (freshChecks t (storedValues w) (c .move))))))
+trialVerdict s w c = byLines (trialLines s w c) accepted
 
 unfoldable pub trial : Session → Model → TrialLent → TrialLeft
 trial s w c = trialLeaves w c s (trialVerdict s w c)
@@ -289,10 +296,13 @@ abbrev pub keepFits : Log → Model → KeepLent → Bool
 keepFits l w c = every (modelFits w ∷ moveFits (c .move) ∷ leb (w .tables .n) (length (c .flags)) ∷ logFits l ∷ [])
 
 module _ (s : Session) (l : Log) (w : Model) (c : KeepLent) where
+  abbrev pub keepLines : List Line
+  keepLines = let t = w .tables in
+      whole 1 0 (keepFits l w c) ∷ (modelLines w (s .blanks) ++ moveLines (c .move) t (w .bounds) ++ (whole 16 0 (logGood l t (w .bounds) (s .kept)) ∷ [])
+      ++ freshLines (c .move) t (storedValues w))
+
   unfoldable pub keepVerdict : Verdict
-  keepVerdict = let t = w .tables in
-      require 1 0 (keepFits l w c) (modelChecks w (s .blanks) (changeChecks w (c .move) (require 16 0 (logGood l t (w .bounds) (s .kept))
-      (freshChecks t (storedValues w) (c .move)))))
+  keepVerdict = byLines keepLines accepted
 
   -- one more move kept, and it is noted
   abbrev pub keepLeaves : Verdict → KeepLeft
@@ -312,10 +322,14 @@ abbrev pub takeFits : Log → Model → TakeLent → Bool
 takeFits l w c = every (modelFits w ∷ leb (w .tables .n) (length (c .flags)) ∷ logFits l ∷ [])
 
 module _ (s : Session) (l : Log) (w : Model) (c : TakeLent) where
+  -- 15 is of a log with no move
+  abbrev pub takeLines : List Line
+  takeLines = let t = w .tables in
+      whole 1 0 (takeFits l w c) ∷ (modelLines w (s .blanks) ++ (whole 16 0 (logGood l t (w .bounds) (s .kept)) ∷ whole 15 0 (ltb 0 (logged l)) ∷ [])
+      ++ freshLines (latest l c .move) t (storedValues w))
+
   unfoldable pub takeVerdict : Verdict
-  takeVerdict = let t = w .tables in
-      require 1 0 (takeFits l w c) (modelChecks w (s .blanks) (require 16 0 (logGood l t (w .bounds) (s .kept)) (require 15 0 (ltb 0 (logged l))
-      (freshChecks t (storedValues w) (latest l c .move)))))
+  takeVerdict = byLines takeLines accepted
 
   -- one move kept fewer unless the number stands at its ceiling, and the log is without it
   abbrev pub takeLeaves : Verdict → KeepLeft

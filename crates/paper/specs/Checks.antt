@@ -1,7 +1,7 @@
 -- The checks on tables, bounds and moves, and what passed ones say. Assumes nothing.
 use Prim.Native.Nat.{ℕ, suc, pred, _+_, _<_}
 use mathlib.Core.Bool.{Bool, true, cond, not, _&&_, _||_}
-use mathlib.Core.List.{List, [], _∷_}
+use mathlib.Core.List.{List, [], _∷_, _++_}
 use mathlib.Core.Path.{_≡_}
 use lib.IntN.{ℤ, pos, negsuc, natAbs}
 use lib.Dec.{eqb, leb, ltb}
@@ -26,6 +26,17 @@ check code bound good next = cond (ltb (firstFail good bound) bound) (refused co
 -- one check with a fixed place
 abbrev pub require : ℕ → ℕ → Bool → Verdict → Verdict
 require code place good next = cond good next (refused code place)
+
+-- a line of the table of refusals: a number with a test of each place below a bound, or with one test and a fixed place
+pub data Line : Type 0 where
+  places : (number bound : ℕ) (good : ℕ → Bool) → Line
+  whole : (number place : ℕ) (good : Bool) → Line
+
+-- the checks of these lines in their order, and then what is next
+abbrev pub byLines : List Line → Verdict → Verdict
+byLines [] next = next
+byLines (places number bound good ∷ rest) next = check number bound good (byLines rest next)
+byLines (whole number place good ∷ rest) next = require number place good (byLines rest next)
 
 -- what an accepted call leaves, and what a refused one does
 abbrev pub leaves : {A : Type 0} → Verdict → A → A → A
@@ -95,19 +106,19 @@ module _ (t : Tables) where
   abbrev pub madeOnce : ℕ → Bool
   madeOnce r = not (any (eqb (nat (t .makes) r)) (take r (t .makes)))
 
-  -- checks 2 to 4 of the rows
-  abbrev pub rowChecks : Verdict → Verdict
-  rowChecks next =
-      check 2 (t .m) kindGood (check 3 (t .m) shapeGood (require 3 (pred (t .m)) (eqb (total (take (t .m) (t .counts))) (t .e))
-      (check 4 (t .m) numberGood next)))
+  -- 2 to 4, of the rows
+  abbrev pub rowLines : List Line
+  rowLines =
+      places 2 (t .m) kindGood ∷ places 3 (t .m) shapeGood ∷ whole 3 (pred (t .m)) (eqb (total (take (t .m) (t .counts))) (t .e))
+      ∷ places 4 (t .m) numberGood ∷ []
 
   -- 4, of the bounds: each pair as said, and full at a variable that some row makes
   abbrev pub boundsGood : Bounds → ℕ → Bool
   boundsGood b v = boundGood (isMade t v) (low b v) (high b v)
 
-  -- checks 2 to 5, the same for every call
-  abbrev pub tableChecks : Bounds → Verdict → Verdict
-  tableChecks b next = rowChecks (check 4 (t .n) (boundsGood b) (check 5 (t .m) madeOnce next))
+  -- 2 to 5, the same for every call
+  abbrev pub tableLines : Bounds → List Line
+  tableLines b = rowLines ++ (places 4 (t .n) (boundsGood b) ∷ places 5 (t .m) madeOnce ∷ [])
 
   -- 7 in build: a search variable is not blank, a made one starts at 0
   abbrev pub startGood : Values → ℕ → Bool
@@ -166,13 +177,13 @@ module _ (mv : Move) where
   abbrev pub pairWithin : Bounds → ℕ → Bool
   pairWithin b i = within b (nat (mv .vars) i) (getD (mv .values) i (pos 0))
 
-  -- checks 10 to 12
-  abbrev pub moveChecks : Tables → Verdict → Verdict
-  moveChecks t next = check 10 (mv .pairs) (movable t) (check 11 (mv .pairs) namedOnce (check 12 (mv .pairs) hasValue next))
+  -- 10 to 12 and 17
+  abbrev pub moveLines : Tables → Bounds → List Line
+  moveLines t b = places 10 (mv .pairs) (movable t) ∷ places 11 (mv .pairs) namedOnce ∷ places 12 (mv .pairs) hasValue ∷ places 17 (mv .pairs) (pairWithin b) ∷ []
 
--- 21, and then 20 from the search variables' new values: over stored values `old`, with a move
-abbrev pub freshChecks : Tables → Values → Move → Verdict
-freshChecks t old mv = check 21 (t .n) (storedFresh t old) (check 20 (t .n) (determined t (moved (movePairs mv) old)) accepted)
+  -- 21, of stored values `old`, and then 20, of the search variables' new ones
+  abbrev pub freshLines : Tables → Values → List Line
+  freshLines t old = places 21 (t .n) (storedFresh t old) ∷ places 20 (t .n) (determined t (moved movePairs old)) ∷ []
 
 -- ── checks 1 to 5 are passed: what code may rely on ──
 pub record Sound (t : Tables) : Type 0 where

@@ -10,7 +10,7 @@ use mir.Syntax.{w16, w32}
 use mir.Val.{ofZ, toZ, SFits}
 use Rattle.paper.specs.Lists.{between, nat, joined, over}
 use Rattle.paper.specs.Tables.{Tables, bare, lent}
-use Rattle.paper.specs.Checks.{Verdict, accepted, check, require, leaves, lowest, highest, sized}
+use Rattle.paper.specs.Checks.{Verdict, accepted, Line, places, whole, byLines, leaves, lowest, highest, sized}
 
 -- the w lowest bytes of x, the least first; a signed number goes by its bits
 abbrev pub bytesOf : ℕ → ℕ → List ℕ
@@ -115,8 +115,11 @@ abbrev pub held : Version → Contents → Bool
 held v c = let t = c .tables in let k = bounded v (t .n) in leb k (length (c .lows)) && leb k (length (c .highs)) && (sized t && leb (t .n) (length (c .starts)))
 
 -- ── writing ──
+abbrev pub writeLines : Version → Contents → List ℕ → List Line
+writeLines v c bytes = let t = c .tables in whole 1 0 (held v c && leb (endsAt v (t .n) (t .m) (t .e)) (length bytes)) ∷ []
+
 unfoldable pub writeVerdict : Version → Contents → List ℕ → Verdict
-writeVerdict v c bytes = let t = c .tables in require 1 0 (held v c && leb (endsAt v (t .n) (t .m) (t .e)) (length bytes)) accepted
+writeVerdict v c bytes = byLines (writeLines v c bytes) accepted
 
 -- the verdict, and the lent bytes after a call
 abbrev pub write : Version → Contents → List ℕ → Verdict × List ℕ
@@ -173,24 +176,23 @@ module _ (v : Version) (bytes : List ℕ) where
   abbrev pub endIn : ℕ
   endIn = endsAt v (nIn bytes) (mIn bytes) (eIn bytes)
 
-  -- the header's length, version and counts, and then what is next
-  abbrev pub headed : Verdict → Verdict
-  headed next =
-      require 14 (length bytes) (leb (headOf v) (length bytes))
-      (require 14 0 (eqb (field 2 0 bytes) (versionNumber v))
-      (require 14 2 (between 1 (nIn bytes) 4096)
-      (require 14 4 (leb (mIn bytes) (nIn bytes))
-      (require 14 6 (leb (eIn bytes) 16384) next))))
+  -- 14, of the header's length, version and counts: the place is the wrong field's, or the length of a file that is shorter than a header
+  abbrev pub headLines : List Line
+  headLines =
+      whole 14 (length bytes) (leb (headOf v) (length bytes)) ∷ whole 14 0 (eqb (field 2 0 bytes) (versionNumber v))
+      ∷ whole 14 2 (between 1 (nIn bytes) 4096) ∷ whole 14 4 (leb (mIn bytes) (nIn bytes)) ∷ whole 14 6 (leb (eIn bytes) 16384) ∷ []
 
-  -- the header's fields in their order; the total is also the file's length
+  -- and of where start values, rows and entries begin, the total, which is also the file's length, and where bounds begin
+  abbrev pub headerLines : List Line
+  headerLines = let h = headOf v in
+      headLines
+      ++ (
+      whole 14 8 (eqb (field 4 8 bytes) h) ∷ whole 14 12 (eqb (field 4 12 bytes) (rowsFrom h (nIn bytes)))
+      ∷ whole 14 16 (eqb (field 4 16 bytes) (entriesFrom h (nIn bytes) (mIn bytes)))
+      ∷ whole 14 20 (eqb (field 4 20 bytes) endIn && eqb (length bytes) endIn) ∷ whole 14 24 (boundsTold v bytes) ∷ [])
+
   unfoldable pub header : Verdict
-  header = let h = headOf v in
-      headed
-      (require 14 8 (eqb (field 4 8 bytes) h)
-      (require 14 12 (eqb (field 4 12 bytes) (rowsFrom h (nIn bytes)))
-      (require 14 16 (eqb (field 4 16 bytes) (entriesFrom h (nIn bytes) (mIn bytes)))
-      (require 14 20 (eqb (field 4 20 bytes) endIn && eqb (length bytes) endIn)
-      (require 14 24 (boundsTold v bytes) accepted)))))
+  header = byLines headerLines accepted
 
   -- laid over lent rows
   abbrev pub laid : ℕ → ℕ → ℕ → Contents → Contents
@@ -199,8 +201,11 @@ module _ (v : Version) (bytes : List ℕ) where
       (lowsFrom bytes h n m e k (c .lows)) (highsFrom bytes h n m e k (c .highs))
 
   -- the header is judged first, then whether the lent rows hold the model
+  abbrev pub readLines : Contents → List Line
+  readLines c = headerLines ++ (whole 1 0 (held v (counted (nIn bytes) (mIn bytes) (eIn bytes) c)) ∷ [])
+
   unfoldable pub readVerdict : Contents → Verdict
-  readVerdict c = leaves header (require 1 0 (held v (counted (nIn bytes) (mIn bytes) (eIn bytes) c)) accepted) header
+  readVerdict c = byLines (readLines c) accepted
 
   -- the verdict, and the lent rows after a call, under the counts of the file (0 if refused)
   abbrev pub read : Contents → Verdict × Contents
@@ -225,8 +230,11 @@ module _ (from to : Version) (bytes : List ℕ) where
       ++ joined fullBytes (bounded to (nIn bytes))
 
   -- the header, then bounds that would be lost, then a short buffer
+  abbrev pub convertLines : List ℕ → List Line
+  convertLines file = headerLines from bytes ++ (places 18 (bounded from (nIn bytes)) (fullIn from bytes) ∷ whole 1 0 (leb (endIn to bytes) (length file)) ∷ [])
+
   unfoldable pub convertVerdict : List ℕ → Verdict
-  convertVerdict file = leaves (header from bytes) (check 18 (bounded from (nIn bytes)) (fullIn from bytes) (require 1 0 (leb (endIn to bytes) (length file)) accepted)) (header from bytes)
+  convertVerdict file = byLines (convertLines file) accepted
 
   -- the verdict, the new file's length (0 if refused), and the lent buffer after a call
   abbrev pub convert : List ℕ → Verdict × (ℕ × List ℕ)

@@ -2,9 +2,7 @@ pub mod Lists
 pub mod Formula
 pub mod Net
 pub mod Tables
-pub mod Straight
 pub mod Chains
-pub mod Permitted
 pub mod Checks
 pub mod Log
 pub mod Reason

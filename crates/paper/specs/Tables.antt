@@ -1,11 +1,11 @@
 -- The lent tables, the model that they describe, the order of its rows, and the index of the rows that read each variable. Assumes nothing.
-use Prim.Native.Nat.{ℕ, suc, _+_}
+use Prim.Native.Nat.{ℕ, suc}
 use mathlib.Core.Bool.{Bool, cond}
-use mathlib.Core.List.{List, [], _∷_, _++_, map}
+use mathlib.Core.List.{List, [], _++_, map}
 use lib.IntN.{ℤ, pos}
-use lib.Dec.{eqb, leb, ltb}
+use lib.Dec.{eqb, ltb}
 use lib.ListN.{length, getD, take, drop}
-use Rattle.paper.specs.Lists.{any, every, nat, seek, those, joined, over}
+use Rattle.paper.specs.Lists.{any, nat, seek, those, joined, over}
 use Rattle.paper.specs.Formula.{formula, looked}
 use Rattle.paper.specs.Net.{Net, Values, able}
 
@@ -29,12 +29,6 @@ lent n m e kinds makes params firsts counts vars coefs =
 -- tables without what their rows hold beyond the counts
 abbrev pub bare : Tables → Tables
 bare t = let m = t .m in let e = t .e in lent (t .n) m e (take m (t .kinds)) (take m (t .makes)) (take m (t .params)) (take m (t .firsts)) (take m (t .counts)) (take e (t .vars)) (take e (t .coefs))
-
--- the part of a row, for a caller who asks: its first entry and how many it has; 0 and 0 if there is no such row or its part ends after e
-abbrev pub partAsked : ℕ → ℕ → List ℕ → List ℕ → List ℕ → ℕ → ℕ × ℕ
-partAsked m e firsts counts vars row =
-    let end = nat firsts row + nat counts row in
-    cond (every (ltb row m ∷ ltb row (length firsts) ∷ ltb row (length counts) ∷ leb end e ∷ leb end (length vars) ∷ [])) (nat firsts row, nat counts row) (0, 0)
 
 -- an index of readers: where the rows that read each variable start among the places, and the rows
 pub record Index : Type 0 where

@@ -14,7 +14,7 @@ use borrow.Author.Tests.{eqb-true, eqb-false, ltb-true, ltb-false, not-false}
 use Rattle.paper.specs.Lists.{nat}
 use Rattle.paper.specs.Formula.{formula, looked}
 use Rattle.paper.specs.Net.{Values, afresh}
-use Rattle.paper.specs.Straight.{number}
+use Rattle.paper.proofs.Straight.{number}
 use Rattle.paper.specs.Tables.{Tables, part}
 use Rattle.paper.proofs.Lists.{clash, all-in}
 use Rattle.paper.proofs.Lawful.{Lawful, looked-in, formula-same, looked-same}

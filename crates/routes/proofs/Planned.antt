@@ -6,16 +6,19 @@ use mathlib.Core.List.{List, [], map, List·Memᴰ, List·Memᴰ·not-nil}
 use mathlib.Core.Path.{_≡_, refl, ap, sym, _∙_, subst}
 use lib.Dec.{eqb, ltb}
 use lib.IntN.{ℤ, pos}
-use lib.ListN.{length, getD, take, List·getD-eq-default}
+use lib.ListN.{length, getD, take, replicate, List·getD-eq-default, getD-replicate}
+use lib.Seq.{ext-getD, length-take-le, getD-take}
 use borrow.Author.Tests.{ltb-true, ltb-false}
 use Rattle.paper.specs.Lists.{all, nat, below, over}
 use Rattle.paper.specs.Formula.{formula, looked}
 use Rattle.paper.specs.Net.{Values, Net, runs, able}
 use Rattle.paper.specs.Tables.{Tables, isMade, inputsOf, rowOf, part, formOf, asksOf}
 use Rattle.paper.proofs.Lists.{and-left, all-of}
-use Rattle.paper.proofs.Buffers.{length-below, getD-below, over-front, over-length}
+use Rattle.paper.proofs.Buffers.{length-below, getD-below, over-front, over-length, over-same}
 use Rattle.paper.proofs.Fix.{able-suc}
 use Rattle.paper.proofs.Accept.{sound-row, made-row, made-below}
+use Rattle.paper.proofs.Sizes.{sized-facts}
+use Rattle.tables.specs.Makers.{Makers, makerOf}
 use Rattle.routes.specs.Rows.{Ended, valuesOf}
 use Rattle.routes.specs.Routed.{Begun}
 use Rattle.routes.specs.Work.{rows, workNet, worksOut, RowsWorkable, workedOut, asksOut, Ready, AllAsked}
@@ -31,10 +34,26 @@ rowsOf t = rows (t .kinds) (t .params) (t .firsts) (t .counts) (t .vars) (t .coe
 pub over-fits : (n : ℕ) (f : ℕ → ℕ) (before row : List ℕ) → row ≡ over n f before → n ≤ length before → n ≤ length row
 over-fits n f before row e h = let l = ap length e ∙ over-length f n before h in omega arith
 
--- the row of work is the front of the row that it was planned in
-pub front-is : (n m : ℕ) (makes marks before row : List ℕ) → row ≡ over n (planned m makes marks) before → take n row ≡ workOf n m makes marks
+-- the row of work is the front of the row that it was planned in by the makers
+pub front-is : (t : Tables) (by : List ℕ) → Makers t by → (marks before row : List ℕ) → row ≡ over (t .n) (λ v. cond (eqb (nat marks v) 1) (nat by v) 0) before
+    → take (t .n) row ≡ workOf (t .n) (t .m) (t .makes) marks
 unfolding workOf
-front-is n m makes marks before row e = ap (take n) e ∙ over-front (planned m makes marks) n before
+front-is t by M marks before row e =
+    ap (take (t .n)) (e ∙ over-same (λ v. cond (eqb (nat marks v) 1) (nat by v) 0) (t .n) before (planned (t .m) (t .makes) marks) (λ v l. ap (λ x. cond (eqb (nat marks v) 1) x 0) (M .at v l)))
+    ∙ over-front (planned (t .m) (t .makes) marks) (t .n) before
+
+-- and where all are marked it is the makers' front itself
+pub front-all : (t : Tables) (by : List ℕ) → Makers t by → t .n ≤ 4096 → take (t .n) by ≡ workOf (t .n) (t .m) (t .makes) (replicate 4096 1)
+unfolding workOf
+front-all t by M few = ext-getD 0 (take (t .n) by) (below all (t .n)) (long ∙ sym (length-below all (t .n))) (λ v h.
+    let l : v < t .n = let k = long in omega arith in
+    getD-take (t .n) by v 0 l ∙ M .at v l ∙ sym (getD-below all (t .n) v 0 l ∙ ap (λ x. cond (eqb x 1) (makerOf (t .m) (t .makes) v) 0) (getD-replicate {A = ℕ} 4096 v 1 0 (omega arith))))
+  where
+    all : ℕ → ℕ
+    all = planned (t .m) (t .makes) (replicate 4096 1)
+
+    long : length (take (t .n) by) ≡ t .n
+    long = length-take-le (t .n) by (M .long)
 
 module _ (t : Tables) (d : Ended t) (marks : List ℕ) where
   -- v is made and marked
@@ -155,11 +174,8 @@ module _ (t : Tables) (d : Ended t) (marks : List ℕ) where
       at u e true q = absurd (let z = clear u (does-below u q) in let o = e (works-is u ∙ q) in omega arith)
       at u e false q = sym (worked-idle (rowsOf t) work workable trial u (works-is u ∙ q))
 
-  -- ── the front of a row that it was planned in, over clear flags ──
-  module _ (before row : List ℕ) (e : row ≡ over (t .n) (planned (t .m) (t .makes) marks) before) (asked : List ℕ) where
-    front : take (t .n) row ≡ work
-    front = front-is (t .n) (t .m) (t .makes) marks before row e
-
+  -- ── as the front of a row, over clear flags ──
+  module _ (row : List ℕ) (front : take (t .n) row ≡ work) (asked : List ℕ) where
     pub can-ask : (stored trial : List ℤ) (flags : List ℕ) → Begun t stored trial flags → all (λ v. ltb v (t .n)) asked ≡ true
         → RowsWorkable (rowsOf t) (take (t .n) row) × ((all (λ v. ltb v (length (take (t .n) row))) asked ≡ true) × Ready (rowsOf t) (take (t .n) row) trial flags)
     can-ask stored trial flags b low =

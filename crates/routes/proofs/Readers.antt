@@ -11,7 +11,7 @@ use lib.ListN.{length, set}
 use lib.Seq.{slice}
 use Rattle.paper.specs.Lists.{any, nat}
 use Rattle.paper.specs.Net.{able, runs}
-use Rattle.paper.specs.Straight.{number}
+use Rattle.paper.proofs.Straight.{number}
 use Rattle.paper.proofs.Lists.{all-in, all-of, any-in, eqb-self}
 use Rattle.paper.proofs.Lawful.{Lawful}
 use Rattle.paper.proofs.Numbers.{lower-input, number-right, number-le}

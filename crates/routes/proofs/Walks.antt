@@ -13,7 +13,7 @@ use borrow.Author.Tests.{ltb-true, ltb-false, lt-ltb}
 use Rattle.paper.specs.Lists.{nat}
 use Rattle.paper.specs.Formula.{formula}
 use Rattle.paper.specs.Tables.{Tables, net, isMade, inputsOf, rowOf, part, formOf}
-use Rattle.paper.specs.Straight.{order}
+use Rattle.paper.proofs.Straight.{order}
 use Rattle.paper.specs.Checks.{Sound}
 use Rattle.paper.proofs.Lists.{all-in, all-of}
 use Rattle.paper.proofs.Sizes.{sized-facts}

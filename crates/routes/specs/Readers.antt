@@ -9,7 +9,7 @@ use lib.IntN.{ℤ, pos}
 use lib.ListN.{length}
 use Rattle.paper.specs.Lists.{any, nat, those}
 use Rattle.paper.specs.Net.{Net, able, differs}
-use Rattle.paper.specs.Straight.{number}
+use Rattle.paper.proofs.Straight.{number}
 use Rattle.rows.specs.Changes.{valuesOf}
 use Rattle.routes.specs.Sections.{section, madeFrom}
 use Rattle.routes.specs.Reach.{Closed}

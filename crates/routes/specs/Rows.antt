@@ -9,7 +9,7 @@ use Rattle.paper.specs.Lists.{nat}
 use Rattle.paper.specs.Formula.{formula}
 use Rattle.paper.specs.Net.{able}
 use Rattle.paper.specs.Tables.{Tables, inputsOf}
-use Rattle.paper.specs.Straight.{order}
+use Rattle.paper.proofs.Straight.{order}
 use Rattle.paper.specs.Checks.{Sound}
 use Rattle.formulas.specs.Inputs.{partOf, inputs}
 use Rattle.formulas.specs.Row.{PartFits}

@@ -10,7 +10,7 @@ use lib.ListN.{length, getD, take, drop}
 use Rattle.paper.specs.Lists.{all, nat}
 use Rattle.paper.specs.Formula.{formula, looked, elementLooks}
 use Rattle.paper.specs.Net.{Values, Net, able, afresh}
-use Rattle.paper.specs.Straight.{number}
+use Rattle.paper.proofs.Straight.{number}
 use Rattle.paper.specs.Tables.{Tables, lent, part}
 use Rattle.routes.specs.Reach.{Closed, Reached, Reaching}
 use Rattle.routes.specs.Rows.{valuesOf, RowFits}

@@ -9,8 +9,8 @@ use lib.Dec.{eqb, leb}
 use lib.IntN.{ℤ, pos}
 use lib.ListN.{length, getD, drop, length-append}
 use borrow.Author.Tests.{leb-true}
-use Rattle.paper.specs.Checks.{Verdict, accepted, refused, require, Sound}
-use Rattle.paper.specs.File.{version1, boundsFrom, endsAt, unboundedContents, fileBytes, nIn, mIn, eIn, headed, write}
+use Rattle.paper.specs.Checks.{Verdict, accepted, refused, require, Sound, byLines}
+use Rattle.paper.specs.File.{version1, boundsFrom, endsAt, unboundedContents, fileBytes, nIn, mIn, eIn, headLines, write}
 use Rattle.paper.specs.Lists.{any, those}
 use Rattle.paper.specs.Tables.{Tables}
 use Rattle.paper.proofs.Buffers.{length-below}
@@ -32,7 +32,7 @@ use Rattle.files.specs.declared.headers.Reading.the-variants as reading
 
 -- ── the header's version and counts ──
 module _ (bytes : List ℕ) where
-  module _ (head : headed version1 bytes accepted ≡ accepted) where
+  module _ (head : byLines (headLines version1 bytes) accepted ≡ accepted) where
     pub rows-most : mIn bytes ≤ nIn bytes
     rows-most = counted-facts version1 bytes head .m-most
 
@@ -55,11 +55,11 @@ module _ (bytes : List ℕ) where
     abbrev fits : Bool
     fits = leb (length (savedFile bytes)) (length file) && leb (length (savedList bytes)) (length list)
 
-    pub salvage-headed : {c p : ℕ} → headed version1 bytes accepted ≡ refused c p → leftBySalvage (Refused c p) file list ≡ salvage (lendsToSalvage bytes file list)
+    pub salvage-headed : {c p : ℕ} → byLines (headLines version1 bytes) accepted ≡ refused c p → leftBySalvage (Refused c p) file list ≡ salvage (lendsToSalvage bytes file list)
     unfolding salvage salvageVerdict
     salvage-headed h = simp (counted-stops version1 bytes h (require 1 0 fits accepted))
 
-    module _ (head : headed version1 bytes accepted ≡ accepted) where
+    module _ (head : byLines (headLines version1 bytes) accepted ≡ accepted) where
       verdict-is : salvageVerdict (lendsToSalvage bytes file list) ≡ require 1 0 fits accepted
       unfolding salvageVerdict
       verdict-is = counted-next version1 bytes head (require 1 0 fits accepted)

@@ -3,10 +3,11 @@
 use Prim.Native.Nat.{ℕ}
 use mathlib.Core.Bool.{_&&_}
 use mathlib.Core.List.{List, _++_}
+use mathlib.Core.Path.{_≡_}
 use lib.Dec.{leb}
 use lib.ListN.{length, drop}
-use Rattle.paper.specs.Checks.{Verdict, accepted, refused, require, leaves}
-use Rattle.paper.specs.File.{version1, headed}
+use Rattle.paper.specs.Checks.{Verdict, accepted, refused, require, leaves, byLines}
+use Rattle.paper.specs.File.{version1, headLines}
 use Rattle.damage.specs.Saved.{savedFile, droppedRows, resetValues, savedList}
 use Rattle.salvage.specs.declared.Salvaged.{Salvaged}
 use Rattle.salvage.specs.declared.Salvaged.the-variants.{Accepted, Refused}
@@ -25,7 +26,7 @@ pub record SalvageLeft : Type 0 where
 module _ (l : SalvageLent) where
   -- 14: the header's length, version and counts; then 1: room for the file and for the list
   unfoldable pub salvageVerdict : Verdict
-  salvageVerdict = headed version1 (l .bytes) (require 1 0 (leb (length (savedFile (l .bytes))) (length (l .file)) && leb (length (savedList (l .bytes))) (length (l .list))) accepted)
+  salvageVerdict = byLines (headLines version1 (l .bytes)) (require 1 0 (leb (length (savedFile (l .bytes))) (length (l .file)) && leb (length (savedList (l .bytes))) (length (l .list))) accepted)
 
   -- the length of the file, and how many rows and how many start values the list has
   abbrev pub salvagedBy : Verdict → Salvaged
@@ -47,3 +48,10 @@ lendsToSalvage bytes file list = record { bytes = bytes; file = file; list = lis
 
 abbrev pub leftBySalvage : Salvaged → List ℕ → List ℕ → SalvageLeft
 leftBySalvage answer file list = record { answer = answer; file = file; list = list }
+
+-- what a caller has at exit; `stated` is the contract's equation
+pub record SalvageHad (l : SalvageLent) : Type 0 where
+  pub answer : Salvaged
+  pub file : List ℕ
+  pub list : List ℕ
+  pub stated : leftBySalvage answer file list ≡ salvage l

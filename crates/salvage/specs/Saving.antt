@@ -6,8 +6,8 @@ use mathlib.Core.Path.{_≡_}
 use lib.Dec.{eqb, leb}
 use lib.IntN.{ℤ, pos}
 use lib.ListN.{getD, take}
-use Rattle.paper.specs.Checks.{accepted}
-use Rattle.paper.specs.File.{version1, rowsFrom, mIn, headed}
+use Rattle.paper.specs.Checks.{accepted, byLines}
+use Rattle.paper.specs.File.{version1, rowsFrom, mIn, headLines}
 use Rattle.paper.specs.Lists.{nat}
 use Rattle.paper.specs.Tables.{Tables}
 use Rattle.damage.specs.Starts.{startTest}
@@ -21,14 +21,14 @@ startTaken size by starts v = startTest (leb (rowsFrom 24 (suc v)) size) (not (e
 -- ── what is to be saved ──
 -- what the file gives, and which of its rows stand
 pub record Judged (bytes : List ℕ) (t : Tables) (starts : List ℤ) (row : List Bool) : Type 0 where
-  pub head : headed version1 bytes accepted ≡ accepted
+  pub head : byLines (headLines version1 bytes) accepted ≡ accepted
   pub tables : t ≡ given bytes
   pub values : take (t .n) starts ≡ startGiven bytes
   pub standing : (r : ℕ) → r < t .m → getD row r false ≡ isSaved bytes r
 
 -- the tables saved, and the start values given
 pub record Packed (bytes : List ℕ) (m : ℕ) (t : Tables) (starts : List ℤ) (row : List Bool) : Type 0 where
-  pub head : headed version1 bytes accepted ≡ accepted
+  pub head : byLines (headLines version1 bytes) accepted ≡ accepted
   pub rows : m ≡ mIn bytes
   pub tables : t ≡ savedTables bytes
   pub values : take (t .n) starts ≡ startGiven bytes
@@ -36,7 +36,7 @@ pub record Packed (bytes : List ℕ) (m : ℕ) (t : Tables) (starts : List ℤ) 
 
 -- the tables and start values saved
 pub record SavedReady (bytes : List ℕ) (m : ℕ) (t : Tables) (starts : List ℤ) (row taken : List Bool) : Type 0 where
-  pub head : headed version1 bytes accepted ≡ accepted
+  pub head : byLines (headLines version1 bytes) accepted ≡ accepted
   pub rows : m ≡ mIn bytes
   pub tables : t ≡ savedTables bytes
   pub values : starts ≡ savedStarts bytes

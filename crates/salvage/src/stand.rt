@@ -3,7 +3,7 @@ ghost use mathlib.Core.Path.{_≡_};
 ghost use Prim.Native.Nat.{_≤_};
 ghost use lib.ListN.{length, take};
 ghost use Rattle.paper.specs.Tables.{lent};
-ghost use Rattle.paper.specs.Checks.{accepted};
+ghost use Rattle.paper.specs.Checks.{accepted, byLines};
 ghost use Rattle.paper.specs.File as File;
 ghost use Rattle.damage.specs.Saved.{startGiven};
 ghost use Rattle.salvage.specs.Salvage.{lendsToSalvage, leftBySalvage};
@@ -79,7 +79,7 @@ pub(crate) fn salvage_given(
     list: &mut [u16],
 ) -> Salvaged
     requires counts { ⌜ (n ≡ File.nIn (now bytes)) × (m ≡ File.mIn (now bytes)) × (e ≡ File.eIn (now bytes)) ⌝ }
-    requires head { ⌜ File.headed File.version1 (now bytes) accepted ≡ accepted ⌝ }
+    requires head { ⌜ byLines (File.headLines File.version1 (now bytes)) accepted ≡ accepted ⌝ }
     ensures { λ r. ⌜ leftBySalvage r (now (file .exit)) (now (list .exit)) ≡ Salvage.salvage (lendsToSalvage (now (bytes .entry)) (now (file .entry)) (now (list .entry))) ⌝ }
 {
     let mut starts = [0i32; 4096];

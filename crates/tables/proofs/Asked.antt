@@ -10,11 +10,10 @@ use lib.ListN.{length, take, drop}
 use denote.Ref.{RefT, now}
 use borrow.Author.Tests.{ltb-true, leb-true}
 use Rattle.paper.specs.Lists.{nat, every}
-use Rattle.paper.specs.Tables.{partAsked}
 use Rattle.paper.proofs.Lists.{and-left, and-right, each}
 use Rattle.tables.proofs.Tests.{in-two}
 use Rattle.tables.proofs.Cut.{cut}
-use Rattle.tables.specs.Given.{liesAt, partNamed}
+use Rattle.tables.specs.Given.{partAsked, liesAt, partNamed}
 use Rattle.tables.specs.declared.parts.Part.{Part}
 
 module _ (m e : ℕ) (firsts counts vars : List ℕ) (row : ℕ) where

@@ -11,7 +11,7 @@ use lib.ListN.{getD, take, drop}
 use borrow.Author.Tests.{leb-true, ltb-true}
 use Rattle.paper.specs.Lists.{total, nat, firstFail}
 use Rattle.paper.specs.Tables.{Tables, part}
-use Rattle.paper.specs.Checks.{Verdict, accepted, refused, check, require, kindGood, shapeGood, numberGood, Bounds, boundsGood, madeOnce, rowChecks}
+use Rattle.paper.specs.Checks.{Verdict, accepted, refused, check, require, kindGood, shapeGood, numberGood, Bounds, boundsGood, madeOnce, rowLines, byLines}
 use Rattle.paper.proofs.Lists.{each}
 use Rattle.paper.proofs.Least.{firstFail-before}
 use Rattle.paper.proofs.Scan.{firstFail-same}
@@ -70,7 +70,7 @@ refused-is k a b (refused c d) e = let p : c ≡ a = cc in let q : d ≡ b = cc 
 -- ── what a caller has of the tables ──
 
 -- where `row_checks` accepts: each row makes a variable below n
-pub rows-make : (t : Tables) → rowChecks t accepted ≡ accepted → AllBelow (t .m) (t .makes) (t .n)
+pub rows-make : (t : Tables) → byLines (rowLines t) accepted ≡ accepted → AllBelow (t .m) (t .makes) (t .n)
 rows-make t e = record {
   at = λ r l. ltb-true (nat (t .makes) r) (t .n) (each _ (check-held 3 (t .m) (shapeGood t) _ (check-rest 2 (t .m) (kindGood t) (fromThree t accepted) e) r l) .0);
 }

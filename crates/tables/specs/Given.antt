@@ -1,10 +1,19 @@
--- A part of a lent row as it is given back: that very part, and no other that holds the same. Assumes nothing.
+-- The part of a row that a caller asks for, and a part of a lent row as it is given back: that very part, and no other that holds the same. Assumes nothing.
 use Prim.Native.Nat.{ℕ, _+_, _*_}
-use mathlib.Core.List.{List}
+use mathlib.Core.Bool.{cond}
+use mathlib.Core.List.{List, [], _∷_}
 use mathlib.Core.Path.{_≡_}
-use lib.ListN.{take, drop}
+use lib.Dec.{leb, ltb}
+use lib.ListN.{length, take, drop}
 use denote.Ref.{RefT, ptr, now}
+use Rattle.paper.specs.Lists.{every, nat}
 use Rattle.tables.specs.declared.parts.Part.{Part}
+
+-- the part of a row, for a caller who asks: its first entry and how many it has; 0 and 0 if there is no such row or its part ends after e
+abbrev pub partAsked : ℕ → ℕ → List ℕ → List ℕ → List ℕ → ℕ → ℕ × ℕ
+partAsked m e firsts counts vars row =
+    let end = nat firsts row + nat counts row in
+    cond (every (ltb row m ∷ ltb row (length firsts) ∷ ltb row (length counts) ∷ leb end e ∷ leb end (length vars) ∷ [])) (nat firsts row, nat counts row) (0, 0)
 
 -- a part as it is named: its first place and how many it has
 abbrev pub partNamed : ℕ × ℕ → Part

@@ -1,7 +1,6 @@
 // The part of the lent entries that a row names, for whoever asks.
 ghost use mathlib.Core.Path.{_≡_};
-ghost use Rattle.paper.specs.Tables.{partAsked};
-ghost use Rattle.tables.specs.Given.{VeryPart, partNamed};
+ghost use Rattle.tables.specs.Given.{VeryPart, partAsked, partNamed};
 use integers::wide;
 
 // A part of the lent entries: where it starts among them, and how many it has.

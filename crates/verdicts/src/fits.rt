@@ -81,7 +81,7 @@ pub fn build_fits(
 }
 
 // Check 1 of the model that trial, keep and taking back are lent.
-fn model_fits(
+pub fn model_fits(
     n: usize,
     m: usize,
     e: usize,

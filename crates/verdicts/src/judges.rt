@@ -1,12 +1,12 @@
 // The verdicts of the calls that change values: the checks in their order, over shared slices and scratch rows. No buffer of a call is written here,
-// so none has changed where the call is refused.
+// so none has changed where the call is refused. If it is accepted, `by` holds the makers and `closed` says whether some chain closes.
 mod back;
 
 ghost use mathlib.Core.Path.{_≡_};
 ghost use Rattle.paper.specs.Log.{Log, logIn};
 ghost use Rattle.paper.specs.Calls.{Model, TrialLent, KeepLent, trialVerdict, keepVerdict, takeVerdict};
-ghost use Rattle.tables.specs.Answers.{answerOf};
 ghost use Rattle.verdicts.specs.Lent.{toModel, toTry, toKeep, toTake};
+ghost use Rattle.verdicts.specs.ModelJudged.{CallJudged};
 use crate::fits::keep_fits;
 use crate::fits::take_fits;
 use crate::fits::trial_fits;
@@ -50,10 +50,12 @@ pub fn judge_trial(
     trial: &[i32],
     flags: &[u8],
     why: &[u8],
+    by: &mut [u16; 4096],
+    closed: &mut bool,
 ) -> Answer
     ghost { Model × TrialLent }
     requires lent { λ w. ⌜ (toModel n m e (now kinds) (now makes) (now params) (now firsts) (now counts) (now vars) (now coefs) (now lows) (now highs) (now numbers) (now order) (now stored) (now «reader_starts») (now «reader_places») (now reasons), toTry pairs (now «move_vars») (now «move_values») asked (now «asked_vars») route (now results) (now trial) (now flags) (now why)) ≡ w ⌝ }
-    ensures { λ (model, tried) r. ⌜ r ≡ answerOf 0 (trialVerdict (record { kept = 0; evaluations = 0; blanks = blanks }) model tried) ⌝ }
+    ensures { λ (model, tried) r. ⌜ CallJudged (trialVerdict (record { kept = 0; evaluations = 0; blanks = blanks }) model tried) (model .tables) (now (by .exit)) (now (closed .exit)) r ⌝ }
 {
     if !trial_fits(
         n,
@@ -87,7 +89,6 @@ pub fn judge_trial(
     ) {
         return refused(1, 0);
     }
-    let mut by = [0u16; 4096];
     let checked = model_checks(
         blanks,
         n,
@@ -108,14 +109,15 @@ pub fn judge_trial(
         reader_starts,
         reader_places,
         reasons,
-        &mut by,
+        by,
+        closed,
     );
     let Answer::Accepted { .. } = checked else {
         return checked;
     };
     let asking = ask_checks(
         n,
-        &by,
+        by,
         lows,
         highs,
         pairs,
@@ -139,8 +141,8 @@ pub fn judge_trial(
         counts,
         vars,
         coefs,
-        &by,
-        numbers,
+        by,
+        *closed,
         stored,
         pairs,
         move_vars,
@@ -177,10 +179,12 @@ pub fn judge_keep(
     log_sizes: &[u16],
     log_vars: &[u16],
     log_values: &[i32],
+    by: &mut [u16; 4096],
+    closed: &mut bool,
 ) -> Answer
     ghost { Log × Model × KeepLent }
     requires lent { λ w. ⌜ (logIn (now «log_sizes») (now «log_vars») (now «log_values»), toModel n m e (now kinds) (now makes) (now params) (now firsts) (now counts) (now vars) (now coefs) (now lows) (now highs) (now numbers) (now order) (now stored) (now «reader_starts») (now «reader_places») (now reasons), toKeep pairs (now «move_vars») (now «move_values») (now flags)) ≡ w ⌝ }
-    ensures { λ (log, model, keep) r. ⌜ r ≡ answerOf 0 (keepVerdict (record { kept = kept; evaluations = 0; blanks = blanks }) log model keep) ⌝ }
+    ensures { λ (log, model, keep) r. ⌜ CallJudged (keepVerdict (record { kept = kept; evaluations = 0; blanks = blanks }) log model keep) (model .tables) (now (by .exit)) (now (closed .exit)) r ⌝ }
 {
     if !keep_fits(
         n,
@@ -211,7 +215,6 @@ pub fn judge_keep(
     ) {
         return refused(1, 0);
     }
-    let mut by = [0u16; 4096];
     let checked = model_checks(
         blanks,
         n,
@@ -232,14 +235,15 @@ pub fn judge_keep(
         reader_starts,
         reader_places,
         reasons,
-        &mut by,
+        by,
+        closed,
     );
     let Answer::Accepted { .. } = checked else {
         return checked;
     };
     let keeping = keep_checks(
         n,
-        &by,
+        by,
         lows,
         highs,
         kept,
@@ -264,8 +268,8 @@ pub fn judge_keep(
         counts,
         vars,
         coefs,
-        &by,
-        numbers,
+        by,
+        *closed,
         stored,
         pairs,
         move_vars,
@@ -299,10 +303,12 @@ pub fn judge_take_back(
     log_sizes: &[u16],
     log_vars: &[u16],
     log_values: &[i32],
+    by: &mut [u16; 4096],
+    closed: &mut bool,
 ) -> Answer
     ghost { Log × Model }
     requires lent { λ w. ⌜ (logIn (now «log_sizes») (now «log_vars») (now «log_values»), toModel n m e (now kinds) (now makes) (now params) (now firsts) (now counts) (now vars) (now coefs) (now lows) (now highs) (now numbers) (now order) (now stored) (now «reader_starts») (now «reader_places») (now reasons)) ≡ w ⌝ }
-    ensures { λ (log, model) r. ⌜ r ≡ answerOf 0 (takeVerdict (record { kept = kept; evaluations = 0; blanks = blanks }) log model (toTake (now (flags .entry)))) ⌝ }
+    ensures { λ (log, model) r. ⌜ CallJudged (takeVerdict (record { kept = kept; evaluations = 0; blanks = blanks }) log model (toTake (now (flags .entry)))) (model .tables) (now (by .exit)) (now (closed .exit)) r ⌝ }
 {
     if !take_fits(
         n,
@@ -330,7 +336,6 @@ pub fn judge_take_back(
     ) {
         return refused(1, 0);
     }
-    let mut by = [0u16; 4096];
     let checked = model_checks(
         blanks,
         n,
@@ -351,12 +356,13 @@ pub fn judge_take_back(
         reader_starts,
         reader_places,
         reasons,
-        &mut by,
+        by,
+        closed,
     );
     let Answer::Accepted { .. } = checked else {
         return checked;
     };
-    let taking = take_checks(n, &by, lows, highs, kept, log_sizes, log_vars, log_values);
+    let taking = take_checks(n, by, lows, highs, kept, log_sizes, log_vars, log_values);
     let Answer::Accepted { .. } = taking else {
         return taking;
     };
@@ -371,8 +377,8 @@ pub fn judge_take_back(
         counts,
         vars,
         coefs,
-        &by,
-        numbers,
+        by,
+        *closed,
         stored,
         log_sizes,
         log_vars,

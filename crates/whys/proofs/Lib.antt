@@ -1,3 +1,4 @@
 pub mod Tests
 mod Rows
+mod Parts
 pub mod Noted

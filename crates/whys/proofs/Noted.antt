@@ -2,7 +2,7 @@
 -- reason of the paper where the row holds the values that the formula looks at. Assumes nothing.
 use Prim.Native.Nat.{ℕ, suc, _≤_, _<_}
 use native.Mathlib.Omega.{arith}
-use mathlib.Core.Bool.{Bool, true, false, cond, not, _&&_, _||_, true≢false, false≢true}
+use mathlib.Core.Bool.{Bool, true, false, cond, not, _&&_, _||_, false≢true}
 use mathlib.Core.List.{List, map}
 use mathlib.Core.Path.{_≡_, refl, ap, ap₂, sym, _∙_}
 use borrow.Author.Tests.{ltb-true, lt-ltb, eq-eqb}
@@ -10,7 +10,6 @@ use lib.Dec.{eqb, ltb}
 use lib.IntN.{ℤ}
 use lib.ListN.{length, replicate, getD-replicate}
 use Rattle.integers.specs.Integers.{eqZ}
-use Rattle.paper.specs.Calls.{blanksAmong}
 use Rattle.paper.specs.Lists.{all, nat, allBelow, over}
 use Rattle.paper.specs.Formula.{blank}
 use Rattle.paper.specs.Net.{Values}
@@ -19,8 +18,7 @@ use Rattle.paper.specs.Reason.{why, reasonOf, reasonAfter, reasonKept}
 use Rattle.paper.specs.Checks.{Sound}
 use Rattle.paper.proofs.Lists.{all-at, all-in, all-of}
 use Rattle.paper.proofs.Least.{allBelow-at}
-use Rattle.paper.proofs.Count.{size-zero}
-use Rattle.paper.proofs.Buffers.{over-same}
+use Rattle.paper.proofs.Buffers.{over-at, over-over, over-same}
 use Rattle.paper.proofs.Sizes.{sized-facts}
 use Rattle.paper.proofs.Accept.{sound-row, made-row}
 use Rattle.paper.proofs.Reason.{why-same}
@@ -28,7 +26,7 @@ use Rattle.paper.proofs.RouteReasons.{Shows}
 use Rattle.tables.specs.Makers.{makerOf, Makers}
 use Rattle.tables.proofs.Made.{makers-filled, maker-is, maker-zero}
 use Rattle.rows.specs.Changes.{valuesOf}
-use Rattle.whys.specs.Rows.{RowReads, AllRead, byMaker, currentBy, notedBy}
+use Rattle.whys.specs.Rows.{RowReads, AllRead, byMaker, currentBy, blankBy}
 use Rattle.whys.specs.Plain.{notBlank, plainNow, plainNoted}
 use Rattle.whys.specs.Noted.{shown, current, notedReason}
 
@@ -58,12 +56,12 @@ module _ (t : Tables) (s : Sound t) (values : List ℤ) (room : t .n ≤ length 
     abbrev held : Values
     held = valuesOf values
 
-    -- what the code works out for v, for a variable asked and as it is stored
+    -- what the code works out for v, for a variable asked and for a blank one
     abbrev currentOf : List ℕ → (ℕ → ℕ) → ℕ → ℕ
     currentOf flags stored v = currentBy (t .kinds) (t .firsts) (t .counts) (t .vars) values by flags (stored v) v
 
-    abbrev notedOf : List ℕ → (ℕ → ℕ) → ℕ → ℕ
-    notedOf flags stored v = notedBy (t .kinds) (t .firsts) (t .counts) (t .vars) values by flags (stored v) v
+    abbrev blankOf : List ℕ → (ℕ → ℕ) → ℕ → ℕ
+    blankOf flags stored v = blankBy (t .kinds) (t .firsts) (t .counts) (t .vars) values by flags (stored v) v
 
     shown-is : (v : ℕ) → v < t .n → byMaker (t .kinds) (t .firsts) (t .counts) (t .vars) values (held v) (nat by v) ≡ shown t held v
     shown-is v l = ap (byMaker (t .kinds) (t .firsts) (t .counts) (t .vars) values (held v)) (maker-is t by k v l) ∙ go (isMade t v) refl
@@ -75,16 +73,33 @@ module _ (t : Tables) (s : Sound t) (values : List ℤ) (room : t .n ≤ length 
     current-is : (flags : List ℕ) (stored : ℕ → ℕ) (v : ℕ) → v < t .n → currentOf flags stored v ≡ current t flags held stored v
     current-is flags stored v l = ap (λ x. cond (eqb (nat flags v) 1) x (stored v)) (shown-is v l)
 
-    noted-is : (flags : List ℕ) (stored : ℕ → ℕ) (v : ℕ) → v < t .n → notedOf flags stored v ≡ notedReason t flags held stored v
-    noted-is flags stored v l = ap₂ (λ b x. cond b 0 x) (maker-zero t by k v l) (current-is flags stored v l) ∙ go (isMade t v) (current t flags held stored v)
+    -- as if no value were blank, and then of the blank ones
+    noted-is : (flags : List ℕ) (stored : ℕ → ℕ) (v : ℕ) → v < t .n → blankOf flags (plainNoted by flags stored) v ≡ notedReason t flags held stored v
+    noted-is flags stored v l =
+        ap₂ (λ x b. cond (flagged && eqZ (held v) blank) (cond flagged x (cond (b || flagged) 0 (stored v))) (cond (b || flagged) 0 (stored v))) (shown-is v l) (maker-zero t by k v l)
+        ∙ go (isMade t v) flagged (eqZ (held v) blank) (why (nat (t .kinds) (rowOf t v)) (map held (inputsOf t v))) (stored v)
       where
-        go : (b : Bool) (x : ℕ) → cond (not b) 0 x ≡ cond b x 0
-        go true x = refl
-        go false x = refl
+        flagged : Bool
+        flagged = eqb (nat flags v) 1
+
+        go : (m a z : Bool) (w x : ℕ) → cond (a && z) (cond a (cond m (cond z w 0) 0) (cond (not m || a) 0 x)) (cond (not m || a) 0 x) ≡ cond m (cond a (cond m (cond z w 0) 0) x) 0
+        go true true true w x = refl
+        go true true false w x = refl
+        go true false z w x = refl
+        go false true true w x = refl
+        go false true false w x = refl
+        go false false z w x = refl
 
     -- ── row by row ──
-    pub noted-row : (flags before row : List ℕ) → row ≡ over (t .n) (notedOf flags (nat before)) before → row ≡ over (t .n) (notedReason t flags held (nat before)) before
-    noted-row flags before row e = e ∙ over-same (notedOf flags (nat before)) (t .n) before (notedReason t flags held (nat before)) (noted-is flags (nat before))
+    pub noted-row : (flags before plain row : List ℕ) → plain ≡ over (t .n) (plainNoted by flags (nat before)) before → row ≡ over (t .n) (blankOf flags (nat plain)) plain
+        → row ≡ over (t .n) (notedReason t flags held (nat before)) before
+    noted-row flags before plain row p e =
+        e ∙ ap (λ z. over (t .n) (blankOf flags (nat z)) z) p ∙ over-over (blankOf flags (nat cleared)) (t .n) before (plainNoted by flags (nat before))
+        ∙ over-same (blankOf flags (nat cleared)) (t .n) before (notedReason t flags held (nat before)) (λ v l.
+        ap (λ x. blankBy (t .kinds) (t .firsts) (t .counts) (t .vars) values by flags x v) (over-at (plainNoted by flags (nat before)) (t .n) before v 0 l) ∙ noted-is flags (nat before) v l)
+      where
+        cleared : List ℕ
+        cleared = over (t .n) (plainNoted by flags (nat before)) before
 
     pub asked-row : (flags stored asked before row : List ℕ) → all (λ v. ltb v (t .n)) asked ≡ true
         → row ≡ over (length asked) (λ i. currentOf flags (nat stored) (nat asked i)) before → row ≡ over (length asked) (λ i. current t flags held (nat stored) (nat asked i)) before
@@ -108,20 +123,6 @@ pub plain-row : (t : Tables) (flags : List ℕ) (values : List ℤ) (stored aske
 plain-row t flags values stored asked before row none e =
     e ∙ over-same (λ i. plainNow flags (nat stored) (nat asked i)) (length asked) before (λ i. current t flags (valuesOf values) (nat stored) (nat asked i))
     (λ i l. plain-is t flags values (nat stored) (nat asked i) (allBelow-at (λ k. notBlank flags values (nat asked k)) (length asked) none i l))
-
--- ── where no value is blank ──
-pub plain-noted : (t : Tables) (by : List ℕ) (k : Makers t by) (flags : List ℕ) (values : List ℤ) (before row : List ℕ) → blanksAmong (t .n) (valuesOf values) ≡ 0
-    → row ≡ over (t .n) (plainNoted by flags (nat before)) before → row ≡ over (t .n) (notedReason t flags (valuesOf values) (nat before)) before
-plain-noted t by k flags values before row none e =
-    e ∙ over-same (plainNoted by flags (nat before)) (t .n) before (notedReason t flags (valuesOf values) (nat before)) (λ v l.
-    ap (λ b. cond (b || eqb (nat flags v) 1) 0 (nat before v)) (maker-zero t by k v l)
-    ∙ go (isMade t v) (eqb (nat flags v) 1) (eqZ (valuesOf values v) blank) (size-zero (λ u. eqZ (valuesOf values u) blank) (t .n) none v l) (why (nat (t .kinds) (rowOf t v)) (map (valuesOf values) (inputsOf t v))) (nat before v))
-  where
-    go : (m a z : Bool) → z ≡ false → (w x : ℕ) → cond (not m || a) 0 x ≡ cond m (cond a (cond m (cond z w 0) 0) x) 0
-    go true true true q w x = absurd (true≢false q)
-    go true true false q w x = refl
-    go true false z q w x = refl
-    go false a z q w x = refl
 
 -- the row of makers, as it is filled over zeros
 pub makers-new : (t : Tables) → Sound t → (by : List ℕ) → by ≡ over (t .n) (makerOf (t .m) (t .makes)) (replicate 4096 0) → Makers t by

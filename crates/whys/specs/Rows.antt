@@ -1,7 +1,8 @@
 -- The reasons of variables over the rows that are read. Assumes nothing.
 use Prim.Native.Nat.{ℕ, zero, suc, _+_, _≤_, _<_}
-use mathlib.Core.Bool.{true, cond}
+use mathlib.Core.Bool.{true, cond, _&&_}
 use mathlib.Core.List.{List}
+use mathlib.Core.Logic.{_⊎_}
 use mathlib.Core.Path.{_≡_}
 use lib.Dec.{eqb, ltb}
 use lib.IntN.{ℤ, pos}
@@ -47,6 +48,12 @@ module _ (kinds firsts counts vars : List ℕ) (values : List ℤ) where
     abbrev pub currentBy : List ℕ → ℕ → ℕ → ℕ
     currentBy flags stored v = cond (eqb (nat flags v) 1) (byMaker (getD values v (pos 0)) (nat by v)) stored
 
-    -- as it is stored: 0 where there is no maker
-    abbrev pub notedBy : List ℕ → ℕ → ℕ → ℕ
-    notedBy flags stored v = cond (eqb (nat by v) 0) 0 (currentBy flags stored v)
+    -- the reason of v if its flag is 1 and its value blank, else the stored one
+    abbrev pub blankBy : List ℕ → ℕ → ℕ → ℕ
+    blankBy flags stored v = cond (eqb (nat flags v) 1 && eqZ (getD values v (pos 0)) blank) (currentBy flags stored v) stored
+
+-- the places from first to before end have had their turn: each has what it gives of what stood there, and the others stand as before
+pub record PartNoted (left : ℕ → ℕ → ℕ) (first end : ℕ) (before after : List ℕ) : Type 0 where
+  pub long : length after ≡ length before
+  pub inside : (v : ℕ) → first ≤ v → v < end → nat after v ≡ left (nat before v) v
+  pub outside : (v : ℕ) → (v < first) ⊎ (end ≤ v) → nat after v ≡ nat before v

@@ -1,6 +1,6 @@
 // Reasons where nothing came out blank: no row has to be looked at.
 ghost use Prim.Native.Nat.{_≤_};
-ghost use mathlib.Core.Bool.{true};
+ghost use mathlib.Core.Bool.{true, cond};
 ghost use mathlib.Core.Path.{_≡_};
 ghost use lib.Dec.{ltb};
 ghost use lib.ListN.{length};
@@ -36,6 +36,13 @@ pub fn ask_plain(n: usize, flags: &[u8], stored: &[u8], asked: &[u16], out: &mut
     }
 }
 
+// 0 if it is to be cleared, else the reason as it stands.
+fn cleared(clear: bool, stored: u8) -> u8
+    ensures { λ r. ⌜ r ≡ cond clear 0 stored ⌝ }
+{
+    if clear { 0 } else { stored }
+}
+
 // Stores the reasons of the first n variables: 0 where no row makes it or its flag is 1, else it stays. No turn branches, so that the compiler takes several
 // variables at a time.
 pub fn note_plain(n: usize, by: &[u16], flags: &[u8], reasons: &mut [u8])
@@ -43,10 +50,6 @@ pub fn note_plain(n: usize, by: &[u16], flags: &[u8], reasons: &mut [u8])
     ensures { λ _. ⌜ now (reasons .exit) ≡ over n (λ v. plainNoted (now (by .entry)) (now (flags .entry)) (nat (now (reasons .entry))) v) (now (reasons .entry)) ⌝ }
 {
     for v in 0..n {
-        reasons[v] = if (by[v] == 0) | (flags[v] == 1) {
-            0
-        } else {
-            reasons[v]
-        };
+        reasons[v] = cleared((by[v] == 0) | (flags[v] == 1), reasons[v]);
     }
 }

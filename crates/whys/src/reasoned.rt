@@ -5,8 +5,11 @@ ghost use mathlib.Core.Path.{_≡_};
 ghost use lib.Dec.{ltb};
 ghost use lib.ListN.{length};
 ghost use Rattle.paper.specs.Lists.{all, nat, over};
-ghost use Rattle.whys.specs.Rows.{RowReads, rowShown, Reads, AllRead, currentBy, notedBy};
+ghost use Rattle.whys.specs.Rows.{RowReads, rowShown, Reads, AllRead, currentBy, blankBy, PartNoted};
 use crate::reason;
+use formulas::blanks::blanks_among;
+use formulas::blanks::is_blank;
+use integers::naturals::smaller;
 use integers::wide;
 
 // The reason of a value of row r.
@@ -53,8 +56,8 @@ fn reason_now(
     row_reason(maker - 1, values[v], kinds, firsts, counts, vars, values)
 }
 
-// What is stored for variable v: 0 if no row makes it.
-fn reason_kept(
+// The reason of variable v if its flag is 1 and its value blank, else the one given.
+fn reason_of_blank(
     v: usize,
     stored: u8,
     by: &[u16],
@@ -67,16 +70,48 @@ fn reason_kept(
 ) -> u8
     requires { ⌜ Reads (now kinds) (now firsts) (now counts) (now vars) (now values) (now by) v ⌝ }
     requires { ⌜ v < length (now flags) ⌝ }
-    ensures { λ x. ⌜ x ≡ notedBy (now (kinds .entry)) (now (firsts .entry)) (now (counts .entry)) (now (vars .entry)) (now (values .entry)) (now (by .entry)) (now (flags .entry)) stored v ⌝ }
+    ensures { λ x. ⌜ x ≡ blankBy (now (kinds .entry)) (now (firsts .entry)) (now (counts .entry)) (now (vars .entry)) (now (values .entry)) (now (by .entry)) (now (flags .entry)) stored v ⌝ }
 {
-    if by[v] == 0 {
-        return 0;
+    if (flags[v] == 1) & is_blank(values[v]) {
+        return reason_now(v, stored, by, kinds, firsts, counts, vars, values, flags);
     }
-    reason_now(v, stored, by, kinds, firsts, counts, vars, values, flags)
+    stored
 }
 
-// Stores the reasons of the first n variables.
-pub fn note_by(
+// Stores the reasons of the blanks whose flag is 1 among the variables from `first` to before `end`.
+fn note_part(
+    first: usize,
+    end: usize,
+    by: &[u16],
+    kinds: &[u16],
+    firsts: &[u16],
+    counts: &[u16],
+    vars: &[u16],
+    values: &[i32],
+    flags: &[u8],
+    reasons: &mut [u8],
+)
+    requires { ⌜ AllRead (now kinds) (now firsts) (now counts) (now vars) (now values) (now by) end ⌝ }
+    requires { ⌜ (first ≤ end) × (end ≤ length (now flags)) × (end ≤ length (now reasons)) ⌝ }
+    ensures { λ _. ⌜ PartNoted (blankBy (now (kinds .entry)) (now (firsts .entry)) (now (counts .entry)) (now (vars .entry)) (now (values .entry)) (now (by .entry)) (now (flags .entry))) first end (now (reasons .entry)) (now (reasons .exit)) ⌝ }
+{
+    for v in first..end {
+        reasons[v] = reason_of_blank(
+            v,
+            reasons[v],
+            by,
+            kinds,
+            firsts,
+            counts,
+            vars,
+            values,
+            flags,
+        );
+    }
+}
+
+// Stores the reasons of the blanks whose flag is 1 among the first n variables. Where none of 64 values is blank they are passed at once.
+pub fn note_blanks(
     n: usize,
     by: &[u16],
     kinds: &[u16],
@@ -88,21 +123,27 @@ pub fn note_by(
     reasons: &mut [u8],
 )
     requires { ⌜ AllRead (now kinds) (now firsts) (now counts) (now vars) (now values) (now by) n ⌝ }
-    requires { ⌜ (n ≤ length (now flags)) × (n ≤ length (now reasons)) ⌝ }
-    ensures { λ _. ⌜ now (reasons .exit) ≡ over n (λ v. notedBy (now (kinds .entry)) (now (firsts .entry)) (now (counts .entry)) (now (vars .entry)) (now (values .entry)) (now (by .entry)) (now (flags .entry)) (nat (now (reasons .entry)) v) v) (now (reasons .entry)) ⌝ }
+    requires { ⌜ (n ≤ 4096) × (n ≤ length (now values)) × (n ≤ length (now flags)) × (n ≤ length (now reasons)) ⌝ }
+    ensures { λ _. ⌜ now (reasons .exit) ≡ over n (λ v. blankBy (now (kinds .entry)) (now (firsts .entry)) (now (counts .entry)) (now (vars .entry)) (now (values .entry)) (now (by .entry)) (now (flags .entry)) (nat (now (reasons .entry)) v) v) (now (reasons .entry)) ⌝ }
 {
-    for v in 0..n {
-        reasons[v] = reason_kept(
-            v,
-            reasons[v],
-            by,
-            kinds,
-            firsts,
-            counts,
-            vars,
-            values,
-            flags,
-        );
+    let mut v: usize = 0;
+    while v < n {
+        let end = smaller(v + 64, n);
+        if blanks_among(end - v, &values[v..end]) != 0 {
+            note_part(
+                v,
+                end,
+                by,
+                kinds,
+                firsts,
+                counts,
+                vars,
+                values,
+                flags,
+                reasons,
+            );
+        }
+        v = end;
     }
 }
 

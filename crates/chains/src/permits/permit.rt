@@ -9,11 +9,10 @@ ghost use mathlib.Core.Bool.{not};
 ghost use mathlib.Core.Path.{_≡_};
 ghost use Prim.Native.Nat.{min, _≤_};
 ghost use lib.ListN.{length};
-ghost use Rattle.paper.specs.Lists.{firstFail, allBelow};
+ghost use Rattle.paper.specs.Lists.{nat, over, firstFail, allBelow};
 ghost use Rattle.paper.specs.Chains.{depends, plainInputs, roundIndex, permitted};
 ghost use Rattle.tables.specs.Makers.{Makers};
 ghost use Rattle.order.specs.Formed.{Formed};
-ghost use Rattle.order.specs.Numbering.{Clean};
 ghost use Rattle.chains.specs.Links.{kinded, Shared};
 
 // The least variable on a closed chain that passes through no ELEMENT, or n.
@@ -53,6 +52,18 @@ fn first_plain(
     first_back(n, &begins, &stops, vars, &marks)
 }
 
+// Copies the numbers found of the first n variables.
+fn copy_found(n: usize, found: &[u16; 4096], numbers: &mut [u16])
+    requires { ⌜ (n ≤ 4096) × (n ≤ length (now numbers)) ⌝ }
+    ensures { λ _. ⌜ now (numbers .exit) ≡ over n (nat (now (found .entry))) (now (numbers .entry)) ⌝ }
+{
+    let mut v = 0;
+    while v < n {
+        numbers[v] = found[v];
+        v += 1;
+    }
+}
+
 // The least variable on a closed chain that passes through an index, or n; `numbers` then holds the number of every variable.
 fn first_round(
     n: usize,
@@ -63,18 +74,19 @@ fn first_round(
     counts: &[u16],
     vars: &[u16],
     by: &[u16],
-    numbers: &mut [u16; 4096],
+    numbers: &mut [u16],
 ) -> usize
     requires formed { ⌜ Formed (kinded n m (now kinds) (now makes) (now firsts) (now counts) (now vars)) ⌝ }
     requires there { ⌜ m ≤ length (now kinds) ⌝ }
     requires makers { ⌜ Makers (kinded n m (now kinds) (now makes) (now firsts) (now counts) (now vars)) (now by) ⌝ }
-    requires clean { ⌜ Clean n (now numbers) ⌝ }
+    requires room { ⌜ n ≤ length (now numbers) ⌝ }
     ensures least { λ r. ⌜ r ≡ firstFail (λ v. allBelow (λ x. not (roundIndex (kinded n m (now (kinds .entry)) (now (makes .entry)) (now (firsts .entry)) (now (counts .entry)) (now (vars .entry))) v x)) n) n ⌝ }
     ensures numbered { λ _. ⌜ Shared (kinded n m (now (kinds .entry)) (now (makes .entry)) (now (firsts .entry)) (now (counts .entry)) (now (vars .entry))) (now (numbers .exit)) ⌝ }
 {
     let mut begins = [0u16; 4096];
     let mut stops = [0u16; 4096];
     let mut marks = [0u16; 4096];
+    let mut found = [0u16; 4096];
     let mut barred = [false; 65536];
     set_links(
         true,
@@ -89,7 +101,8 @@ fn first_round(
         &mut begins,
         &mut stops,
     );
-    find_groups(n, &begins, &stops, vars, &mut marks, numbers);
+    find_groups(n, &begins, &stops, vars, &mut marks, &mut found);
+    copy_found(n, &found, numbers);
     bar_groups(n, kinds, by, &begins, vars, &marks, &mut barred);
     first_barred(n, &marks, &barred)
 }
@@ -104,12 +117,12 @@ pub fn find_shared(
     counts: &[u16],
     vars: &[u16],
     by: &[u16],
-    numbers: &mut [u16; 4096],
+    numbers: &mut [u16],
 ) -> usize
     requires formed { ⌜ Formed (kinded n m (now kinds) (now makes) (now firsts) (now counts) (now vars)) ⌝ }
     requires there { ⌜ m ≤ length (now kinds) ⌝ }
     requires makers { ⌜ Makers (kinded n m (now kinds) (now makes) (now firsts) (now counts) (now vars)) (now by) ⌝ }
-    requires clean { ⌜ Clean n (now numbers) ⌝ }
+    requires room { ⌜ n ≤ length (now numbers) ⌝ }
     ensures least { λ r. ⌜ r ≡ firstFail (permitted (kinded n m (now (kinds .entry)) (now (makes .entry)) (now (firsts .entry)) (now (counts .entry)) (now (vars .entry)))) n ⌝ }
     ensures numbered { λ _. ⌜ Shared (kinded n m (now (kinds .entry)) (now (makes .entry)) (now (firsts .entry)) (now (counts .entry)) (now (vars .entry))) (now (numbers .exit)) ⌝ }
 {

@@ -9,8 +9,9 @@ ghost use lib.ListN.{length};
 ghost use Rattle.paper.specs.Lists.{nat, allBelow};
 ghost use Rattle.paper.specs.Chains.{groupsNumbered};
 ghost use Rattle.tables.specs.Makers.{Makers};
-ghost use Rattle.order.specs.Formed.{Formed};
-ghost use Rattle.chains.specs.Links.{kinded};
+ghost use Rattle.order.specs.Formed.{bare, Formed};
+ghost use Rattle.order.specs.Numbering.{madeRight};
+ghost use Rattle.chains.specs.Links.{kinded, Told};
 
 // Whether a lent row holds what was found, below k.
 fn same_below(k: usize, row: &[u16], found: &[u16; 4096]) -> bool
@@ -53,7 +54,8 @@ fn groups_right(
     (barred == n) & (same_below(n, numbers, &shared) & same_below(m, order, &rows))
 }
 
-// Check 8. Where no chain closes the numbers and the order themselves show that they are right; only otherwise are they found anew.
+// Check 8 of numbers and order. Where no chain closes these themselves show that they are right, `due` those of what rows make; only otherwise are they
+// found anew. So, if it is passed, `closed` says whether some chain closes.
 pub fn shared_right(
     n: usize,
     m: usize,
@@ -65,14 +67,20 @@ pub fn shared_right(
     by: &[u16],
     numbers: &[u16],
     order: &[u16],
+    due: bool,
+    closed: &mut bool,
 ) -> bool
     requires formed { ⌜ Formed (kinded n m (now kinds) (now makes) (now firsts) (now counts) (now vars)) ⌝ }
     requires there { ⌜ m ≤ length (now kinds) ⌝ }
     requires makers { ⌜ Makers (kinded n m (now kinds) (now makes) (now firsts) (now counts) (now vars)) (now by) ⌝ }
     requires long { ⌜ (n ≤ length (now numbers)) × (m ≤ length (now order)) ⌝ }
-    ensures { λ r. ⌜ r ≡ groupsNumbered (kinded n m (now (kinds .entry)) (now (makes .entry)) (now (firsts .entry)) (now (counts .entry)) (now (vars .entry))) (now (numbers .entry)) (now (order .entry)) ⌝ }
+    requires told { ⌜ due ≡ allBelow (madeRight (bare n m (now makes) (now firsts) (now counts) (now vars)) (now numbers)) m ⌝ }
+    ensures right { λ r. ⌜ r ≡ groupsNumbered (kinded n m (now (kinds .entry)) (now (makes .entry)) (now (firsts .entry)) (now (counts .entry)) (now (vars .entry))) (now (numbers .entry)) (now (order .entry)) ⌝ }
+    ensures closing { λ _. ⌜ Told (kinded n m (now (kinds .entry)) (now (makes .entry)) (now (firsts .entry)) (now (counts .entry)) (now (vars .entry))) (now (numbers .entry)) (now (order .entry)) (now (closed .exit)) ⌝ }
 {
-    if numbered_right(n, m, makes, firsts, counts, vars, by, numbers, order) {
+    let open = numbered_right(n, m, makes, by, numbers, order, due);
+    *closed = !open;
+    if open {
         return true;
     }
     groups_right(n, m, kinds, makes, firsts, counts, vars, by, numbers, order)

@@ -3,8 +3,8 @@ ghost use mathlib.Core.Path.{_≡_};
 ghost use lib.ListN.{length};
 ghost use Rattle.paper.specs.Lists.{nat, below};
 ghost use Rattle.paper.specs.Tables.{lent};
-ghost use Rattle.paper.specs.Checks.{accepted};
-ghost use Rattle.paper.specs.File.{version1, headed, nIn, mIn, eIn};
+ghost use Rattle.paper.specs.Checks.{accepted, byLines};
+ghost use Rattle.paper.specs.File.{version1, headLines, nIn, mIn, eIn};
 ghost use Rattle.damage.specs.Scratch.{Laid};
 use fields::columns::lay_starts;
 use fields::laid::lay_entries;
@@ -45,7 +45,7 @@ pub fn lay_given(
     coefs: &mut [i16; 16384],
 )
     requires { ⌜ (n ≡ nIn (now bytes)) × (m ≡ mIn (now bytes)) × (e ≡ eIn (now bytes)) ⌝ }
-    requires { ⌜ headed version1 (now bytes) accepted ≡ accepted ⌝ }
+    requires { ⌜ byLines (headLines version1 (now bytes)) accepted ≡ accepted ⌝ }
     ensures { λ _. ⌜ Laid (now (bytes .entry)) (lent n m e (now (kinds .exit)) (now (makes .exit)) (now (params .exit)) (now (firsts .exit)) (now (counts .exit))
         (now (vars .exit)) (now (coefs .exit))) (now (starts .exit)) ⌝ }
 {

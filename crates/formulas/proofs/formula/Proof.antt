@@ -26,8 +26,8 @@ some c = some-inputs (c .args .kind) (length (c .args .vars .now)) (c .pre .suit
 few : (c : tie.Start) → length (c .args .vars .now) ≤ 256
 few c = few-inputs (c .args .kind) (length (c .args .vars .now)) (c .pre .suits)
 
-three : (c : tie.Start) → (eqb (c .args .kind) 8 || eqb (c .args .kind) 9) ≡ true → 2 < length (c .args .vars .now)
-three c k = omega (arith, three-inputs (c .args .kind) (length (c .args .vars .now)) k (c .pre .suits))
+three : (c : tie.Start) → (eqb (c .args .kind) 8 || eqb (c .args .kind) 9) ≡ true → length (c .args .vars .now) ≡ 3
+three c k = three-inputs (c .args .kind) (length (c .args .vars .now)) k (c .pre .suits)
 
 linear-requires : tie.Need-linear-requires
 linear-requires c κs = let s = c .before .before in ((s .pre .same, few s), s .pre .within)
@@ -48,7 +48,7 @@ count-requires : tie.Need-count-requires
 count-requires c κs = (few (c .before .before), c .before .before .pre .within)
 
 over-requires : tie.Need-over-requires
-over-requires c κs = let s = c .before .before in (omega (arith, two-inputs (length (s .args .vars .now)) (rw (c .match .keys7) at (s .pre .suits))), s .pre .within)
+over-requires c κs = let s = c .before .before in (two-inputs (length (s .args .vars .now)) (rw (c .match .keys7) at (s .pre .suits)), s .pre .within)
 
 departures-requires : tie.Need-departures-requires
 departures-requires c κs = (three (c .before .before) (rw (c .match .keys8) refl), c .before .before .pre .within)

@@ -1,104 +1,121 @@
-// Check 8 of the index: whether a lent one is what build gives, without writing it anew. Each row in turn must stand at the place that its
-// inputs' readers have reached, and in the end each variable's readers must have reached the start of the next one's.
+// Check 8 over the rows, in one walk. Each row in turn must stand at the place that its inputs' readers have reached, and in the end each variable's
+// readers must have reached the start of the next one's: then the lent index is what build gives. What each row makes is held to the number due from
+// its inputs on the way.
 ghost use Prim.Native.Nat.{suc, _≤_};
-ghost use mathlib.Core.Path.{_≡_};
 ghost use lib.ListN.{length};
-ghost use Rattle.paper.specs.Lists.{nat, over};
-ghost use Rattle.paper.specs.Tables.{indexIn};
-ghost use Rattle.paper.specs.Checks.{indexed};
-ghost use Rattle.order.specs.Numbering.{Clean};
+ghost use Rattle.order.specs.Formed.{bare, Formed};
 ghost use Rattle.index.specs.Index.{entriesOnly, EntriesLaid};
+ghost use Rattle.index.specs.Walk.{Begun, RowsWalked};
 use crate::tries::ends_right;
-use crate::tries::row_right;
+use crate::tries::row_due;
 use integers::wide;
 
-// Begins at each variable's start.
-fn begin(n: usize, starts: &[u16], reached: &mut [u16])
-    requires { ⌜ (n ≤ length (now starts)) × (n ≤ length (now reached)) ⌝ }
-    ensures { λ _. ⌜ now (reached .exit) ≡ over n (nat (now (starts .entry))) (now (reached .entry)) ⌝ }
+// Begins at each variable's start, with no row found.
+fn begin(n: usize, starts: &[u16], cells: &mut [u32])
+    requires { ⌜ (n ≤ length (now starts)) × (n ≤ length (now cells)) ⌝ }
+    ensures { λ _. ⌜ Begun n (now (starts .entry)) (now (cells .exit)) ⌝ }
 {
     for v in 0..n {
-        reached[v] = starts[v];
+        cells[v] = wide(starts[v]) as u32;
     }
 }
 
-// Check 8, over two rows of zeros.
-fn walk_right(
+// What the walk over the rows finds: whether the index is what build gives, and then whether what each row makes has the number due from its inputs.
+pub struct Held {
+    pub indexed: bool,
+    pub due: bool,
+}
+
+// The walk, over a row of cells.
+fn walk_rows(
     n: usize,
     m: usize,
     e: usize,
+    makes: &[u16],
     firsts: &[u16],
     counts: &[u16],
     vars: &[u16],
+    nums: &[u16],
     starts: &[u16],
     places: &[u16],
-    reached: &mut [u16],
-    last: &mut [u16],
-) -> bool
+    cells: &mut [u32],
+) -> Held
     requires laid { ⌜ EntriesLaid (entriesOnly n m e (now firsts) (now counts) (now vars)) ⌝ }
-    requires room { ⌜ (suc n ≤ length (now starts)) × (e ≤ length (now places)) ⌝ }
-    requires zeros { ⌜ Clean n (now reached) × Clean n (now last) ⌝ }
-    ensures { λ b. ⌜ b ≡ indexed (entriesOnly n m e (now (firsts .entry)) (now (counts .entry)) (now (vars .entry))) (indexIn (now (starts .entry)) (now (places .entry))) ⌝ }
+    requires formed { ⌜ Formed (bare n m (now makes) (now firsts) (now counts) (now vars)) ⌝ }
+    requires room { ⌜ (n ≤ length (now nums)) × (suc n ≤ length (now starts)) × (e ≤ length (now places)) ⌝ }
+    requires cells { ⌜ n ≤ length (now cells) ⌝ }
+    ensures { λ h. ⌜ RowsWalked (entriesOnly n m e (now (firsts .entry)) (now (counts .entry)) (now (vars .entry))) (bare n m (now (makes .entry)) (now (firsts .entry)) (now (counts .entry)) (now (vars .entry))) (now (nums .entry)) (now (starts .entry)) (now (places .entry)) h ⌝ }
 {
-    begin(n, starts, reached);
+    begin(n, starts, cells);
+    let mut due = true;
     for r in 0..m {
         let first = wide(firsts[r]);
-        if !row_right(
+        let least = row_due(
             r,
             &vars[first..first + wide(counts[r])],
+            nums,
             &places[..e],
-            reached,
-            last,
-        ) {
-            return false;
+            cells,
+        );
+        if least == 0 {
+            return Held {
+                indexed: false,
+                due: false,
+            };
         }
+        due = due & (wide(nums[wide(makes[r])]) == least);
     }
-    ends_right(n, starts, reached)
+    let indexed = ends_right(n, starts, cells);
+    Held { indexed, due }
 }
 
-// Check 8: whether the lent index is what build gives. A small model has short rows, since clearing long ones would take longer than the check.
-pub fn readers_right(
+// Check 8 over the rows: whether the lent index is what build gives, and the numbers of what rows make are due. A small model has a short row of cells,
+// since clearing a long one would take longer than the check.
+pub fn rows_right(
     n: usize,
     m: usize,
     e: usize,
+    makes: &[u16],
     firsts: &[u16],
     counts: &[u16],
     vars: &[u16],
+    nums: &[u16],
     starts: &[u16],
     places: &[u16],
-) -> bool
+) -> Held
     requires laid { ⌜ EntriesLaid (entriesOnly n m e (now firsts) (now counts) (now vars)) ⌝ }
-    requires room { ⌜ (suc n ≤ length (now starts)) × (e ≤ length (now places)) ⌝ }
-    ensures { λ b. ⌜ b ≡ indexed (entriesOnly n m e (now (firsts .entry)) (now (counts .entry)) (now (vars .entry))) (indexIn (now (starts .entry)) (now (places .entry))) ⌝ }
+    requires formed { ⌜ Formed (bare n m (now makes) (now firsts) (now counts) (now vars)) ⌝ }
+    requires room { ⌜ (n ≤ length (now nums)) × (suc n ≤ length (now starts)) × (e ≤ length (now places)) ⌝ }
+    ensures { λ h. ⌜ RowsWalked (entriesOnly n m e (now (firsts .entry)) (now (counts .entry)) (now (vars .entry))) (bare n m (now (makes .entry)) (now (firsts .entry)) (now (counts .entry)) (now (vars .entry))) (now (nums .entry)) (now (starts .entry)) (now (places .entry)) h ⌝ }
 {
     if n <= 256 {
-        let mut reached = [0u16; 256];
-        let mut last = [0u16; 256];
-        return walk_right(
+        let mut cells = [0u32; 256];
+        return walk_rows(
             n,
             m,
             e,
+            makes,
             firsts,
             counts,
             vars,
+            nums,
             starts,
             places,
-            &mut reached,
-            &mut last,
+            &mut cells,
         );
     }
-    let mut reached = [0u16; 4096];
-    let mut last = [0u16; 4096];
-    walk_right(
+    let mut cells = [0u32; 4096];
+    walk_rows(
         n,
         m,
         e,
+        makes,
         firsts,
         counts,
         vars,
+        nums,
         starts,
         places,
-        &mut reached,
-        &mut last,
+        &mut cells,
     )
 }

@@ -1,137 +1,87 @@
--- A refusal has written nothing; an acceptance is met field by field by what `fill_model` leaves. Assumes nothing.
-use native.Mathlib.Nat.{le-refl}
+-- The rows are as long as a model of n variables asks, and of zeros. Assumes nothing.
 use native.Mathlib.Omega.{arith}
-use mathlib.Core.Path.{_≡_, refl, sym, ap, _∙_}
-use Rattle.paper.specs.Checks.{accepted, refused}
-use Rattle.paper.specs.Chains.{worth}
-use Rattle.paper.specs.Calls.{BuildLent, startValues, buildVerdict}
-use Rattle.paper.proofs.Outcomes.{build-meets}
-use Rattle.paper.proofs.Sizes.{Sized}
-use Rattle.paper.proofs.Known.{build-known}
-use Rattle.tables.proofs.Judged.{accepted-is, refused-is}
+use mathlib.Core.Path.{sym}
+use Prim.Native.Nat.{ℕ}
+use lib.ListN.{length-replicate}
 use Rattle.order.proofs.Sweeps.{clean-new}
-use Rattle.verdicts.specs.Lent.{noRecord, toBuild}
-use Rattle.chains.proofs.Kinded.{permitted-kinded}
-use Rattle.records.specs.Left.{answerIn, recordIn}
-use Rattle.build.proofs.BuildJudging.{any-session, fitting}
-use Rattle.fills.proofs.Accepted.{filled-long, blanks-over}
 use Rattle.build.proofs.building.build_core.Statement.{statement}
 use Rattle.build.proofs.building.build_core.Tie as tie
 
-abbrev lent : tie.Start → BuildLent
-lent s =
-    let a = s .args in
-    toBuild (recordIn (a .session)) (a .n) (a .m) (a .e) (a .kinds .now) (a .makes .now) (a .params .now) (a .firsts .now) (a .counts .now) (a .vars .now) (a .coefs .now) (a .lows .now) (a .highs .now) (a .starts .now) (a .numbers .now) (a .order .now) (a .stored .now) (a .reader-starts .now) (a .reader-places .now) (a .reasons .now) (a .log-sizes .now)
+slice-aggregate-build-over : tie.Need-slice-aggregate-build-over
+slice-aggregate-build-over c = sym (length-replicate {A = ℕ} 256 0)
 
-abbrev start : tie.After-enum-told → tie.Start
-start c = c .before .before .before .before .before .before .before .before .before .before .before .before .before .before .before .before .before .before .before .before .before .before
+slice-aggregate-build-over-2 : tie.Need-slice-aggregate-build-over-2
+slice-aggregate-build-over-2 c = sym (length-replicate {A = ℕ} 256 0)
 
-passed : (c : tie.After-enum-told) → buildVerdict (lent (start c)) ≡ accepted
-passed c = let said = c .enum-told .given in any-session (lent (start c)) noRecord ∙ accepted-is 0 (said .0 .0) _ (sym (c .before .before .judge-build .ensures .verdict) ∙ said .1)
-
-few : (c : tie.After-enum-told) → Sized (lent (start c) .tables)
-few c = let l = lent (start c) in fitting l (build-known l (passed c) .fits) .held
-
-judge-build-requires : tie.Need-judge-build-requires
-judge-build-requires c κs =
-    clean-new 4096 4096 (le-refl 4096)
-
-enum-told : tie.Need-enum-told
-enum-told c = c .match .keys1
-
-enum-told-2 : tie.Need-enum-told-2
-enum-told-2 c = c .match .keys2
+build-over-requires : tie.Need-build-over-requires
+build-over-requires c κs =
+    let clean = clean-new (c .before .before .before .before .before .before .before .before .before .before .before .before .before .before .before .before .before .before .before .before .before .args .n) 256 (omega (arith, c .before .before .before .before .before .before .before .before .before .if1 .taken)) in
+    record { makers = λ _. clean .long; numbers = λ _. clean }
 
 same-length : tie.Need-same-length
-same-length c = refl
+same-length c = c .before .before .before .before .before .before .before .before .before .before .before .before .before .before .numbers .given
 
 same-length-2 : tie.Need-same-length-2
-same-length-2 c = refl
+same-length-2 c = c .before .before .before .before .before .before .before .before .before .before .before .before .order .given
 
 same-length-3 : tie.Need-same-length-3
-same-length-3 c = refl
+same-length-3 c = c .before .before .before .before .before .before .before .before .before .before .stored .given
 
 same-length-4 : tie.Need-same-length-4
-same-length-4 c = refl
+same-length-4 c = c .before .before .before .before .before .before .before .before .before .reader-starts .given
 
 same-length-5 : tie.Need-same-length-5
-same-length-5 c = refl
+same-length-5 c = c .before .before .before .before .before .before .before .reader-places .given
 
 same-length-6 : tie.Need-same-length-6
-same-length-6 c = refl
+same-length-6 c = c .before .before .before .before .before .reasons .given
 
 same-length-7 : tie.Need-same-length-7
-same-length-7 c = refl
+same-length-7 c = c .before .before .before .log-sizes .given
 
 returns : tie.Need-returns
-returns c =
-    let l = lent (c .before .before .before .before .before .before .before .before .before .before .before .before .before .before .before .before .before .before .before .before .before .before) in let said = c .enum-told2 .given in let v = any-session l noRecord ∙ refused-is 0 _ _ _ (sym (c .before .before .judge-build .ensures .verdict) ∙ said .1) in
-    build-meets l _ (refused (said .0 .0) (said .0 .1 .0)) v
-    (ap answerIn (said .1)) refl refl refl refl refl refl refl
+returns c = c .before .before .before .before .before .before .before .before .before .before .before .before .before .before .before .build-over .ensures
 
-fill-model-requires : tie.Need-fill-model-requires
-fill-model-requires c κs =
-    let e = c .before .before .before .before .before .before .before .before in let l = lent (start e) in let said = e .enum-told .given in let judged = e .before .before .judge-build .ensures in
-    let k = build-known l (passed e) in let fit = fitting l (k .fits) in
-    record {
-      sound = k .sound;
-      grouped = record {
-        permitted = λ v h. ap (λ f. f v) (permitted-kinded (l .tables)) ∙ k .permitted v h;
-        shared = judged .shared (accepted-is 0 (said .0 .0) _ (sym (judged .verdict) ∙ said .1));
-      };
-      determined = k .determined;
-      in-starts = fit .starts;
-      in-numbers = fit .numbers;
-      in-order = fit .order;
-      in-stored = fit .stored;
-      index-starts = fit .index-starts;
-      index-places = fit .index-places;
-      in-reasons = fit .reasons;
-      in-log = fit .log;
-    }
+slice-aggregate-build-over-3 : tie.Need-slice-aggregate-build-over-3
+slice-aggregate-build-over-3 c = sym (length-replicate {A = ℕ} 4096 0)
 
-cast-evaluations : tie.Need-cast-evaluations
-cast-evaluations c = let z = few (c .before .before .before .before .before .before .before .before .before .before .before .before .before .before .before .before .before .before .before .before .before .before) in omega (arith, z .m-most, z .n-most)
+slice-aggregate-build-over-4 : tie.Need-slice-aggregate-build-over-4
+slice-aggregate-build-over-4 c = sym (length-replicate {A = ℕ} 4096 0)
 
-blanks-among-requires : tie.Need-blanks-among-requires
-blanks-among-requires c κs =
-    let e = c .before .before .before .before .before .before .before .before .before .before .before .before .before .before .before .before .before .before .before .before .before .before .before in let l = lent (start e) in let fit = fitting l (build-known l (passed e) .fits) in
-    (filled-long (l .tables .n) (worth (l .tables) (startValues l)) (l .stored) _ (c .before .before .before .before .before .before .before .before .before .before .before .before .before .before .fill-model .ensures .1 .1 .0) (fit .stored), fit .held .n-most)
+build-over-requires-2 : tie.Need-build-over-requires-2
+build-over-requires-2 c κs = record { makers = λ few. clean-new _ 4096 few .long; numbers = λ few. clean-new _ 4096 few }
 
 same-length-8 : tie.Need-same-length-8
-same-length-8 c = c .before .before .before .before .before .before .before .before .before .before .before .before .before .before .numbers .given
+same-length-8 c = c .before .before .before .before .before .before .before .before .before .before .before .before .before .before .numbers2 .given
 
 same-length-9 : tie.Need-same-length-9
-same-length-9 c = c .before .before .before .before .before .before .before .before .before .before .before .before .order .given
+same-length-9 c = c .before .before .before .before .before .before .before .before .before .before .before .before .order2 .given
 
 same-length-10 : tie.Need-same-length-10
-same-length-10 c = c .before .before .before .before .before .before .before .before .before .before .stored .given
+same-length-10 c = c .before .before .before .before .before .before .before .before .before .before .stored2 .given
 
 same-length-11 : tie.Need-same-length-11
-same-length-11 c = c .before .before .before .before .before .before .before .before .before .reader-starts .given
+same-length-11 c = c .before .before .before .before .before .before .before .before .before .reader-starts2 .given
 
 same-length-12 : tie.Need-same-length-12
-same-length-12 c = c .before .before .before .before .before .before .before .reader-places .given
+same-length-12 c = c .before .before .before .before .before .before .before .reader-places2 .given
 
 same-length-13 : tie.Need-same-length-13
-same-length-13 c = c .before .before .before .before .before .reasons .given
+same-length-13 c = c .before .before .before .before .before .reasons2 .given
 
 same-length-14 : tie.Need-same-length-14
-same-length-14 c = c .before .before .before .log-sizes .given
+same-length-14 c = c .before .before .before .log-sizes2 .given
 
 returns-2 : tie.Need-returns-2
-returns-2 c =
-    let e = c .before .before .before .before .before .before .before .before .before .before .before .before .before .before .before .before .before .before .before .before .before .before .before .before in let l = lent (start e) in let left = c .before .before .before .before .before .before .before .before .before .before .before .before .before .before .before .fill-model .ensures in
-    build-meets l _ accepted (passed e) refl (ap (λ k. record { kept = 0; evaluations = l .tables .m; blanks = k }) (c .blanks-among .ensures ∙ blanks-over (l .tables .n) (worth (l .tables) (startValues l)) (l .stored) _ (left .1 .1 .0)))
-    (left .0) (left .1 .0) (left .1 .1 .0) (left .1 .1 .1 .0) (left .1 .1 .1 .1 .0) (left .1 .1 .1 .1 .1)
+returns-2 c = c .before .before .before .before .before .before .before .before .before .before .before .before .before .before .before .build-over2 .ensures
 
 pub build-core-spec : {M : Type 1} → statement M
 build-core-spec =
     tie.close
     (tie.spec
-    judge-build-requires
-    enum-told
-    enum-told-2
+    slice-aggregate-build-over
+    slice-aggregate-build-over-2
+    build-over-requires
     same-length
     same-length-2
     same-length-3
@@ -140,9 +90,9 @@ build-core-spec =
     same-length-6
     same-length-7
     returns
-    fill-model-requires
-    cast-evaluations
-    blanks-among-requires
+    slice-aggregate-build-over-3
+    slice-aggregate-build-over-4
+    build-over-requires-2
     same-length-8
     same-length-9
     same-length-10

@@ -14,6 +14,7 @@ use Rattle.verdicts.specs.Lent.{toModel, toTry}
 use Rattle.records.specs.Left.{recordIn, answerIn}
 use Rattle.fills.proofs.Accepted.{trial-by-blanks, trying-of, filled-long, trial-met}
 use Rattle.fills.proofs.Given.{asked-given}
+use Rattle.calls.proofs.Front.{makers-front}
 use Rattle.calls.proofs.trying.trial_core.Statement.{statement}
 use Rattle.calls.proofs.trying.trial_core.Tie as tie
 
@@ -27,10 +28,14 @@ abbrev session : tie.Start → Session
 session s = recordIn (s .args .session)
 
 abbrev start : tie.After-enum-told → tie.Start
-start c = c .before .before .before .before .before .before .before .before .before .before .before .before .before .before .before .before .before .before .before .before .before
+start c = c .before .before .before .before .before .before .before .before .before .before .before .before .before .before .before .before .before .before .before .before .before .before .before
+
+-- the judge accepted: as it says by the number of blanks, and as the paper does by the whole record
+agreed : (c : tie.After-enum-told) → let s = start c in trialVerdict (record { kept = 0; evaluations = 0; blanks = session s .blanks }) (model s) (asking s) ≡ accepted
+agreed c = let said = c .enum-told .given in accepted-is 0 (said .0 .0) _ (sym (c .before .before .judge-trial .ensures .answer) ∙ said .1)
 
 passed : (c : tie.After-enum-told) → trialVerdict (session (start c)) (model (start c)) (asking (start c)) ≡ accepted
-passed c = let s = start c in let said = c .enum-told .given in trial-by-blanks (session s) (model s) (asking s) ∙ accepted-is 0 (said .0 .0) _ (sym (c .before .before .judge-trial .ensures) ∙ said .1)
+passed c = let s = start c in trial-by-blanks (session s) (model s) (asking s) ∙ agreed c
 
 judge-trial-requires : tie.Need-judge-trial-requires
 judge-trial-requires c κs = tt
@@ -55,14 +60,21 @@ same-length-4 c = refl
 
 returns : tie.Need-returns
 returns c =
-    let s = c .before .before .before .before .before .before .before .before .before .before .before .before .before .before .before .before .before .before .before .before .before in let said = c .enum-told2 .given in
-    let v = trial-by-blanks (session s) (model s) (asking s) ∙ refused-is 0 _ _ _ (sym (c .before .before .judge-trial .ensures) ∙ said .1) in
+    let s = c .before .before .before .before .before .before .before .before .before .before .before .before .before .before .before .before .before .before .before .before .before .before .before in let said = c .enum-told2 .given in
+    let v = trial-by-blanks (session s) (model s) (asking s) ∙ refused-is 0 _ _ _ (sym (c .before .before .judge-trial .ensures .answer) ∙ said .1) in
     trial-meets (session s) (model s) (asking s) _ (refused (said .0 .0) (said .0 .1 .0)) v
     (ap answerIn (said .1)) refl refl refl refl refl
 
+array-share-prefix-by : tie.Need-array-share-prefix-by
+array-share-prefix-by c = c .before .before .judge-trial .ensures .makers (agreed c) .long
+
+slice-aggregate-makers : tie.Need-slice-aggregate-makers
+slice-aggregate-makers c = let e = c .before in sym (length-take-le _ _ (e .before .before .judge-trial .ensures .makers (agreed e) .long))
+
 fill-trial-requires : tie.Need-fill-trial-requires
 fill-trial-requires c κs =
-    let e = c .before .before .before in let s = start e in trying-of (session s) (model s) (asking s) (passed e)
+    let e = c .before .before .before .before in let s = start e in let judged = e .before .before .judge-trial .ensures in
+    (trying-of (session s) (model s) (asking s) (passed e), (makers-front (model s .tables) _ (judged .makers (agreed e)), judged .closing (agreed e)))
 
 sub-asked-reasons : tie.Need-sub-asked-reasons
 sub-asked-reasons c = zero-le
@@ -71,11 +83,11 @@ part-asked-reasons-start : tie.Need-part-asked-reasons-start
 part-asked-reasons-start c = zero-le
 
 part-asked-reasons-end : tie.Need-part-asked-reasons-end
-part-asked-reasons-end c = let e = c .before .before .before .before .before .before .before .before .before .before in let s = start e in trying-of (session s) (model s) (asking s) (passed e) .in-asked
+part-asked-reasons-end c = let e = c .before .before .before .before .before .before .before .before .before .before .before in let s = start e in trying-of (session s) (model s) (asking s) (passed e) .in-asked
 
 asked-reasons-requires : tie.Need-asked-reasons-requires
 asked-reasons-requires c κs =
-    let e = c .before .before .before .before .before .before .before .before .before .before .before .before in let s = start e in let n = model s .tables .n in let f = c .before .before .before .before .before .before .before .before .fill-trial .ensures in
+    let e = c .before .before .before .before .before .before .before .before .before .before .before .before .before in let s = start e in let n = model s .tables .n in let f = c .before .before .before .before .before .before .before .before .fill-trial .ensures in
     let k = trial-known (session s) (model s) (asking s) (passed e) in let ready = trying-of (session s) (model s) (asking s) (passed e) in let z : s .args .asked - 0 ≡ s .args .asked = omega arith in (
       k .model .sound,
       (
@@ -85,7 +97,7 @@ asked-reasons-requires c κs =
           k .model .reasons-long,
           rw z (let q = length-take-le (s .args .asked) (s .args .asked-vars .now) (ready .in-asked) in let h = k .why-long in omega arith),
         ),
-        rw z (ready .asked),
+        (rw z (ready .asked), makers-front (model s .tables) _ (e .before .before .judge-trial .ensures .makers (agreed e))),
       ),
     )
 
@@ -103,7 +115,7 @@ same-length-8 c = c .before .why .given
 
 returns-2 : tie.Need-returns-2
 returns-2 c =
-    let e = c .before .before .before .before .before .before .before .before .before .before .before .before .before .before .before in let s = start e in let f = c .before .before .before .before .before .before .before .before .before .before .before .fill-trial .ensures in
+    let e = c .before .before .before .before .before .before .before .before .before .before .before .before .before .before .before .before in let s = start e in let f = c .before .before .before .before .before .before .before .before .before .before .before .fill-trial .ensures in
     let k = trial-known (session s) (model s) (asking s) (passed e) in let ready = trying-of (session s) (model s) (asking s) (passed e) in
     trial-met (session s) (model s) (asking s) _ _ _ _ _ (passed e) f
     (asked-given (model s .tables) (k .model .sound) (routeOf (s .args .route)) (storedValues (model s)) (movePairs (asking s .move)) (askedList (asking s))
@@ -123,6 +135,8 @@ trial-core-spec =
     same-length-3
     same-length-4
     returns
+    array-share-prefix-by
+    slice-aggregate-makers
     fill-trial-requires
     sub-asked-reasons
     part-asked-reasons-start

@@ -20,8 +20,8 @@ loop-holds c = (omega arith, filled-start _ _)
 mul-to : tie.Need-mul-to Inv-loop μ-loop
 mul-to c = search needs
 
-element-copy-out-to : tie.Need-element-copy-out-to Inv-loop μ-loop
-element-copy-out-to c = search needs
+shared-slice-read-to : tie.Need-shared-slice-read-to Inv-loop μ-loop
+shared-slice-read-to c = search needs
 
 mul-to-2 : tie.Need-mul-to-2 Inv-loop μ-loop
 mul-to-2 c = search needs
@@ -56,7 +56,7 @@ copy-numbers-spec =
     μ-loop
     loop-holds
     mul-to
-    element-copy-out-to
+    shared-slice-read-to
     mul-to-2
     slice-write-to
     add-v

@@ -6,7 +6,7 @@ use borrow.Author.Needs.{needs}
 use borrow.Author.Tests.{eq-eqb, ne-eqb}
 use Rattle.paper.specs.Lists.{total, firstFail}
 use Rattle.paper.specs.Tables.{Tables, lent}
-use Rattle.paper.specs.Checks.{accepted, kindGood, shapeGood, numberGood, rowChecks}
+use Rattle.paper.specs.Checks.{accepted, kindGood, shapeGood, numberGood, rowLines, byLines}
 use Rattle.paper.proofs.Verdicts.{check-stops, check-passes, require-stops, require-next}
 use Rattle.tables.specs.Answers.{answerOf}
 use Rattle.tables.specs.declared.Answer.the-variants.{Refused}
@@ -35,7 +35,7 @@ returns c =
 abbrev t₂ : tie.Else1 → Tables
 t₂ c = tables (c .before .before .before .before .before .before .before)
 
-past₂ : (c : tie.Else1) → rowChecks (t₂ c) accepted ≡ fromThree (t₂ c) accepted
+past₂ : (c : tie.Else1) → byLines (rowLines (t₂ c)) accepted ≡ fromThree (t₂ c) accepted
 past₂ c = let t = t₂ c in check-passes 2 (t .m) (kindGood t) (fromThree t accepted) _ (c .before .first-bad-kind .ensures, c .if1 .left)
 
 first-bad-shape-requires : tie.Need-first-bad-shape-requires
@@ -54,7 +54,7 @@ returns-2 c =
 abbrev t₃ : tie.Else2 → Tables
 t₃ c = t₂ (c .before .before)
 
-past₃ : (c : tie.Else2) → rowChecks (t₃ c) accepted ≡ fromTotal (t₃ c) accepted
+past₃ : (c : tie.Else2) → byLines (rowLines (t₃ c)) accepted ≡ fromTotal (t₃ c) accepted
 past₃ c = let t = t₃ c in past₂ (c .before .before) ∙ check-passes 3 (t .m) (shapeGood t) (fromTotal t accepted) _ (c .before .first-bad-shape .ensures, c .if2 .left)
 
 total-of-requires : tie.Need-total-of-requires
@@ -77,7 +77,7 @@ returns-3 c =
 abbrev t₃′ : tie.Else3 → Tables
 t₃′ c = t₃ (c .before .before)
 
-past₃′ : (c : tie.Else3) → rowChecks (t₃′ c) accepted ≡ fromFour (t₃′ c) accepted
+past₃′ : (c : tie.Else3) → byLines (rowLines (t₃′ c)) accepted ≡ fromFour (t₃′ c) accepted
 past₃′ c =
     let t = t₃′ c in let sum = c .before .total-of .ensures in
     past₃ (c .before .before) ∙ require-next 3 _ _ (fromFour t accepted) (eq-eqb (total (take (t .m) (t .counts))) (t .e) (omega arith))

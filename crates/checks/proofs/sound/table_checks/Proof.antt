@@ -6,7 +6,7 @@ use Prim.Native.Nat.{ℕ}
 use borrow.Author.Needs.{needs}
 use Rattle.paper.specs.Lists.{over, firstFail}
 use Rattle.paper.specs.Tables.{Tables, lent}
-use Rattle.paper.specs.Checks.{accepted, refused, Bounds, boundsIn, boundsGood, madeOnce, rowChecks}
+use Rattle.paper.specs.Checks.{accepted, refused, Bounds, boundsIn, boundsGood, madeOnce, rowLines, byLines}
 use Rattle.paper.proofs.Verdicts.{check-stops, check-passes}
 use Rattle.tables.specs.Answers.{answerOf}
 use Rattle.tables.specs.Makers.{makerOf, Makers}
@@ -42,8 +42,8 @@ returns c =
 abbrev start : tie.After-enum-told → tie.Start
 start c = c .before .before .before .before .before .before .before .before .before
 
-past : (c : tie.After-enum-told) → rowChecks (tables (start c)) accepted ≡ accepted
-past c = let said = c .enum-told .given in accepted-is 0 (said .0 .0) (rowChecks (tables (start c)) accepted) (sym (c .before .before .row-checks .ensures) ∙ said .1)
+past : (c : tie.After-enum-told) → byLines (rowLines (tables (start c))) accepted ≡ accepted
+past c = let said = c .enum-told .given in accepted-is 0 (said .0 .0) (byLines (rowLines (tables (start c))) accepted) (sym (c .before .before .row-checks .ensures) ∙ said .1)
 
 makers-requires : tie.Need-makers-requires
 makers-requires c κs =

@@ -10,8 +10,6 @@ use Rattle.paper.specs.Chains.{closes}
 use Rattle.paper.proofs.Sizes.{sized-facts}
 use Rattle.tables.specs.Answers.{answerOf}
 use Rattle.checks.specs.Moves.{moveOf}
-use Rattle.order.proofs.Bare.{formed-of}
-use Rattle.chains.proofs.Kinded.{formed-kinded, grouped-kinded, closes-kinded}
 use Rattle.choices.proofs.Refreshed.{fresh-open, fresh-stale, fresh-waiting, fresh-passed}
 use Rattle.choices.proofs.renewals.fresh_checks.Statement.{statement}
 use Rattle.choices.proofs.renewals.fresh_checks.Tie as tie
@@ -23,53 +21,47 @@ tables s = let a = s .args in lent (a .n) (a .m) (a .e) (a .kinds .now) (a .make
 abbrev change : tie.Start → Move
 change s = let a = s .args in moveOf (a .pairs) (a .move-vars .now) (a .move-values .now)
 
-some-closes-requires : tie.Need-some-closes-requires
-some-closes-requires c κs =
-    let s = c .before .before .before .before .before .before .before .before in let t = tables s in
-    (formed-kinded t (formed-of t (s .pre .0)), (sized-facts t (s .pre .0 .sized) .kinds, grouped-kinded t (s .args .numbers .now) (s .pre .1 .1 .0)))
-
 returns : tie.Need-returns
 returns c =
-    let s = c .before .before .before .before .before .before .before .before .before .before in
-    sym (ap (answerOf 0) (fresh-open (tables s) (s .args .stored .now) (change s) (s .pre .0) (sym (closes-kinded (tables s)) ∙ sym (c .before .some-closes .ensures) ∙ not-true _ (c .if1 .taken))))
+    let s = c .before .before .before .before .before .before .before .before in
+    sym (ap (answerOf 0) (fresh-open (tables s) (s .args .stored .now) (change s) (s .pre .0) (sym (s .pre .1 .1 .0) ∙ not-true _ (c .if1 .taken))))
 
 -- ── some chain closes ──
-some : (c : tie.Else1) → closes (tables (c .before .before .before .before .before .before .before .before .before .before)) ≡ true
-some c = sym (closes-kinded (tables (c .before .before .before .before .before .before .before .before .before .before))) ∙ sym (c .before .some-closes .ensures) ∙ not-false _ (c .if1 .left)
+some : (c : tie.Else1) → closes (tables (c .before .before .before .before .before .before .before .before)) ≡ true
+some c = sym (c .before .before .before .before .before .before .before .before .pre .1 .1 .0) ∙ not-false _ (c .if1 .left)
 
 first-stale-requires : tie.Need-first-stale-requires
 first-stale-requires c κs = search needs
 
 refused-requires : tie.Need-refused-requires
-refused-requires c κs = let s = c .before .before .before .before .before .before .before .before .before .before .before .before in omega (arith, sized-facts (tables s) (s .pre .0 .sized) .n-most)
+refused-requires c κs = let s = c .before .before .before .before .before .before .before .before .before .before in omega (arith, sized-facts (tables s) (s .pre .0 .sized) .n-most)
 
 returns-2 : tie.Need-returns-2
 returns-2 c =
-    let s = c .before .before .before .before .before .before .before .before .before .before .before .before .before in
+    let s = c .before .before .before .before .before .before .before .before .before .before .before in
     c .refused .ensures ∙ sym (ap (answerOf 0) (fresh-stale (tables s) (s .args .stored .now) (change s) (some (c .before .before .before)) (c .before .before .first-stale .ensures) (c .before .if2 .taken)))
 
 first-stuck-requires : tie.Need-first-stuck-requires
-first-stuck-requires c κs = let s = c .before .before .before .before .before .before .before .before .before .before .before .before in (s .pre .0, (s .pre .1 .0, s .pre .1 .1 .1))
+first-stuck-requires c κs = let s = c .before .before .before .before .before .before .before .before .before .before in (s .pre .0, (s .pre .1 .0, s .pre .1 .1 .1))
 
 refused-requires-2 : tie.Need-refused-requires-2
-refused-requires-2 c κs = let s = c .before .before .before .before .before .before .before .before .before .before .before .before .before .before in omega (arith, sized-facts (tables s) (s .pre .0 .sized) .n-most)
+refused-requires-2 c κs = let s = c .before .before .before .before .before .before .before .before .before .before .before .before in omega (arith, sized-facts (tables s) (s .pre .0 .sized) .n-most)
 
 returns-3 : tie.Need-returns-3
 returns-3 c =
-    let s = c .before .before .before .before .before .before .before .before .before .before .before .before .before .before .before in
+    let s = c .before .before .before .before .before .before .before .before .before .before .before .before .before in
     c .refused2 .ensures
     ∙ sym (ap (answerOf 0) (fresh-waiting (tables s) (s .args .stored .now) (change s) (some (c .before .before .before .before .before)) (c .before .before .before .before .first-stale .ensures) (c .before .before .before .if2 .left) (c .before .before .first-stuck .ensures) (c .before .if3 .taken)))
 
 returns-4 : tie.Need-returns-4
 returns-4 c =
-    let s = c .before .before .before .before .before .before .before .before .before .before .before .before .before .before in
+    let s = c .before .before .before .before .before .before .before .before .before .before .before .before in
     sym (ap (answerOf 0) (fresh-passed (tables s) (s .args .stored .now) (change s) (some (c .before .before .before .before)) (c .before .before .before .first-stale .ensures) (c .before .before .if2 .left) (c .before .first-stuck .ensures) (c .if3 .left)))
 
 pub fresh-checks-spec : {M : Type 1} → statement M
 fresh-checks-spec =
     tie.close
     (tie.spec
-    some-closes-requires
     returns
     first-stale-requires
     refused-requires

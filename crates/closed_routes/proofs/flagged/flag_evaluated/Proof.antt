@@ -50,7 +50,7 @@ look-all-requires c κs = let s = (c .before .before .before .before .before .be
 )
 
 flag-marked-requires : tie.Need-flag-marked-requires
-flag-marked-requires c κs = search needs
+flag-marked-requires c κs = let s = c .before .before .before .before .before .before .before .before .before .before .before .before .before in let p = s .pre .1 .1 in (s .pre .0, (p .0, (p .1 .0, (p .1 .1 .0, (p .1 .1 .1, s .pre .1 .0)))))
 
 same-length : tie.Need-same-length
 same-length c = search needs

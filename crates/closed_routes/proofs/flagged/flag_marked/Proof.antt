@@ -2,23 +2,22 @@
 -- Assumes nothing.
 use Prim.Native.Nat.{ℕ, _+_, _≤_}
 use native.Mathlib.Omega.{arith}
-use mathlib.Core.Bool.{true}
+use mathlib.Core.Bool.{true, cond}
 use mathlib.Core.List.{List}
 use mathlib.Core.Path.{_≡_, refl, sym, subst}
-use lib.Dec.{ltb}
+use lib.Dec.{eqb, ltb}
 use lib.ListN.{length, take, replicate}
 use lib.Seq.{length-take-le}
 use borrow.Author.Needs.{needs}
-use Rattle.paper.specs.Lists.{all, over}
+use Rattle.paper.specs.Lists.{all, nat, over}
 use Rattle.paper.specs.Net.{mark-guided}
 use Rattle.paper.specs.Tables.{Tables, lent}
 use Rattle.paper.proofs.Sizes.{Sized, sized-facts}
-use Rattle.tables.proofs.Made.{sound-makes}
 use Rattle.order.specs.Numbering.{Clean}
 use Rattle.order.proofs.Sweeps.{clean-new}
 use Rattle.routes.specs.Reach.{Closed, Reaching}
 use Rattle.routes.specs.Work.{worksOut}
-use Rattle.routes.specs.Plan.{planned, workOf}
+use Rattle.routes.specs.Plan.{workOf}
 use Rattle.closed_routes.specs.Looking.{shapes, looksAt, Lookable, AllLooked}
 use Rattle.closed_routes.specs.Following.{Flagged}
 use Rattle.routes.specs.Sections.{madeFrom}
@@ -69,7 +68,7 @@ ready s marks =
     let t = tables s in let S = s .pre .0 .steady in let P = plan-marked t marks in let b = s .pre .1 .1 .1 .0 in (
       laid t (S .sound) _ _ P (s .args .values .now) (s .pre .0 .in-values),
       (
-        subst (λ k. all (λ v. ltb v k) (s .args .asked .now) ≡ true) (sym (P .long)) (s .pre .1 .1 .1 .1),
+        subst (λ k. all (λ v. ltb v k) (s .args .asked .now) ≡ true) (sym (P .long)) (s .pre .1 .1 .1 .1 .0),
         (
           omega (arith, P .long, b .in-flags),
           clear-closed t (s .args .stored .now) (s .args .trial .now) S (s .args .values .now) (s .pre .0) mark-guided (s .args .asked .now) (s .args .flags .now) (b .clear) (b .in-flags) _ _ P,
@@ -82,16 +81,16 @@ flagged : (s : tie.Start) (marks flags : List ℕ) → Spread s marks → AllLoo
 flagged s marks flags r a =
     let t = tables s in let S = s .pre .0 .steady in let b = s .pre .1 .1 .1 .0 in
     looked-flagged t (s .args .stored .now) (s .args .trial .now) S (s .args .values .now) (s .pre .0) mark-guided (s .args .asked .now) (s .args .flags .now) (b .clear) (b .in-flags) _ _
-    (plan-marked t marks) (s .pre .1 .1 .1 .1)
+    (plan-marked t marks) (s .pre .1 .1 .1 .1 .0)
     (marks-work t (S .sound) (s .args .starts .now) (s .args .places .now) (s .pre .1 .0) (s .args .stored .now) (s .args .trial .now) (s .args .flags .now) (s .args .moves .now) b (s .pre .1 .1 .0)
     _ marks (clean s) r) (λ v. refl) flags a
 
 -- and over the row that was planned by them
 abbrev Planned : tie.Start → List ℕ → List ℕ → Type 0
-Planned s marks row = row ≡ over (s .args .n) (planned (s .args .m) (s .args .makes .now) marks) (replicate 4096 0)
+Planned s marks row = row ≡ over (s .args .n) (λ v. cond (eqb (nat marks v) 1) (nat (s .args .by .now) v) 0) (replicate 4096 0)
 
 front : (s : tie.Start) (marks row : List ℕ) → Planned s marks row → take (s .args .n) row ≡ work s marks
-front s marks row e = front-is (s .args .n) (s .args .m) (s .args .makes .now) marks (replicate 4096 0) row e
+front s marks row e = front-is (tables s) (s .args .by .now) (s .pre .1 .1 .1 .1 .1) marks (replicate 4096 0) row e
 
 ready-over : (s : tie.Start) (marks row : List ℕ) → Spread s marks → Planned s marks row
     → let l = take (s .args .n) row in
@@ -113,13 +112,13 @@ add-spread-moved : tie.Need-add-spread-moved
 add-spread-moved c = search needs
 
 slice-aggregate-spread-moved : tie.Need-slice-aggregate-spread-moved
-slice-aggregate-spread-moved c = let s = (c .before .before .before .before .before .before .before .before .before .before .before) in sym (length-take-le _ _ (omega (arith, s .pre .1 .0 .long)))
+slice-aggregate-spread-moved c = let s = (c .before .before .before .before .before .before .before .before .before .before .before .before) in sym (length-take-le _ _ (omega (arith, s .pre .1 .0 .long)))
 
 slice-aggregate-spread-moved-2 : tie.Need-slice-aggregate-spread-moved-2
 slice-aggregate-spread-moved-2 c = search needs
 
 spread-moved-requires : tie.Need-spread-moved-requires
-spread-moved-requires c κs = let s = (c .before .before .before .before .before .before .before .before .before .before .before .before) in let t = tables s in let d = s .pre .0 .steady .sound in let x = s .pre .1 .0 in
+spread-moved-requires c κs = let s = (c .before .before .before .before .before .before .before .before .before .before .before .before .before) in let t = tables s in let d = s .pre .0 .steady .sound in let x = s .pre .1 .0 in
     (upward t d _ _ x, (named-movable t d _ _ x _ _ _ _ (s .pre .1 .1 .1 .0) (s .pre .1 .1 .0), clean-markable t d _ _ x _ (clean s)))
 
 slice-aggregate-plan-work : tie.Need-slice-aggregate-plan-work
@@ -129,23 +128,23 @@ slice-aggregate-plan-work-2 : tie.Need-slice-aggregate-plan-work-2
 slice-aggregate-plan-work-2 c = search needs
 
 plan-work-requires : tie.Need-plan-work-requires
-plan-work-requires c κs = let s = (c .before .before .before .before .before .before .before .before .before .before .before .before .before .before .before .before) in let z = sizes s in
-    ((z .makes, room s _ ((c .before .before .before) .spread-moved .ensures), z .n-most, omega (arith, z .n-most, z .m-most)), sound-makes (tables s) (s .pre .0 .steady .sound))
+plan-work-requires c κs = let s = (c .before .before .before .before .before .before .before .before .before .before .before .before .before .before .before .before .before) in
+    (s .pre .1 .1 .1 .1 .1 .long, room s _ ((c .before .before .before) .spread-moved .ensures), sizes s .n-most)
 
 array-share-prefix-work : tie.Need-array-share-prefix-work
-array-share-prefix-work c = let s = (c .before .before .before .before .before .before .before .before .before .before .before .before .before .before .before .before .before .before) in over-fits (s .args .n) _ _ _ ((c .before) .plan-work .ensures) (sizes s .n-most)
+array-share-prefix-work c = let s = (c .before .before .before .before .before .before .before .before .before .before .before .before .before .before .before .before .before .before .before) in over-fits (s .args .n) _ _ _ ((c .before) .plan-work .ensures) (sizes s .n-most)
 
 slice-aggregate-look-all : tie.Need-slice-aggregate-look-all
-slice-aggregate-look-all c = let s = (c .before .before .before .before .before .before .before .before .before .before .before .before .before .before .before .before .before .before .before) in sym (length-take-le (s .args .n) _ (over-fits (s .args .n) _ _ _ ((c .before .before) .plan-work .ensures) (sizes s .n-most)))
+slice-aggregate-look-all c = let s = (c .before .before .before .before .before .before .before .before .before .before .before .before .before .before .before .before .before .before .before .before) in sym (length-take-le (s .args .n) _ (over-fits (s .args .n) _ _ _ ((c .before .before) .plan-work .ensures) (sizes s .n-most)))
 
 look-all-requires : tie.Need-look-all-requires
-look-all-requires c κs = ready-over (c .before .before .before .before .before .before .before .before .before .before .before .before .before .before .before .before .before .before .before .before) _ _ ((c .before .before .before .before .before .before .before) .spread-moved .ensures) ((c .before .before .before) .plan-work .ensures)
+look-all-requires c κs = ready-over (c .before .before .before .before .before .before .before .before .before .before .before .before .before .before .before .before .before .before .before .before .before) _ _ ((c .before .before .before .before .before .before .before) .spread-moved .ensures) ((c .before .before .before) .plan-work .ensures)
 
 same-length : tie.Need-same-length
 same-length c = search needs
 
 returns : tie.Need-returns
-returns c = flagged-over (c .before .before .before .before .before .before .before .before .before .before .before .before .before .before .before .before .before .before .before .before .before .before .before) _ _ _ ((c .before .before .before .before .before .before .before .before .before .before) .spread-moved .ensures) ((c .before .before .before .before .before .before) .plan-work .ensures) ((c .before .before) .look-all .ensures)
+returns c = flagged-over (c .before .before .before .before .before .before .before .before .before .before .before .before .before .before .before .before .before .before .before .before .before .before .before .before) _ _ _ ((c .before .before .before .before .before .before .before .before .before .before) .spread-moved .ensures) ((c .before .before .before .before .before .before) .plan-work .ensures) ((c .before .before) .look-all .ensures)
 
 pub flag-marked-spec : {M : Type 1} → statement M
 flag-marked-spec =

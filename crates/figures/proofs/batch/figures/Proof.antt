@@ -4,7 +4,7 @@ use borrow.Author.Tests.{not-true, not-false}
 use Rattle.paper.specs.Calls.{Session, Model}
 use Rattle.verdicts.specs.Lent.{toModel}
 use Rattle.records.specs.Left.{recordIn}
-use Rattle.figures.specs.Figures.{Batch, batchOf}
+use Rattle.trials.specs.Batch.{Batch, batchOf}
 use Rattle.figures.proofs.Called.{fits-known, figures-refused, figures-accepted}
 use borrow.Author.Needs.{needs}
 use Rattle.figures.proofs.batch.figures.Statement.{statement}

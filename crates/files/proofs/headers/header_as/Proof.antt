@@ -1,8 +1,8 @@
 -- Wrong counts are refused; else the tests behind them are those of the paper, put together from the last to the first (`answer-require`). Assumes nothing.
 use native.Mathlib.Omega.{arith}
 use borrow.Author.Needs.{needs}
-use Rattle.paper.specs.Checks.{accepted}
-use Rattle.paper.specs.File.{versionOf, headed, header}
+use Rattle.paper.specs.Checks.{accepted, byLines}
+use Rattle.paper.specs.File.{versionOf, headLines, header}
 use Rattle.files.specs.HeaderAnswers.{Stated}
 use Rattle.files.proofs.Counted.{Counted, counted-next}
 use Rattle.files.proofs.HeaderAnswered.{answer-require, refused-counts, given-counts}
@@ -11,7 +11,7 @@ use Rattle.files.proofs.headers.header_as.Tie as tie
 
 -- what the answer to the counts says
 says : (c : tie.After-head-length) → let k = c .before .before .told .given .0 in let a = c .before .before .before .before .before .before .args in
-    Stated (a .bytes .now) (headed (versionOf (a .bounds)) (a .bytes .now) accepted) (k .0) (k .1 .0) (k .1 .1 .0) × Counted (versionOf (a .bounds)) (a .bytes .now)
+    Stated (a .bytes .now) (byLines (headLines (versionOf (a .bounds)) (a .bytes .now)) accepted) (k .0) (k .1 .0) (k .1 .1 .0) × Counted (versionOf (a .bounds)) (a .bytes .now)
 says c =
     let a = c .before .before .before .before .before .before .args in
     given-counts (versionOf (a .bounds)) (a .bytes .now) (c .before .before .before .before .counts-as .ensures) (c .before .before .told .given .1)

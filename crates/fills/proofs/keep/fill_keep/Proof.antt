@@ -22,17 +22,17 @@ abbrev index : tie.Start → Index
 index s = indexIn (s .args .reader-starts .now) (s .args .reader-places .now)
 
 room : (s : tie.Start) → s .args .n ≤ 4096
-room s = held (tables s) (s .args .numbers .now) (s .args .order .now) (index s) (s .args .stored .now) (kept s) (s .pre) .n-most
+room s = held (tables s) (s .args .order .now) (index s) (s .args .stored .now) (kept s) (s .pre .0) .n-most
 
 slice-aggregate-begin-route : tie.Need-slice-aggregate-begin-route
 slice-aggregate-begin-route c = refl
 
 begin-route-requires : tie.Need-begin-route-requires
 begin-route-requires c κs = let s = (c .before .before .before .before .before .before .before .before .before .before .before .before .before .before) in
-    record { in-stored = s .pre .in-stored; in-trial = room s; in-flags = s .pre .in-flags; pairs = s .pre .pairs }
+    record { in-stored = s .pre .0 .in-stored; in-trial = room s; in-flags = s .pre .0 .in-flags; pairs = s .pre .0 .pairs }
 
 slice-aggregate-run-route : tie.Need-slice-aggregate-run-route
-slice-aggregate-run-route c = let s = (c .before .before .before .before .before .before .before .before .before .before .before .before .before .before .before .before .before .before .before) in sym (moves-long (tables s) (s .args .numbers .now) (s .args .order .now) (index s) (s .args .stored .now) (kept s) (s .pre))
+slice-aggregate-run-route c = let s = (c .before .before .before .before .before .before .before .before .before .before .before .before .before .before .before .before .before .before .before) in sym (moves-long (tables s) (s .args .order .now) (index s) (s .args .stored .now) (kept s) (s .pre .0))
 
 slice-aggregate-run-route-2 : tie.Need-slice-aggregate-run-route-2
 slice-aggregate-run-route-2 c = refl
@@ -42,12 +42,15 @@ slice-aggregate-run-route-3 c = sym (c .before .before .before .before .before .
 
 run-route-requires : tie.Need-run-route-requires
 run-route-requires c κs = let s = (c .before .before .before .before .before .before .before .before .before .before .before .before .before .before .before .before .before .before .before .before .before .before .before) in let b = (c .before .before .before .before .before .before .before .before) .begin-route .ensures in (
-  running (tables s) (s .args .numbers .now) (s .args .order .now) (index s) (s .args .stored .now) (kept s) (s .pre) _ _ _ (room s) (b .0) (b .1),
+  running (tables s) (s .args .order .now) (index s) (s .args .stored .now) (kept s) (s .pre .0) _ _ _ (room s) (b .0) (b .1),
   (
-    s .pre .indexed,
+    s .pre .1 .1,
     (
-      named (tables s) (s .args .numbers .now) (s .args .order .now) (index s) (s .args .stored .now) (kept s) (s .pre) _ _ _ (room s) (b .0) (b .1),
-      (begun (tables s) (s .args .numbers .now) (s .args .order .now) (index s) (s .args .stored .now) (kept s) (s .pre) _ _ _ (room s) (b .0) (b .1), refl),
+      s .pre .0 .indexed,
+      (
+        named (tables s) (s .args .order .now) (index s) (s .args .stored .now) (kept s) (s .pre .0) _ _ _ (room s) (b .0) (b .1),
+        (begun (tables s) (s .args .order .now) (index s) (s .args .stored .now) (kept s) (s .pre .0) _ _ _ (room s) (b .0) (b .1), (refl, s .pre .1 .0)),
+      ),
     ),
   ),
 )
@@ -56,10 +59,10 @@ slice-aggregate-copy-values : tie.Need-slice-aggregate-copy-values
 slice-aggregate-copy-values c = sym (c .before .before .before .row4 .given)
 
 copy-values-requires : tie.Need-copy-values-requires
-copy-values-requires c κs = let s = (c .before .before .before .before .before .before .before .before .before .before .before .before .before .before .before .before .before .before .before .before .before .before .before .before .before .before .before .before .before) in (omega (arith, room s, (c .before .before .before .before .before .before .before .before .before .before .before .before .before .before) .begin-route .kept .1 .1 .1 .1 .1 .0, (c .before .before .before .before .before) .run-route .kept .1 .1 .1 .1 .1 .1 .1 .1 .1 .1 .1 .1 .1 .1 .1 .1 .1 .1 .0), omega (arith, s .pre .in-stored))
+copy-values-requires c κs = let s = (c .before .before .before .before .before .before .before .before .before .before .before .before .before .before .before .before .before .before .before .before .before .before .before .before .before .before .before .before .before) in (omega (arith, room s, (c .before .before .before .before .before .before .before .before .before .before .before .before .before .before) .begin-route .kept .1 .1 .1 .1 .1 .0, (c .before .before .before .before .before) .run-route .kept .1 .1 .1 .1 .1 .1 .1 .1 .1 .1 .1 .1 .1 .1 .1 .1 .1 .1 .1 .0), omega (arith, s .pre .0 .in-stored))
 
 evaluations-requires : tie.Need-evaluations-requires
-evaluations-requires c κs = let s = (c .before .before .before .before .before .before .before .before .before .before .before .before .before .before .before .before .before .before .before .before .before .before .before .before .before .before .before .before .before .before .before .before) in omega (arith, s .pre .in-flags, (c .before .before .before .before .before .before .before .before .before .before .before .before .before .before .before .before .before) .begin-route .kept .1 .1 .1 .1 .1 .1 .0, (c .before .before .before .before .before .before .before .before) .run-route .kept .1 .1 .1 .1 .1 .1 .1 .1 .1 .1 .1 .1 .1 .1 .1 .1 .1 .1 .1 .0)
+evaluations-requires c κs = let s = (c .before .before .before .before .before .before .before .before .before .before .before .before .before .before .before .before .before .before .before .before .before .before .before .before .before .before .before .before .before .before .before .before) in omega (arith, s .pre .0 .in-flags, (c .before .before .before .before .before .before .before .before .before .before .before .before .before .before .before .before .before) .begin-route .kept .1 .1 .1 .1 .1 .1 .0, (c .before .before .before .before .before .before .before .before) .run-route .kept .1 .1 .1 .1 .1 .1 .1 .1 .1 .1 .1 .1 .1 .1 .1 .1 .1 .1 .1 .1 .0)
 
 cast-result : tie.Need-cast-result
 cast-result c = let s = (c .before .before .before .before .before .before .before .before .before .before .before .before .before .before .before .before .before .before .before .before .before .before .before .before .before .before .before .before .before .before .before .before .before) in record { fits = count-fits _ (s .args .n) _ (room s) (c .evaluations .ensures) }
@@ -72,7 +75,7 @@ same-length-2 c = c .before .before .before .before .before .before .before .fla
 
 returns : tie.Need-returns
 returns c = let s = (c .before .before .before .before .before .before .before .before .before .before .before .before .before .before .before .before .before .before .before .before .before .before .before .before .before .before .before .before .before .before .before .before .before) in let b = (c .before .before .before .before .before .before .before .before .before .before .before .before .before .before .before .before .before .before) .begin-route .ensures in
-    keep-filled (tables s) (s .args .numbers .now) (s .args .order .now) (index s) (s .args .stored .now) (kept s) (s .pre) _ _ _ _ _ _ _ (room s) (b .0) (b .1) ((c .before .before .before .before .before .before .before .before .before) .run-route .ensures) ((c .before .before .before) .copy-values .ensures) (c .evaluations .ensures)
+    keep-filled (tables s) (s .args .order .now) (index s) (s .args .stored .now) (kept s) (s .pre .0) _ _ _ _ _ _ _ (room s) (b .0) (b .1) ((c .before .before .before .before .before .before .before .before .before) .run-route .ensures) ((c .before .before .before) .copy-values .ensures) (c .evaluations .ensures)
 
 pub fill-keep-spec : {M : Type 1} → statement M
 fill-keep-spec =

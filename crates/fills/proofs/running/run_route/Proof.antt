@@ -1,14 +1,12 @@
--- The numbers tell whether a chain closes: if one does the choices are followed, and else each number picks its route along the order, as `routeOf` says (`Runs`).
+-- It is told whether a chain closes: if one does the choices are followed, and else each number picks its route along the order, as `routeOf` says (`Runs`).
 -- Route 1 asks for nothing, so what is asked plays no part in it. Assumes nothing.
 use Prim.Native.Nat.{ℕ}
 use mathlib.Core.List.{List}
-use mathlib.Core.Path.{sym, _∙_}
+use mathlib.Core.Path.{_≡_, sym, _∙_}
 use borrow.Author.Needs.{needs}
 use borrow.Author.Tests.{ne-eqb}
 use Rattle.paper.specs.Tables.{Tables, lent}
-use Rattle.paper.proofs.Sizes.{Sized, sized-facts}
-use Rattle.order.proofs.Bare.{formed-of}
-use Rattle.chains.proofs.Kinded.{formed-kinded, grouped-kinded, closes-kinded}
+use Rattle.paper.specs.Chains.{closes}
 use Rattle.routes.specs.Rows.{Along, Ended}
 use Rattle.fills.proofs.Runs.{along, steady}
 use Rattle.fills.proofs.running.run_route.Statement.{statement}
@@ -20,16 +18,13 @@ tables s =
     lent (s .args .n) (s .args .m) (s .args .e) (s .args .kinds .now) (s .args .makes .now) (s .args .params .now) (s .args .firsts .now) (s .args .counts .now) (s .args .vars .now)
     (s .args .coefs .now)
 
-sizes : (s : tie.Start) → Sized (tables s)
-sizes s = sized-facts (tables s) (s .pre .0 .sound .sized)
-
-some-closes-requires : tie.Need-some-closes-requires
-some-closes-requires c κs = let s = c .before .before .before .before .before .before .before .before .before .before .before .before in let t = tables s in let k = s .pre .0 in
-    (formed-kinded t (formed-of t (k .sound)), (sizes s .kinds, grouped-kinded t (s .args .numbers .now) (k .grouped)))
+-- it is said whether a chain closes
+closing : (s : tie.Start) → s .args .closed ≡ closes (tables s)
+closing s = s .pre .1 .0
 
 follow-route-requires : tie.Need-follow-route-requires
-follow-route-requires c κs = let s = c .before .before .before .before .before .before .before .before .before .before .before .before .before .before .before .before in
-    (steady (tables s) (s .args .numbers .now) (s .args .order .now) (s .args .stored .now) (s .args .trial .now) (s .pre .0) (sym (closes-kinded (tables s)) ∙ sym (c .before .before .before .some-closes .ensures) ∙ c .before .before .if1 .taken), s .pre .1)
+follow-route-requires c κs = let s = c .before .before .before .before .before .before .before .before .before .before .before .before .before .before .before in
+    (steady (tables s) (s .args .order .now) (s .args .stored .now) (s .args .trial .now) (s .pre .0) (sym (closing s) ∙ c .before .before .if1 .taken), s .pre .1 .1)
 
 same-length : tie.Need-same-length
 same-length c = c .before .before .trial .given
@@ -42,24 +37,24 @@ returns c = search needs
 
 -- ── no chain closes ──
 abbrev start : tie.Else1 → tie.Start
-start c = c .before .before .before .before .before .before .before .before .before .before .before .before .before .before
+start c = c .before .before .before .before .before .before .before .before .before .before .before .before .before
 
 ordered : (c : tie.Else1) → let s = start c in Along (tables s) (s .args .order .now)
 ordered c = let s = start c in
-    along (tables s) (s .args .numbers .now) (s .args .order .now) (s .args .stored .now) (s .args .trial .now) (s .pre .0) (sym (closes-kinded (tables s)) ∙ sym (c .before .some-closes .ensures) ∙ c .if1 .left)
+    along (tables s) (s .args .order .now) (s .args .stored .now) (s .args .trial .now) (s .pre .0) (sym (closing s) ∙ c .if1 .left)
 
 -- what a route that asks needs of the order
 ended : {t : Tables} {ord : List ℕ} → Along t ord → Ended t
 ended a = record { sound = a .sound; chains = a .chains }
 
 input-to-output-requires : tie.Need-input-to-output-requires
-input-to-output-requires c κs = let none = c .before .before .before in let p = start none .pre in (ordered none, (p .1 .0, (p .1 .1 .1 .0, p .1 .1 .0)))
+input-to-output-requires c κs = let none = c .before .before .before in let p = start none .pre .1 .1 in (ordered none, (p .0, (p .1 .1 .0, p .1 .0)))
 
 output-to-input-requires : tie.Need-output-to-input-requires
-output-to-input-requires c κs = let none = c .before .before .before in let p = start none .pre in (ended (ordered none), p .1 .1 .1)
+output-to-input-requires c κs = let none = c .before .before .before in let p = start none .pre .1 .1 in (ended (ordered none), p .1 .1)
 
 mark-guided-requires : tie.Need-mark-guided-requires
-mark-guided-requires c κs = let none = c .before .before .before in let p = start none .pre in (ended (ordered none), p .1)
+mark-guided-requires c κs = let none = c .before .before .before in let p = start none .pre .1 .1 in (ended (ordered none), p)
 
 same-length-3 : tie.Need-same-length-3
 same-length-3 c = c .before .before .trial2 .given
@@ -94,7 +89,6 @@ pub run-route-spec : {M : Type 1} → statement M
 run-route-spec =
     tie.close
     (tie.spec
-    some-closes-requires
     follow-route-requires
     same-length
     same-length-2

@@ -29,35 +29,38 @@ abbrev index : tie.Start → Index
 index s = indexIn (s .args .reader-starts .now) (s .args .reader-places .now)
 
 room : (s : tie.Start) → s .args .n ≤ 4096
-room s = held (tables s) (s .args .numbers .now) (s .args .order .now) (index s) (s .args .stored .now) (kept s) (s .pre .keeping) .n-most
+room s = held (tables s) (s .args .order .now) (index s) (s .args .stored .now) (kept s) (s .pre .0 .keeping) .n-most
 
 begin-route-requires : tie.Need-begin-route-requires
 begin-route-requires c κs = search needs
 
 slice-aggregate-wanted : tie.Need-slice-aggregate-wanted
-slice-aggregate-wanted c = let s = (c .before .before .before .before .before .before .before .before .before .before .before .before .before .before .before .before .before .before .before) in sym (asked-long (tables s) (s .args .numbers .now) (s .args .order .now) (index s) (s .args .stored .now) (tried s) (s .pre))
+slice-aggregate-wanted c = let s = (c .before .before .before .before .before .before .before .before .before .before .before .before .before .before .before .before .before .before .before) in sym (asked-long (tables s) (s .args .order .now) (index s) (s .args .stored .now) (tried s) (s .pre .0))
 
 slice-aggregate-run-route : tie.Need-slice-aggregate-run-route
-slice-aggregate-run-route c = let s = (c .before .before .before .before .before .before .before .before .before .before .before .before .before .before .before .before .before .before .before .before) in sym (moves-long (tables s) (s .args .numbers .now) (s .args .order .now) (index s) (s .args .stored .now) (kept s) (s .pre .keeping))
+slice-aggregate-run-route c = let s = (c .before .before .before .before .before .before .before .before .before .before .before .before .before .before .before .before .before .before .before .before) in sym (moves-long (tables s) (s .args .order .now) (index s) (s .args .stored .now) (kept s) (s .pre .0 .keeping))
 
 run-route-requires : tie.Need-run-route-requires
-run-route-requires c κs = let s = (c .before .before .before .before .before .before .before .before .before .before .before .before .before .before .before .before .before .before .before .before .before .before) in let b = (c .before .before .before .before .before .before .before) .begin-route .ensures in let k = s .pre .keeping in (
-  running (tables s) (s .args .numbers .now) (s .args .order .now) (index s) (s .args .stored .now) (kept s) k _ _ _ (s .pre .in-trial) (b .0) (b .1),
+run-route-requires c κs = let s = (c .before .before .before .before .before .before .before .before .before .before .before .before .before .before .before .before .before .before .before .before .before .before) in let b = (c .before .before .before .before .before .before .before) .begin-route .ensures in let k = s .pre .0 .keeping in (
+  running (tables s) (s .args .order .now) (index s) (s .args .stored .now) (kept s) k _ _ _ (s .pre .0 .in-trial) (b .0) (b .1),
   (
-    k .indexed,
+    s .pre .1 .1,
     (
-      named (tables s) (s .args .numbers .now) (s .args .order .now) (index s) (s .args .stored .now) (kept s) k _ _ _ (s .pre .in-trial) (b .0) (b .1),
-      (begun (tables s) (s .args .numbers .now) (s .args .order .now) (index s) (s .args .stored .now) (kept s) k _ _ _ (s .pre .in-trial) (b .0) (b .1), s .pre .asked),
+      k .indexed,
+      (
+        named (tables s) (s .args .order .now) (index s) (s .args .stored .now) (kept s) k _ _ _ (s .pre .0 .in-trial) (b .0) (b .1),
+        (begun (tables s) (s .args .order .now) (index s) (s .args .stored .now) (kept s) k _ _ _ (s .pre .0 .in-trial) (b .0) (b .1), (s .pre .0 .asked, s .pre .1 .0)),
+      ),
     ),
   ),
 )
 
 copy-asked-requires : tie.Need-copy-asked-requires
 copy-asked-requires c κs = let s = (c .before .before .before .before .before .before .before .before .before .before .before .before .before .before .before .before .before .before .before .before .before .before .before .before .before .before .before .before) in
-    (asked-within (tables s) (s .args .numbers .now) (s .args .order .now) (index s) (s .args .stored .now) (tried s) (s .pre) _ (omega (arith, s .pre .in-trial, (c .before .before .before .before .before .before .before .before .before .before .before .before .before) .begin-route .kept .1 .1 .1 .1 .1 .0, (c .before .before .before .before .before) .run-route .kept .1 .1 .1 .1 .1 .1 .1 .1 .1 .1 .1 .1 .1 .1 .1 .1 .1 .1 .0)), omega (arith, s .pre .in-results, asked-long (tables s) (s .args .numbers .now) (s .args .order .now) (index s) (s .args .stored .now) (tried s) (s .pre)))
+    (asked-within (tables s) (s .args .order .now) (index s) (s .args .stored .now) (tried s) (s .pre .0) _ (omega (arith, s .pre .0 .in-trial, (c .before .before .before .before .before .before .before .before .before .before .before .before .before) .begin-route .kept .1 .1 .1 .1 .1 .0, (c .before .before .before .before .before) .run-route .kept .1 .1 .1 .1 .1 .1 .1 .1 .1 .1 .1 .1 .1 .1 .1 .1 .1 .1 .1 .0)), omega (arith, s .pre .0 .in-results, asked-long (tables s) (s .args .order .now) (index s) (s .args .stored .now) (tried s) (s .pre .0)))
 
 evaluations-requires : tie.Need-evaluations-requires
-evaluations-requires c κs = let s = (c .before .before .before .before .before .before .before .before .before .before .before .before .before .before .before .before .before .before .before .before .before .before .before .before .before .before .before .before .before .before .before) in omega (arith, s .pre .keeping .in-flags, (c .before .before .before .before .before .before .before .before .before .before .before .before .before .before .before .before) .begin-route .kept .1 .1 .1 .1 .1 .1 .0, (c .before .before .before .before .before .before .before .before) .run-route .kept .1 .1 .1 .1 .1 .1 .1 .1 .1 .1 .1 .1 .1 .1 .1 .1 .1 .1 .1 .0)
+evaluations-requires c κs = let s = (c .before .before .before .before .before .before .before .before .before .before .before .before .before .before .before .before .before .before .before .before .before .before .before .before .before .before .before .before .before .before .before) in omega (arith, s .pre .0 .keeping .in-flags, (c .before .before .before .before .before .before .before .before .before .before .before .before .before .before .before .before) .begin-route .kept .1 .1 .1 .1 .1 .1 .0, (c .before .before .before .before .before .before .before .before) .run-route .kept .1 .1 .1 .1 .1 .1 .1 .1 .1 .1 .1 .1 .1 .1 .1 .1 .1 .1 .1 .1 .0)
 
 cast-result : tie.Need-cast-result
 cast-result c = let s = (c .before .before .before .before .before .before .before .before .before .before .before .before .before .before .before .before .before .before .before .before .before .before .before .before .before .before .before .before .before .before .before .before) in record { fits = count-fits _ (s .args .n) _ (room s) (c .evaluations .ensures) }
@@ -73,7 +76,7 @@ same-length-3 c = c .before .before .before .before .before .before .before .fla
 
 returns : tie.Need-returns
 returns c = let s = (c .before .before .before .before .before .before .before .before .before .before .before .before .before .before .before .before .before .before .before .before .before .before .before .before .before .before .before .before .before .before .before .before) in let b = (c .before .before .before .before .before .before .before .before .before .before .before .before .before .before .before .before .before) .begin-route .ensures in
-    trial-filled (tables s) (s .args .numbers .now) (s .args .order .now) (index s) (s .args .stored .now) (tried s) (s .pre) _ _ _ _ _ _ (b .0) (b .1) ((c .before .before .before .before .before .before .before .before .before) .run-route .ensures) ((c .before .before .before) .copy-asked .ensures) (c .evaluations .ensures)
+    trial-filled (tables s) (s .args .order .now) (index s) (s .args .stored .now) (tried s) (s .pre .0) _ _ _ _ _ _ (b .0) (b .1) ((c .before .before .before .before .before .before .before .before .before) .run-route .ensures) ((c .before .before .before) .copy-asked .ensures) (c .evaluations .ensures)
 
 pub fill-trial-spec : {M : Type 1} → statement M
 fill-trial-spec =

@@ -1,5 +1,5 @@
 -- The loop has joined the tests of every variable before this one (`Joint`). Assumes nothing.
-use Prim.Native.Nat.{_+_, _-_}
+use Prim.Native.Nat.{_+_, _-_, _%_}
 use native.Mathlib.Omega.{arith}
 use mathlib.Core.Bool.{_&&_}
 use mathlib.Core.Path.{refl, ap}
@@ -11,10 +11,10 @@ use Rattle.index.proofs.tries.ends_right.Statement.{statement}
 use Rattle.index.proofs.tries.ends_right.Tie as tie
 
 abbrev Inv-loop : tie.InvT-loop
-Inv-loop n starts reached all₀ v₀ all v = Joint (λ u. eqb (nat reached u) (nat starts (u + 1))) n v all
+Inv-loop n starts cells all₀ v₀ all v = Joint (λ u. eqb (nat cells u % 65536) (nat starts (u + 1))) n v all
 
 abbrev μ-loop : tie.MeasureT-loop
-μ-loop n starts reached all₀ v₀ all v = n - v
+μ-loop n starts cells all₀ v₀ all v = n - v
 
 loop-holds : tie.Need-loop-holds Inv-loop μ-loop
 loop-holds c = joint-start _ _
@@ -33,6 +33,9 @@ mul-all-2 c = search needs
 
 shared-slice-read-all-2 : tie.Need-shared-slice-read-all-2 Inv-loop μ-loop
 shared-slice-read-all-2 c = search needs
+
+cast-all : tie.Need-cast-all Inv-loop μ-loop
+cast-all c = omega (arith, c .shared-slice-known2 .given (c .before .before .before .loop .v + 1))
 
 add-v : tie.Need-add-v Inv-loop μ-loop
 add-v c = search needs
@@ -61,6 +64,7 @@ ends-right-spec =
     add-all
     mul-all-2
     shared-slice-read-all-2
+    cast-all
     add-v
     loop-less
     loop-again

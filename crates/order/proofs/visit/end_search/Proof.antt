@@ -23,7 +23,7 @@ mul-search-state : tie.Need-mul-search-state Inv-loop μ-loop
 mul-search-state c = search needs
 
 shared-slice-read-search-state : tie.Need-shared-slice-read-search-state Inv-loop μ-loop
-shared-slice-read-search-state c = omega (arith, c .before .before .before .before .pre .2)
+shared-slice-read-search-state c = omega (arith, c .before .before .before .before .before .pre .1)
 
 search-state-requires : tie.Need-search-state-requires Inv-loop μ-loop
 search-state-requires c κs = search needs
@@ -31,8 +31,8 @@ search-state-requires c κs = search needs
 mul-state : tie.Need-mul-state Inv-loop μ-loop
 mul-state c = search needs
 
-element-write-state : tie.Need-element-write-state Inv-loop μ-loop
-element-write-state c = search needs
+slice-write-state : tie.Need-slice-write-state Inv-loop μ-loop
+slice-write-state c = search needs
 
 add-v : tie.Need-add-v Inv-loop μ-loop
 add-v c = search needs
@@ -43,10 +43,13 @@ loop-less c = search needs
 loop-again : tie.Need-loop-again Inv-loop μ-loop
 loop-again c =
     let l = c .before .before .before in
-    (omega arith, search needs, filled-next _ _ _ _ (l .loop .inv .2) (omega (arith, l .before .before .pre .1)) (c .search-state .ensures))
+    (omega arith, search needs, filled-next _ _ _ _ (l .loop .inv .2) (omega (arith, l .before .before .before .pre .0)) (c .search-state .ensures))
+
+same-length : tie.Need-same-length Inv-loop μ-loop
+same-length c = c .before .loop .inv .1
 
 returns : tie.Need-returns Inv-loop μ-loop
-returns c = filled-end _ _ _ _ (c .before .before .before .args .n) (c .before .loop .inv .2) (omega arith)
+returns c = filled-end _ _ _ _ (c .before .before .before .before .args .n) (c .before .loop .inv .2) (omega arith)
 
 pub end-search-spec : {M : Type 1} → statement M
 end-search-spec =
@@ -59,8 +62,9 @@ end-search-spec =
     shared-slice-read-search-state
     search-state-requires
     mul-state
-    element-write-state
+    slice-write-state
     add-v
     loop-less
     loop-again
+    same-length
     returns)

@@ -21,15 +21,15 @@ loop-holds c = scan-start _ _
 mul-wide : tie.Need-mul-wide Inv-loop μ-loop
 mul-wide c = search needs
 
-element-copy-out-wide : tie.Need-element-copy-out-wide Inv-loop μ-loop
-element-copy-out-wide c = search needs
+shared-slice-read-wide : tie.Need-shared-slice-read-wide Inv-loop μ-loop
+shared-slice-read-wide c = search needs
 
 wide-requires : tie.Need-wide-requires Inv-loop μ-loop
 wide-requires c κs = search needs
 
 returns : tie.Need-returns Inv-loop μ-loop
 returns c =
-    let l = c .before .before .before .before in let state = l .before .args .state .now in
+    let l = c .before .before .before .before in let state = l .before .before .args .state .now in
     scan-found _ _ _ (l .loop .inv) (omega arith) (lt-leb 2 (nat state (l .loop .v)) (omega arith))
 
 add-v : tie.Need-add-v Inv-loop μ-loop
@@ -40,7 +40,7 @@ loop-less c = search needs
 
 loop-again : tie.Need-loop-again Inv-loop μ-loop
 loop-again c =
-    let l = c .before .before .before .before in let state = l .before .args .state .now in
+    let l = c .before .before .before .before in let state = l .before .before .args .state .now in
     scan-next _ _ _ (l .loop .inv) (omega arith) (le-leb 2 (nat state (l .loop .v)) (omega arith))
 
 returns-2 : tie.Need-returns-2 Inv-loop μ-loop
@@ -54,7 +54,7 @@ first-open-spec =
     μ-loop
     loop-holds
     mul-wide
-    element-copy-out-wide
+    shared-slice-read-wide
     wide-requires
     returns
     add-v

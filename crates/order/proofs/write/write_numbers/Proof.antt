@@ -1,42 +1,47 @@
--- The row is filled from the front with what stands in `state`, less 2, and that is the number. Assumes nothing.
+-- The row is filled from the front with what stood there, less 2, and that is the number. Assumes nothing.
 use Prim.Native.Nat.{_≤_, _-_}
 use mathlib.Core.Path.{_≡_, refl}
 use native.Mathlib.Omega.{arith}
 use lib.ListN.{length}
 use borrow.Author.Needs.{needs}
-use Rattle.paper.specs.Straight.{number}
+use Rattle.paper.specs.Lists.{nat}
+use Rattle.paper.proofs.Straight.{number}
 use Rattle.paper.specs.Tables.{net}
-use Rattle.paper.proofs.Buffers.{Filled, filled-start, filled-next, filled-end}
+use Rattle.paper.proofs.Buffers.{Filled, filled-start, filled-next, filled-end, filled-still}
 use Rattle.order.specs.Formed.{bare}
 use Rattle.order.proofs.write.write_numbers.Statement.{statement}
 use Rattle.order.proofs.write.write_numbers.Tie as tie
 
 abbrev Inv-loop : tie.InvT-loop
-Inv-loop n m makes firsts counts vars state numbers₀ v₀ numbers v =
-    (v ≤ n) × (length numbers ≡ length numbers₀) × Filled (number (net (bare n m makes firsts counts vars)) n) numbers₀ numbers v
+Inv-loop n m makes firsts counts vars state₀ v₀ state v =
+    (v ≤ n) × (length state ≡ length state₀) × Filled (number (net (bare n m makes firsts counts vars)) n) state₀ state v
 
 abbrev μ-loop : tie.MeasureT-loop
-μ-loop n m makes firsts counts vars state numbers₀ v₀ numbers v = n - v
+μ-loop n m makes firsts counts vars state₀ v₀ state v = n - v
 
 loop-holds : tie.Need-loop-holds Inv-loop μ-loop
 loop-holds c = (omega arith, refl, filled-start _ _)
 
-mul-numbers : tie.Need-mul-numbers Inv-loop μ-loop
-mul-numbers c = search needs
+mul-state : tie.Need-mul-state Inv-loop μ-loop
+mul-state c = search needs
 
-element-copy-out-numbers : tie.Need-element-copy-out-numbers Inv-loop μ-loop
-element-copy-out-numbers c = search needs
+slice-read-state : tie.Need-slice-read-state Inv-loop μ-loop
+slice-read-state c = search needs
 
-sub-numbers : tie.Need-sub-numbers Inv-loop μ-loop
-sub-numbers c =
+-- the state that is left is that of the start
+still : (c : tie.In-loop Inv-loop μ-loop) → let s = c .before .before in nat (c .before .loop .state) (c .before .loop .v) ≡ nat (s .args .state .now) (c .before .loop .v)
+still c = filled-still _ _ _ _ 0 (c .before .loop .inv .2)
+
+sub-state : tie.Need-sub-state Inv-loop μ-loop
+sub-state c =
     let s = c .before .before .before in
-    omega (arith, s .pre .0 .at _ (c .before .loop-test .taken))
+    omega (arith, still (c .before), s .pre .0 .at _ (c .before .loop-test .taken))
 
-mul-numbers-2 : tie.Need-mul-numbers-2 Inv-loop μ-loop
-mul-numbers-2 c = search needs
+mul-state-2 : tie.Need-mul-state-2 Inv-loop μ-loop
+mul-state-2 c = search needs
 
-slice-write-numbers : tie.Need-slice-write-numbers Inv-loop μ-loop
-slice-write-numbers c = search needs
+slice-write-state : tie.Need-slice-write-state Inv-loop μ-loop
+slice-write-state c = search needs
 
 add-v : tie.Need-add-v Inv-loop μ-loop
 add-v c = search needs
@@ -47,7 +52,7 @@ loop-less c = search needs
 loop-again : tie.Need-loop-again Inv-loop μ-loop
 loop-again c =
     let l = c .before .before in let s = l .before in
-    (omega arith, search needs, filled-next _ _ _ _ (l .loop .inv .2) (omega (arith, s .pre .1)) (omega (arith, s .pre .0 .at _ (c .before .loop-test .taken))))
+    (omega arith, search needs, filled-next _ _ _ _ (l .loop .inv .2) (omega (arith, s .pre .1)) (omega (arith, still (c .before), s .pre .0 .at _ (c .before .loop-test .taken))))
 
 same-length : tie.Need-same-length Inv-loop μ-loop
 same-length c = c .before .loop .inv .1
@@ -64,11 +69,11 @@ write-numbers-spec =
     Inv-loop
     μ-loop
     loop-holds
-    mul-numbers
-    element-copy-out-numbers
-    sub-numbers
-    mul-numbers-2
-    slice-write-numbers
+    mul-state
+    slice-read-state
+    sub-state
+    mul-state-2
+    slice-write-state
     add-v
     loop-less
     loop-again

@@ -14,7 +14,7 @@ use Rattle.verdicts.specs.Lent.{toModel, toKeep}
 use Rattle.verdicts.specs.Chains.{keepChecks}
 use Rattle.verdicts.proofs.Chains.{keep-then}
 use Rattle.verdicts.proofs.ModelJudging.{model-fitting}
-use Rattle.verdicts.proofs.JudgingMoves.{pairs-fit, model-makers, model-sound, model-grouped, move-ready, call-stops-1, call-stops, call-stops-2, call-passed, call-last}
+use Rattle.verdicts.proofs.JudgingMoves.{pairs-fit, model-makers, model-sound, model-closing, move-ready, call-stops-1, call-stops, call-stops-2, call-passed, call-last}
 use Rattle.verdicts.proofs.judges.judge_keep.Statement.{statement}
 use Rattle.verdicts.proofs.judges.judge_keep.Tie as tie
 
@@ -46,17 +46,14 @@ returns : tie.Need-returns
 unfolding keepVerdict
 returns c =
     let s = c .before .before .before .before .before .before .before .before .before .before .before .before .before .before .before .before .before in
-    call-stops-1 (model s) (s .args .blanks) (keepFits (log s) (model s) (kept s)) (rest s) (chain s) (kept s .move) _ (c .refused .ensures) (sym (c .before .before .keep-fits .ensures) ∙ not-true _ (c .before .if1 .taken))
+    call-stops-1 (model s) (s .args .blanks) (keepFits (log s) (model s) (kept s)) (rest s) (chain s) (kept s .move) _ _ _ (c .refused .ensures) (sym (c .before .before .keep-fits .ensures) ∙ not-true _ (c .before .if1 .taken))
 
 -- ── past check 1 ──
 fits : (c : tie.Else1) → let s = c .before .before .before .before .before .before .before .before .before .before .before .before .before .before .before .before in keepFits (log s) (model s) (kept s) ≡ true
 fits c = sym (c .before .keep-fits .ensures) ∙ not-false _ (c .if1 .left)
 
-slice-aggregate-model-checks : tie.Need-slice-aggregate-model-checks
-slice-aggregate-model-checks c = search needs
-
 model-checks-requires : tie.Need-model-checks-requires
-model-checks-requires c κs = let h = each _ (fits (c .before)) .0 in let n = model-fitting (model (c .before .before .before .before .before .before .before .before .before .before .before .before .before .before .before .before .before)) (c .before .before .before .before .before .before .before .before .before .before .before .before .before .before .before .before .before .args .blanks) h .held .n-most in (h, omega arith)
+model-checks-requires c κs = let h = each _ (fits (c .before .before)) .0 in let n = model-fitting (model (c .before .before .before .before .before .before .before .before .before .before .before .before .before .before .before .before .before .before)) (c .before .before .before .before .before .before .before .before .before .before .before .before .before .before .before .before .before .before .args .blanks) h .held .n-most in (h, omega arith)
 
 enum-told : tie.Need-enum-told
 enum-told c = search needs
@@ -68,16 +65,13 @@ returns-2 : tie.Need-returns-2
 unfolding keepVerdict
 returns-2 c =
     let s = c .before .before .before .before .before .before .before .before .before .before .before .before .before .before .before .before .before .before .before .before .before in let said = c .enum-told2 .given in
-    call-stops (model s) (s .args .blanks) (keepFits (log s) (model s) (kept s)) (rest s) (chain s) (kept s .move) (fits (c .before .before .before .before .before)) _ _ (c .before .before .before .model-checks .ensures) (said .0 .0) (said .0 .1 .0) (said .1)
+    call-stops (model s) (s .args .blanks) (keepFits (log s) (model s) (kept s)) (rest s) (chain s) (kept s .move) (fits (c .before .before .before .before .before)) _ _ _ (c .before .before .model-checks .ensures) (said .0 .0) (said .0 .1 .0) (said .1)
 
 -- ── the model accepted ──
-slice-aggregate-keep-checks : tie.Need-slice-aggregate-keep-checks
-slice-aggregate-keep-checks c = search needs
-
 keep-checks-requires : tie.Need-keep-checks-requires
 keep-checks-requires c κs =
-    let s = c .before .before .before .before .before .before .before .before .before .before .before .before .before .before .before .before .before .before .before .before .before .before in let said = c .before .enum-told .given in let f = each _ (fits (c .before .before .before .before .before .before)) in
-    (move-ready (model s) (s .args .blanks) _ _ (c .before .before .before .before .model-checks .ensures) (said .0 .0) (said .1) (kept s .move) (f .1 .0), f .1 .1 .1 .0)
+    let s = c .before .before .before .before .before .before .before .before .before .before .before .before .before .before .before .before .before .before .before .before .before .before .before in let said = c .before .before .enum-told .given in let f = each _ (fits (c .before .before .before .before .before .before .before)) in
+    (move-ready (model s) (s .args .blanks) _ _ _ (c .before .before .before .before .model-checks .ensures) (said .0 .0) (said .1) (kept s .move) (f .1 .0), f .1 .1 .1 .0)
 
 enum-told-3 : tie.Need-enum-told-3
 enum-told-3 c = search needs
@@ -88,23 +82,20 @@ enum-told-4 c = search needs
 returns-3 : tie.Need-returns-3
 unfolding keepVerdict
 returns-3 c =
-    let s = c .before .before .before .before .before .before .before .before .before .before .before .before .before .before .before .before .before .before .before .before .before .before .before .before .before in let said = c .before .before .before .before .enum-told .given in let refusal = c .enum-told4 .given in
-    call-stops-2 (model s) (s .args .blanks) (keepFits (log s) (model s) (kept s)) (rest s) (chain s) (kept s .move) (fits (c .before .before .before .before .before .before .before .before .before)) _ _ (c .before .before .before .before .before .before .before .model-checks .ensures) (said .0 .0) (said .1) _ (c .before .before .keep-checks .ensures) (refusal .0 .0) (refusal .0 .1 .0) (refusal .1)
+    let s = c .before .before .before .before .before .before .before .before .before .before .before .before .before .before .before .before .before .before .before .before .before .before .before .before .before .before in let said = c .before .before .before .before .before .enum-told .given in let refusal = c .enum-told4 .given in
+    call-stops-2 (model s) (s .args .blanks) (keepFits (log s) (model s) (kept s)) (rest s) (chain s) (kept s .move) (fits (c .before .before .before .before .before .before .before .before .before .before)) _ _ _ (c .before .before .before .before .before .before .before .model-checks .ensures) (said .0 .0) (said .1) _ (c .before .before .keep-checks .ensures) (refusal .0 .0) (refusal .0 .1 .0) (refusal .1)
 
 -- ── and what comes next ──
-slice-aggregate-fresh-checks : tie.Need-slice-aggregate-fresh-checks
-slice-aggregate-fresh-checks c = search needs
-
 fresh-checks-requires : tie.Need-fresh-checks-requires
 fresh-checks-requires c κs =
-    let s = c .before .before .before .before .before .before .before .before .before .before .before .before .before .before .before .before .before .before .before .before .before .before .before .before .before .before in let said = c .before .before .before .before .before .enum-told .given in let more = c .before .enum-told3 .given in
-    let judged = c .before .before .before .before .before .before .before .before .model-checks .ensures in let f = each _ (fits (c .before .before .before .before .before .before .before .before .before .before)) in
-    let passed = call-passed (model s) (s .args .blanks) (keepFits (log s) (model s) (kept s)) (rest s) (chain s) (kept s .move) (fits (c .before .before .before .before .before .before .before .before .before .before)) _ _ (c .before .before .before .before .before .before .before .before .model-checks .ensures) (said .0 .0) (said .1) _ (c .before .before .before .keep-checks .ensures) (more .0 .0) (more .1) in (
-      model-sound (model s) (s .args .blanks) _ _ judged (said .0 .0) (said .1),
+    let s = c .before .before .before .before .before .before .before .before .before .before .before .before .before .before .before .before .before .before .before .before .before .before .before .before .before .before .before .before in let said = c .before .before .before .before .before .before .before .enum-told .given in let more = c .before .before .enum-told3 .given in
+    let judged = c .before .before .before .before .before .before .before .before .before .model-checks .ensures in let f = each _ (fits (c .before .before .before .before .before .before .before .before .before .before .before .before)) in
+    let passed = call-passed (model s) (s .args .blanks) (keepFits (log s) (model s) (kept s)) (rest s) (chain s) (kept s .move) (fits (c .before .before .before .before .before .before .before .before .before .before .before .before)) _ _ _ (c .before .before .before .before .before .before .before .before .before .model-checks .ensures) (said .0 .0) (said .1) _ (c .before .before .before .before .keep-checks .ensures) (more .0 .0) (more .1) in (
+      model-sound (model s) (s .args .blanks) _ _ _ judged (said .0 .0) (said .1),
       (
-        model-makers (model s) (s .args .blanks) _ _ judged (said .0 .0) (said .1),
+        model-makers (model s) (s .args .blanks) _ _ _ judged (said .0 .0) (said .1),
         (
-          model-grouped (model s) (s .args .blanks) _ _ judged (said .0 .0) (said .1),
+          model-closing (model s) (s .args .blanks) _ _ _ judged (said .0 .0) (said .1),
           (
             model-fitting (model s) (s .args .blanks) (f .0) .stored,
             pairs-fit (model s .tables) (model s .bounds) (kept s .move) _ (f .1 .0) passed,
@@ -116,8 +107,8 @@ fresh-checks-requires c κs =
 returns-4 : tie.Need-returns-4
 unfolding keepVerdict
 returns-4 c =
-    let s = c .before .before .before .before .before .before .before .before .before .before .before .before .before .before .before .before .before .before .before .before .before .before .before .before .before .before .before in let said = c .before .before .before .before .before .before .enum-told .given in let more = c .before .before .enum-told3 .given in
-    call-last (model s) (s .args .blanks) (keepFits (log s) (model s) (kept s)) (rest s) (chain s) (kept s .move) (fits (c .before .before .before .before .before .before .before .before .before .before .before)) _ _ (c .before .before .before .before .before .before .before .before .before .model-checks .ensures) (said .0 .0) (said .1) _ (c .before .before .before .before .keep-checks .ensures) (more .0 .0) (more .1) _ (c .fresh-checks .ensures)
+    let s = c .before .before .before .before .before .before .before .before .before .before .before .before .before .before .before .before .before .before .before .before .before .before .before .before .before .before .before .before .before in let said = c .before .before .before .before .before .before .before .before .enum-told .given in let more = c .before .before .before .enum-told3 .given in
+    call-last (model s) (s .args .blanks) (keepFits (log s) (model s) (kept s)) (rest s) (chain s) (kept s .move) (fits (c .before .before .before .before .before .before .before .before .before .before .before .before .before)) _ _ _ (c .before .before .before .before .before .before .before .before .before .before .model-checks .ensures) (said .0 .0) (said .1) _ (c .before .before .before .before .before .keep-checks .ensures) (more .0 .0) (more .1) _ (c .fresh-checks .ensures)
 
 pub judge-keep-spec : {M : Type 1} → statement M
 judge-keep-spec =
@@ -126,16 +117,13 @@ judge-keep-spec =
     keep-fits-requires
     refused-requires
     returns
-    slice-aggregate-model-checks
     model-checks-requires
     enum-told
     enum-told-2
     returns-2
-    slice-aggregate-keep-checks
     keep-checks-requires
     enum-told-3
     enum-told-4
     returns-3
-    slice-aggregate-fresh-checks
     fresh-checks-requires
     returns-4)

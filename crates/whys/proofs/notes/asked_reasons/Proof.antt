@@ -1,12 +1,9 @@
 -- Where none is blank the reason of every variable whose flag is 1 is 0; else the row of makers says which row makes each variable, so what is worked out by
 -- it is what the tables say (`Noted`). Assumes nothing.
-use native.Mathlib.Omega.{arith}
 use mathlib.Core.Path.{sym, _∙_}
 use borrow.Author.Needs.{needs}
 use Rattle.paper.specs.Tables.{Tables, lent}
-use Rattle.paper.proofs.Sizes.{sized-facts}
-use Rattle.tables.proofs.Made.{sound-makes}
-use Rattle.whys.proofs.Noted.{all-read, makers-new, asked-row, plain-row}
+use Rattle.whys.proofs.Noted.{all-read, asked-row, plain-row}
 use Rattle.whys.proofs.notes.asked_reasons.Statement.{statement}
 use Rattle.whys.proofs.notes.asked_reasons.Tie as tie
 
@@ -17,42 +14,31 @@ tables s =
     (s .args .coefs .now)
 
 none-blank-requires : tie.Need-none-blank-requires
-none-blank-requires c κs = let s = c .before .before .before .before .before .before .before .before .before in ((s .pre .1 .0 .0, s .pre .1 .0 .1), s .pre .1 .1)
+none-blank-requires c κs = let s = c .before .before .before .before .before .before .before .before .before .before in ((s .pre .1 .0 .0, s .pre .1 .0 .1), s .pre .1 .1 .0)
 
 ask-plain-requires : tie.Need-ask-plain-requires
-ask-plain-requires c κs = let s = c .before .before .before .before .before .before .before .before .before .before .before .before in ((s .pre .1 .0 .1, s .pre .1 .0 .2, s .pre .1 .0 .3), s .pre .1 .1)
+ask-plain-requires c κs = let s = c .before .before .before .before .before .before .before .before .before .before .before .before .before in ((s .pre .1 .0 .1, s .pre .1 .0 .2, s .pre .1 .0 .3), s .pre .1 .1 .0)
 
 same-length : tie.Need-same-length
 same-length c = search needs
 
 returns : tie.Need-returns
 returns c =
-    let s = c .before .before .before .before .before .before .before .before .before .before .before .before .before .before .before in
+    let s = c .before .before .before .before .before .before .before .before .before .before .before .before .before .before .before .before in
     plain-row (tables s) (s .args .flags .now) (s .args .values .now) (s .args .stored .now) (s .args .asked .now) (s .args .results .now) _ (sym (c .before .before .before .before .before .none-blank .ensures) ∙ c .before .before .before .before .if1 .taken) (c .before .before .ask-plain .ensures)
-
-slice-aggregate-makers : tie.Need-slice-aggregate-makers
-slice-aggregate-makers c = search needs
-
-makers-requires : tie.Need-makers-requires
-makers-requires c κs =
-    let s = c .before .before .before .before .before .before .before .before .before .before .before .before in let z = sized-facts (tables s) (s .pre .0 .sized) in
-    ((z .makes, z .n-most, omega (arith, z .n-most, z .m-most)), sound-makes (tables s) (s .pre .0))
-
-slice-aggregate-ask-by : tie.Need-slice-aggregate-ask-by
-slice-aggregate-ask-by c = search needs
 
 ask-by-requires : tie.Need-ask-by-requires
 ask-by-requires c κs =
-    let s = c .before .before .before .before .before .before .before .before .before .before .before .before .before .before .before .before in
-    (all-read (tables s) (s .pre .0) (s .args .values .now) (s .pre .1 .0 .0) _ (makers-new (tables s) (s .pre .0) _ (c .before .before .before .makers .ensures)), ((s .pre .1 .0 .1, s .pre .1 .0 .2, s .pre .1 .0 .3), s .pre .1 .1))
+    let s = c .before .before .before .before .before .before .before .before .before .before .before .before .before in
+    (all-read (tables s) (s .pre .0) (s .args .values .now) (s .pre .1 .0 .0) _ (s .pre .1 .1 .1), ((s .pre .1 .0 .1, s .pre .1 .0 .2, s .pre .1 .0 .3), s .pre .1 .1 .0))
 
 same-length-2 : tie.Need-same-length-2
 same-length-2 c = search needs
 
 returns-2 : tie.Need-returns-2
 returns-2 c =
-    let s = c .before .before .before .before .before .before .before .before .before .before .before .before .before .before .before .before .before .before .before in
-    asked-row (tables s) (s .pre .0) (s .args .values .now) (s .pre .1 .0 .0) _ (makers-new (tables s) (s .pre .0) _ (c .before .before .before .before .before .before .makers .ensures)) (s .args .flags .now) (s .args .stored .now) (s .args .asked .now) (s .args .results .now) _ (s .pre .1 .1) (c .before .before .ask-by .ensures)
+    let s = c .before .before .before .before .before .before .before .before .before .before .before .before .before .before .before .before in
+    asked-row (tables s) (s .pre .0) (s .args .values .now) (s .pre .1 .0 .0) _ (s .pre .1 .1 .1) (s .args .flags .now) (s .args .stored .now) (s .args .asked .now) (s .args .results .now) _ (s .pre .1 .1 .0) (c .before .before .ask-by .ensures)
 
 pub asked-reasons-spec : {M : Type 1} → statement M
 asked-reasons-spec =
@@ -62,9 +48,6 @@ asked-reasons-spec =
     ask-plain-requires
     same-length
     returns
-    slice-aggregate-makers
-    makers-requires
-    slice-aggregate-ask-by
     ask-by-requires
     same-length-2
     returns-2)

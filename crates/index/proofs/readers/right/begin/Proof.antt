@@ -1,33 +1,40 @@
--- The places before this one have their starts, and the rest is as it was (`Filled`). Assumes nothing.
+-- The cells before this one hold their starts (`Begun`). Assumes nothing.
 use Prim.Native.Nat.{_-_, _≤_}
 use native.Mathlib.Omega.{arith}
-use mathlib.Core.Path.{refl}
+use mathlib.Core.Path.{_≡_, refl, _∙_}
+use lib.ListN.{length, length-set}
 use borrow.Author.Needs.{needs}
-use Rattle.paper.specs.Lists.{nat}
-use Rattle.paper.proofs.Buffers.{Filled, filled-start, filled-next, filled-end}
+use Rattle.index.specs.Walk.{Begun}
+use Rattle.index.proofs.Walk.{begun-start, begun-next, begun-end}
 use Rattle.index.proofs.readers.right.begin.Statement.{statement}
 use Rattle.index.proofs.readers.right.begin.Tie as tie
 
 abbrev Inv-loop : tie.InvT-loop
-Inv-loop n starts reached₀ v₀ reached v = (v ≤ n) × Filled (nat starts) reached₀ reached v
+Inv-loop n starts cells₀ v₀ cells v = (v ≤ n) × (length cells ≡ length cells₀) × Begun v starts cells
 
 abbrev μ-loop : tie.MeasureT-loop
-μ-loop n starts reached₀ v₀ reached v = n - v
+μ-loop n starts cells₀ v₀ cells v = n - v
 
 loop-holds : tie.Need-loop-holds Inv-loop μ-loop
-loop-holds c = (omega arith, filled-start _ _)
+loop-holds c = (omega arith, refl, begun-start _ _)
 
-mul-reached : tie.Need-mul-reached Inv-loop μ-loop
-mul-reached c = search needs
+mul-wide : tie.Need-mul-wide Inv-loop μ-loop
+mul-wide c = search needs
 
-shared-slice-read-reached : tie.Need-shared-slice-read-reached Inv-loop μ-loop
-shared-slice-read-reached c = search needs
+shared-slice-read-wide : tie.Need-shared-slice-read-wide Inv-loop μ-loop
+shared-slice-read-wide c = search needs
 
-mul-reached-2 : tie.Need-mul-reached-2 Inv-loop μ-loop
-mul-reached-2 c = search needs
+wide-requires : tie.Need-wide-requires Inv-loop μ-loop
+wide-requires c κs = search needs
 
-slice-write-reached : tie.Need-slice-write-reached Inv-loop μ-loop
-slice-write-reached c = let long = c .before .before .loop .inv .1 .long in omega arith
+cast-cells : tie.Need-cast-cells Inv-loop μ-loop
+cast-cells c = search needs
+
+mul-cells : tie.Need-mul-cells Inv-loop μ-loop
+mul-cells c = search needs
+
+slice-write-cells : tie.Need-slice-write-cells Inv-loop μ-loop
+slice-write-cells c = search needs
 
 add-v : tie.Need-add-v Inv-loop μ-loop
 add-v c = search needs
@@ -36,13 +43,15 @@ loop-less : tie.Need-loop-less Inv-loop μ-loop
 loop-less c = search needs
 
 loop-again : tie.Need-loop-again Inv-loop μ-loop
-loop-again c = (omega arith, filled-next _ _ _ _ (c .before .before .loop .inv .1) (omega arith) refl)
+loop-again c =
+    let l = c .before .before .before .loop in let x = c .wide .ensures in
+    (omega arith, length-set (l .cells) _ _ ∙ l .inv .1, begun-next _ _ _ (l .inv .2) (omega arith) _ (x .0) (x .1))
 
 same-length : tie.Need-same-length Inv-loop μ-loop
 same-length c = search needs
 
 returns : tie.Need-returns Inv-loop μ-loop
-returns c = filled-end _ _ _ _ (c .before .before .args .n) (c .before .loop .inv .1) (omega arith)
+returns c = begun-end _ _ _ _ (c .before .loop .inv .2) (omega arith)
 
 pub begin-spec : {M : Type 1} → statement M
 begin-spec =
@@ -51,10 +60,12 @@ begin-spec =
     Inv-loop
     μ-loop
     loop-holds
-    mul-reached
-    shared-slice-read-reached
-    mul-reached-2
-    slice-write-reached
+    mul-wide
+    shared-slice-read-wide
+    wide-requires
+    cast-cells
+    mul-cells
+    slice-write-cells
     add-v
     loop-less
     loop-again

@@ -1,0 +1,4 @@
+pub mod Once
+pub mod Batch
+pub mod Trials
+pub mod Laws
