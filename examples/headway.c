@@ -23,7 +23,7 @@ int main(void) {
     /* the log of kept moves: build empties it, and it is lent to every keep and every taking back */
     uint16_t log_sizes[LUKHANDRO_LOG_SIZES], log_vars[LUKHANDRO_LOG_PLACES];
     int32_t log_values[LUKHANDRO_LOG_PLACES];
-    lukhandro_session session = {0};
+    lukhandro_session session = {0, 0, 0};
 
     lukhandro_outcome built = lukhandro_build(&session, 5, 2, 6, ROWS, BOUNDS, starts, 5, BUILT,
         log_sizes, LUKHANDRO_LOG_SIZES);

@@ -1,11 +1,47 @@
 /* Lukhandro, a timetable engine whose every call is proved: the calls for C.
  *
- * Link with libcapi.a, which `rt staticlib capi` writes for x86-64. No call allocates, keeps a pointer, or touches
- * anything but the buffers lent to it.
+ * These are the calls over buffers that the caller keeps. lukhandro_model.h has a struct that keeps them, and is where to
+ * begin: a model in ten lines. `pkg-config --cflags --libs lukhandro` says how to compile and link where the library is
+ * installed; in the repository it is target/staticlib/libcapi.a, which `rt staticlib capi` writes for x86-64. No call
+ * allocates, keeps a pointer, or touches anything but the buffers lent to it.
+ *
+ * THE INTERFACE has a number, LUKHANDRO_INTERFACE, which goes up when a call's parameters, a struct or the meaning of a
+ * number change. Each file that includes this header refers to a function of the library with that number in its name:
+ * with a library of another number the program does not link. lukhandro_interface() gives the library's number.
+ *
+ * FORMULAS. A row is a formula that makes one variable from its inputs, named by entries: variable and coefficient.
+ *
+ *   LUKHANDRO_..   inputs             gives                                         is blank
+ *   1 LINEAR       1 to 256           parameter + the sum of coefficient * input    of a blank input; out of range
+ *   2 MIN          1 to 256           the least input that is not blank             if all inputs are
+ *   3 MAX          1 to 256           the greatest input that is not blank          if all inputs are
+ *   4 ELEMENT      2 to 256: index,   the candidate that the index, from 0,         of a blank index or one outside, or of
+ *                  candidates         chooses                                       a blank candidate that it chooses
+ *   5 SHARED       1 to 256           how many places hold a value that another     of a blank input
+ *                                     place holds too: clashes
+ *   6 COUNT        1 to 256           how many inputs equal the parameter           of a blank input
+ *   7 OVER         2: a, b            a - b if that is positive, else 0             of a blank input; out of range
+ *   8 DEPARTURES   3: start, end,     how many of the times start + k headway,      of a blank input; a headway of 0 or
+ *                  headway            k = 0, 1, 2 and on, are before the end        less; out of range
+ *   9 LAST         3: start, end,     the latest of these times                     of a blank input; a headway of 0 or
+ *                  headway                                                          less; no departures
+ *
+ * A coefficient is from -1,000 to 1,000, and 1 but in LINEAR. A parameter is from -1,000,000,000 to 1,000,000,000, and 0
+ * but in LINEAR and COUNT. A variable may stand twice in a row; each place counts. The inputs of the rows follow one
+ * another: a row's first entry is the sum of the counts before it.
+ *
+ * TIMES are seconds since midnight of the service day, as in GTFS: 7:00:00 is 25200, and 1:30:00 of the night after is
+ * 91800, since a day goes on beyond 24:00:00. Headways are seconds. To the engine they are whole numbers like all
+ * others: a caller may keep to another unit throughout. A window does not contain its end: from 25200 to 28800 every 600
+ * there are six departures, the last at 28200, and none at 28800.
  *
  * BUFFERS. A buffer is a pointer and its length in elements. A buffer that a call writes must overlap no other buffer
  * of the call, the record among them. It may be longer than the counts ask: what lies beyond is neither looked at nor
- * changed. A pointer whose length is 0 is not followed.
+ * changed. A length that is less than the counts ask is refused (1); one that is more than the buffer has is the caller's
+ * error, and nothing can notice it.
+ *
+ * NULL. A pointer whose length is 0 is not followed, so it may be NULL: a model without rows, a move without pairs. NULL
+ * with another length, and NULL for the record, are the caller's error, as any pointer to nothing is.
  *
  *   n variables (1 to 4,096), m rows (0 to n), e entries (0 to 16,384)
  *   kinds, makes, params, firsts, counts   m each    the rows: formula 1 to 9, variable made, parameter,
@@ -29,9 +65,9 @@
  *                                                    how many pairs each has (0 to 64), the oldest first
  *   log_vars, log_values                   4,096     the pairs of the log: variable, and its value before the move; those
  *                                          each      of move k, from 0, stand from place 64 k on
- *   bytes                                            a model file, little-endian: 24 + 4n + 12m + 4e bytes in version 1,
- *                                                    28 + 12n + 12m + 4e in version 2; for salvage a damaged one, of any
- *                                                    length
+ *   bytes                                            a model file: LUKHANDRO_BYTES(n, m, e) bytes in version 1,
+ *                                                    LUKHANDRO_BYTES_BOUNDED(n, m, e) in version 2; for salvage a
+ *                                                    damaged one, of any length
  *   file                                             the file saved of it, 131,096 bytes are room for any; or the file of
  *                                                    the other version, for which 163,868 are
  *   list                                             what was not saved: rows of the damaged file, ascending, and then
@@ -50,6 +86,16 @@
  * does behind stored and the bounds do behind coefs; reasons stand behind the readers, and why behind flags. The log came
  * last, and its rows stand at the end of the list.
  *
+ * MODEL FILES are little-endian. Values, parameters, coefficients and bounds are signed, all else is unsigned.
+ *   version 1  at 0 the version, 1; at 2 n, at 4 m, at 6 e, 2 bytes each; at 8 where the start values begin, 24; at 12
+ *              where the rows do, 24 + 4n; at 16 where the entries do, 24 + 4n + 12m; at 20 the total, 24 + 4n + 12m + 4e,
+ *              which is the file's length; 4 bytes each. Then n start values of 4 bytes, m rows of 12 (kind 2, variable
+ *              made 2, parameter 4, first entry 2, number of entries 2) and e entries of 4 (variable 2, coefficient 2).
+ *   version 2  the same with the version 2, and at 24 where the bounds begin, 28 + 4n + 12m + 4e, 4 bytes; so the start
+ *              values begin at 28, and rows and entries 4 bytes later than in version 1. Then, behind the entries, the
+ *              bounds of each variable, lowest 4 bytes, highest 4. The total is 28 + 12n + 12m + 4e.
+ * docs/FILES.md has the same in tables, and what each call on files does.
+ *
  * THE LOG lets the latest 64 kept moves be taken back, one after another, the latest first. Its three rows need no
  * content before build, which empties it (it writes log_sizes[0]) and is lent no more of it than log_sizes. Lend the same
  * three rows to every keep, which notes its move there, and to every taking back, which takes the latest move off; no
@@ -62,7 +108,8 @@
  *
  * VALUES lie in -2,147,483,647 to 2,147,483,647, LUKHANDRO_LOWEST to LUKHANDRO_HIGHEST; LUKHANDRO_BLANK is no value.
  *
- * REASONS. A value that cannot be worked out is blank, and its reason says why, in a byte:
+ * REASONS. A value that cannot be worked out is blank, and its reason says why, in a byte (named LUKHANDRO_LEFT_RANGE
+ * and so on below):
  *    0 it has a value, or no row makes it             3 the headway of DEPARTURES or LAST is 0 or less
  *    1 the result left the range                      4 a blank input stopped it
  *    2 the index of ELEMENT is outside                5 LAST has no departures
@@ -87,7 +134,8 @@
  * other have one topological number: 1 plus the greatest among the inputs of all of them that are none of them.
  *
  * REFUSALS. Number 0 is accepted. Any other number is a refusal: the call has changed no byte that it was lent, and
- * place is the smallest row, variable, pair, asked index or byte that offends. Numbers are the specification's, 1 to 21:
+ * place is the smallest row, variable, pair, asked index or byte that offends. Numbers are the specification's, 1 to 21
+ * (named LUKHANDRO_REFUSED_COUNT and so on below):
  *    1 a count outside its bound or a short buffer     8 numbers, order or readers that build does not give
  *    2 no such kind                                    9 no such route
  *    3 variable, input count or part of a row         10 a pair names a made variable or none
@@ -111,19 +159,17 @@
  * Checks run in ascending number, but 8 and then 19 come before 7, 17 right after 12, 16 before 15, and 21 before 20; of
  * the calls on files 14 comes first, then 18, then 1. lukhandro_departures has refusals of its own, 1 to 5.
  *
- * STACK. On the deepest models, chains and rings of 4,095 rows, a program that makes this call and no other needs a
- * stack of
- *     lukhandro_build                        1,008 KiB
- *     lukhandro_trial by route 2 or 3        1,104 KiB
- *     lukhandro_figures                      1,120 KiB
- *     lukhandro_trial by route 1, and
- *     lukhandro_keep and _take_back            976 KiB
- *     lukhandro_salvage                        768 KiB
- *     lukhandro_departures                     144 KiB
- *     lukhandro_read, _write,
- *     _read_bounded, _write_bounded,
- *     _to_version_2, _to_version_1
- *     and _inputs_of_row                       128 KiB or less
+ * STACK. On the deepest models, chains of 4,095 rows and rings of as many, which closed chains are, a program that makes
+ * this call and no other needs a stack of so many KiB:
+ *                                                      chain     ring
+ *     lukhandro_build                                    496    1,008
+ *     lukhandro_trial by route 1                         128      960
+ *     lukhandro_trial by route 2 or 3                  1,104      976
+ *     lukhandro_keep, _take_back                         128      976
+ *     lukhandro_figures                                1,120      992
+ *     lukhandro_salvage                                  768      768
+ *     lukhandro_departures                               144
+ *     every other call                                   128 or less
  * These figures were measured, in steps of 16 KiB, on an x86-64 machine; no proof states them. The tests send
  * these models through every call on a stack of 2 MiB: a thread that calls should have as much.
  */
@@ -137,15 +183,115 @@
 extern "C" {
 #endif
 
+/* The number of the interface. */
+#define LUKHANDRO_INTERFACE 1
+
+/* No value. */
 #define LUKHANDRO_BLANK INT32_MIN
 
-/* Full bounds. */
+/* The least and the greatest value; as bounds, full ones. */
 #define LUKHANDRO_LOWEST (-INT32_MAX)
 #define LUKHANDRO_HIGHEST INT32_MAX
 
-/* The places of the rows of a log. */
+/* The nine formulas. */
+#define LUKHANDRO_LINEAR 1
+#define LUKHANDRO_MIN 2
+#define LUKHANDRO_MAX 3
+#define LUKHANDRO_ELEMENT 4
+#define LUKHANDRO_SHARED 5
+#define LUKHANDRO_COUNT 6
+#define LUKHANDRO_OVER 7
+#define LUKHANDRO_DEPARTURES 8
+#define LUKHANDRO_LAST 9
+
+/* The three routes of a trial: from what was moved to all that it changes; from what is asked to all that it needs; from
+ * what is asked to what it needs and the move can have changed. Over values that the calls left they agree. */
+#define LUKHANDRO_INPUT_TO_OUTPUT 1
+#define LUKHANDRO_OUTPUT_TO_INPUT 2
+#define LUKHANDRO_MARK_GUIDED 3
+
+/* The numbers of an outcome: accepted, or the refusal. */
+#define LUKHANDRO_ACCEPTED 0
+#define LUKHANDRO_REFUSED_COUNT 1
+#define LUKHANDRO_REFUSED_KIND 2
+#define LUKHANDRO_REFUSED_ROW 3
+#define LUKHANDRO_REFUSED_NUMBER 4
+#define LUKHANDRO_REFUSED_MADE_TWICE 5
+#define LUKHANDRO_REFUSED_CHAIN 6
+#define LUKHANDRO_REFUSED_VALUE 7
+#define LUKHANDRO_REFUSED_ORDER 8
+#define LUKHANDRO_REFUSED_ROUTE 9
+#define LUKHANDRO_REFUSED_MADE 10
+#define LUKHANDRO_REFUSED_MOVED_TWICE 11
+#define LUKHANDRO_REFUSED_BLANK 12
+#define LUKHANDRO_REFUSED_ASKED 13
+#define LUKHANDRO_REFUSED_HEADER 14
+#define LUKHANDRO_REFUSED_NOTHING_KEPT 15
+#define LUKHANDRO_REFUSED_LOG 16
+#define LUKHANDRO_REFUSED_OUTSIDE 17
+#define LUKHANDRO_REFUSED_BOUNDS_LOST 18
+#define LUKHANDRO_REFUSED_BLANKS 19
+#define LUKHANDRO_REFUSED_UNDETERMINED 20
+#define LUKHANDRO_REFUSED_STALE 21
+
+/* The numbers of a board's refusals, which are lukhandro_departures' own. */
+#define LUKHANDRO_BOARD_WINDOWS 1
+#define LUKHANDRO_BOARD_NUMBER 2
+#define LUKHANDRO_BOARD_OVERLAP 3
+#define LUKHANDRO_BOARD_DEPARTURES 4
+#define LUKHANDRO_BOARD_LIST 5
+
+/* The reasons of blank values. */
+#define LUKHANDRO_HAS_VALUE 0
+#define LUKHANDRO_LEFT_RANGE 1
+#define LUKHANDRO_INDEX_OUTSIDE 2
+#define LUKHANDRO_HEADWAY_NOT_POSITIVE 3
+#define LUKHANDRO_BLANK_INPUT 4
+#define LUKHANDRO_NO_DEPARTURES 5
+
+/* The most of each thing. */
+#define LUKHANDRO_MOST_VARIABLES 4096
+#define LUKHANDRO_MOST_ROWS 4096
+#define LUKHANDRO_MOST_ENTRIES 16384
+#define LUKHANDRO_MOST_INPUTS 256
+#define LUKHANDRO_MOST_COEFFICIENT 1000
+#define LUKHANDRO_MOST_PARAMETER 1000000000
+#define LUKHANDRO_MOST_PAIRS 64
+#define LUKHANDRO_MOST_ASKED 32
+#define LUKHANDRO_MOST_LOGGED 64
+#define LUKHANDRO_MOST_MOVES 1000
+#define LUKHANDRO_MOST_WINDOWS 64
+#define LUKHANDRO_MOST_DEPARTURES 2000
+
+/* Lengths of buffers, in elements: what is asked, or room for any. */
+#define LUKHANDRO_READER_STARTS (LUKHANDRO_MOST_VARIABLES + 1)
 #define LUKHANDRO_LOG_SIZES 65
 #define LUKHANDRO_LOG_PLACES 4096
+#define LUKHANDRO_BY_NUMBER 22
+#define LUKHANDRO_SALVAGE_LIST 8192
+#define LUKHANDRO_MOST_BYTES 131096
+#define LUKHANDRO_MOST_BYTES_BOUNDED 163868
+
+/* How long a model file is, in version 1 and in version 2. */
+#define LUKHANDRO_BYTES(n, m, e) (24 + 4 * (size_t)(n) + 12 * (size_t)(m) + 4 * (size_t)(e))
+#define LUKHANDRO_BYTES_BOUNDED(n, m, e) (28 + 12 * (size_t)(n) + 12 * (size_t)(m) + 4 * (size_t)(e))
+
+/* The number of the library's interface, LUKHANDRO_INTERFACE of the header that belongs to it. */
+uint32_t lukhandro_interface(void);
+
+/* The same of a library with interface 1: another has no function of this name. */
+uint32_t lukhandro_interface_1(void);
+
+/* What makes a program that includes this header refer to that name, whatever it calls, and whatever its linker drops. */
+#if defined(__has_attribute)
+#if __has_attribute(retain)
+#define LUKHANDRO_REFERRED __attribute__((used, retain))
+#endif
+#endif
+#ifndef LUKHANDRO_REFERRED
+#define LUKHANDRO_REFERRED __attribute__((used))
+#endif
+static uint32_t (*const lukhandro_interface_of_this_header)(void) LUKHANDRO_REFERRED = lukhandro_interface_1;
 
 /* The session record. Build sets 0, m and the number of blanks, a trial its evaluations, keep and taking back all three.
  * Kept stops at 4,294,967,295, and does not fall from there. */
@@ -374,6 +520,30 @@ lukhandro_list_outcome lukhandro_departures(
 lukhandro_part lukhandro_inputs_of_row(
     size_t m, size_t e, const uint16_t *firsts, size_t firsts_length, const uint16_t *counts, size_t counts_length,
     const uint16_t *vars, size_t vars_length, size_t row);
+
+/* Tries up to 1,000 moves, each on the same stored values and a copy of the record, by one route, and keeps none; the model
+ * is judged once. Move i is given its number, place and evaluations at place i of move_numbers, move_places and
+ * move_evaluations, and the values and reasons asked in `asked` places of results and why behind those of the moves before
+ * it, as a trial gives them; a refused move leaves these as they were, and a model that trials refuse has every move
+ * refused with that number and place. The outcome's evaluations are those of all moves. Refusal 1, place 0, and nothing
+ * written: more than 1,000 moves, more than 32 variables asked, fewer places of move_pairs, move_numbers, move_places or
+ * move_evaluations than moves, of asked_vars than variables asked, or of results or why than moves times variables. */
+lukhandro_outcome lukhandro_trials(
+    const lukhandro_session *session, size_t n, size_t m, size_t e,
+    const uint16_t *kinds, size_t kinds_length, const uint16_t *makes, size_t makes_length,
+    const int32_t *params, size_t params_length, const uint16_t *firsts, size_t firsts_length,
+    const uint16_t *counts, size_t counts_length, const uint16_t *vars, size_t vars_length,
+    const int16_t *coefs, size_t coefs_length, const int32_t *lows, size_t lows_length,
+    const int32_t *highs, size_t highs_length, const uint16_t *numbers, size_t numbers_length,
+    const uint16_t *order, size_t order_length, const int32_t *stored, size_t stored_length,
+    const uint16_t *reader_starts, size_t reader_starts_length,
+    const uint16_t *reader_places, size_t reader_places_length, const uint8_t *reasons, size_t reasons_length,
+    size_t moves, const uint16_t *move_pairs, size_t move_pairs_length,
+    const uint16_t *move_vars, size_t move_vars_length, const int32_t *move_values, size_t move_values_length,
+    size_t asked, const uint16_t *asked_vars, size_t asked_vars_length, uint32_t route,
+    uint32_t *move_numbers, size_t move_numbers_length, uint32_t *move_places, size_t move_places_length,
+    uint32_t *move_evaluations, size_t move_evaluations_length,
+    int32_t *results, size_t results_length, uint8_t *why, size_t why_length);
 
 #ifdef __cplusplus
 }

@@ -8,8 +8,13 @@ use std::path::{Path, PathBuf};
 use std::process::{Command, exit};
 
 /// The programs by name, from the root of the repository.
-const PROGRAMS: [(&str, &str); 3] =
-    [("server", "rust/served/c/server.c"), ("calls", "rust/served/c/calls.c"), ("headway", "examples/headway.c")];
+const PROGRAMS: [(&str, &str); 5] = [
+    ("server", "rust/served/c/server.c"),
+    ("calls", "rust/served/c/calls.c"),
+    ("model", "rust/served/c/model.c"),
+    ("headway", "examples/headway.c"),
+    ("sheet", "examples/sheet.c"),
+];
 
 fn main() {
     let repository = Path::new(env!("CARGO_MANIFEST_DIR")).join("../..");
@@ -58,7 +63,8 @@ fn kit() -> PathBuf {
 
 fn compile(kit: &Path, repository: &Path, source: &Path, object: &Path) {
     let mut clang = Command::new(kit.join("bin/clang"));
-    clang.args(["--target=x86_64-unknown-linux-gnu", "-std=c99", "-O2", "-fPIE", "-Wall", "-Wextra", "-Werror"]);
+    clang.args(["--target=x86_64-unknown-linux-gnu", "-std=c99", "-O2", "-fPIE"]);
+    clang.args(["-Wall", "-Wextra", "-Wpedantic", "-Wconversion", "-Werror"]);
     clang.args(["-nostdinc", "-Ic/libc", "-I"]).arg(repository.join("include"));
     succeed(clang.arg("-c").arg(source).arg("-o").arg(object), source.as_os_str());
 }

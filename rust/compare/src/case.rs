@@ -33,6 +33,8 @@ pub enum Call {
     ToVersion1,
     /// A batch of moves in figures.
     Figures,
+    /// Many moves tried by a route.
+    Trials,
     /// The departures of one trip's windows in time order.
     Departures,
     /// The inputs of a row, as a part of the lent entries.
@@ -85,6 +87,9 @@ pub struct Case {
     pub moves: usize,
     pub move_pairs: Guarded<u16>,
     pub by_number: Guarded<u32>,
+    pub move_numbers: Guarded<u32>,
+    pub move_places: Guarded<u32>,
+    pub move_evaluations: Guarded<u32>,
     pub windows: usize,
     pub ends: Guarded<i32>,
     pub headways: Guarded<i32>,
@@ -127,6 +132,9 @@ macro_rules! buffers_of {
             ("list", $($borrowed)+ $case.list),
             ("move_pairs", $($borrowed)+ $case.move_pairs),
             ("by_number", $($borrowed)+ $case.by_number),
+            ("move_numbers", $($borrowed)+ $case.move_numbers),
+            ("move_places", $($borrowed)+ $case.move_places),
+            ("move_evaluations", $($borrowed)+ $case.move_evaluations),
             ("ends", $($borrowed)+ $case.ends),
             ("headways", $($borrowed)+ $case.headways),
             ("board", $($borrowed)+ $case.board),
@@ -154,13 +162,13 @@ impl Case {
 
     /// Every buffer by name, in the order of the fields.
     #[must_use]
-    pub fn buffers(&self) -> [(&'static str, &dyn Buffer); 34] {
+    pub fn buffers(&self) -> [(&'static str, &dyn Buffer); 37] {
         buffers_of!(self, &)
     }
 
     /// Every buffer by name, to be changed.
     #[must_use]
-    pub fn buffers_mut(&mut self) -> [(&'static str, &mut dyn Buffer); 34] {
+    pub fn buffers_mut(&mut self) -> [(&'static str, &mut dyn Buffer); 37] {
         buffers_of!(self, &mut)
     }
 

@@ -317,13 +317,25 @@ fn buffers(case: &mut Case) -> Vec<(&mut dyn Length, usize)> {
             lent.push((&mut case.move_values, pairs));
             lent.push((&mut case.by_number, NUMBERS));
         }
+        Call::Trials => {
+            let pairs = case.move_pairs.iter().take(case.moves).map(|&pairs| usize::from(pairs)).sum();
+            lent.push((&mut case.move_pairs, case.moves));
+            lent.push((&mut case.move_vars, pairs));
+            lent.push((&mut case.move_values, pairs));
+            lent.push((&mut case.move_numbers, case.moves));
+            lent.push((&mut case.move_places, case.moves));
+            lent.push((&mut case.move_evaluations, case.moves));
+        }
         _ => {}
     }
     if case.call == Call::Trial {
         lent.push((&mut case.trial, n));
+    }
+    if matches!(case.call, Call::Trial | Call::Trials) {
+        let all = if case.call == Call::Trial { asked } else { asked.saturating_mul(case.moves) };
         lent.push((&mut case.asked_vars, asked));
-        lent.push((&mut case.results, asked));
-        lent.push((&mut case.why, asked));
+        lent.push((&mut case.results, all));
+        lent.push((&mut case.why, all));
     }
     if matches!(case.call, Call::Trial | Call::Keep | Call::TakeBack) {
         lent.push((&mut case.flags, n));
@@ -339,14 +351,14 @@ fn buffers(case: &mut Case) -> Vec<(&mut dyn Length, usize)> {
         lent.push((&mut case.lows, n));
         lent.push((&mut case.highs, n));
     }
-    if matches!(case.call, Call::Build | Call::Trial | Call::Keep | Call::TakeBack | Call::Figures) {
+    if matches!(case.call, Call::Build | Call::Trial | Call::Keep | Call::TakeBack | Call::Figures | Call::Trials) {
         lent.push((&mut case.numbers, n));
         lent.push((&mut case.order, m));
         lent.push((&mut case.stored, n));
         lent.push((&mut case.reader_starts, n.saturating_add(1)));
         lent.push((&mut case.reader_places, e));
     }
-    if matches!(case.call, Call::Build | Call::Trial | Call::Keep | Call::TakeBack) {
+    if matches!(case.call, Call::Build | Call::Trial | Call::Keep | Call::TakeBack | Call::Trials) {
         lent.push((&mut case.reasons, n));
     }
     lent

@@ -1,8 +1,8 @@
 //! Who answers a case.
 
 use lent::{
-    Asked, Batch, Bounds, BoundsMut, Built, Figures, Keep, Move, Session, State, Tables, TablesMut, TakeBack, Trial,
-    Tried, Windows,
+    Asked, Batch, Bounds, BoundsMut, Built, Figures, Given, Keep, Move, Session, State, Tables, TablesMut, TakeBack,
+    Trial, Trials, Tried, Windows,
 };
 
 use crate::{Answer, Call, Case};
@@ -54,6 +54,9 @@ pub trait Calls {
 
     /// A batch of moves in figures.
     fn figures(session: &Session, tables: Tables<'_>, bounds: Bounds<'_>, lent: Figures<'_>) -> Answer;
+
+    /// Many moves tried by a route.
+    fn trials(session: &Session, tables: Tables<'_>, bounds: Bounds<'_>, lent: Trials<'_>) -> Answer;
 
     /// The departures of one trip's windows in time order.
     fn departures(windows: Windows<'_>, list: &mut [i32]) -> Answer;
@@ -135,6 +138,20 @@ impl<C: Calls> Engine for C {
                 let lent = Figures { numbers, order, stored, reader_starts, reader_places, batch, asked, by_number };
                 C::figures(session, tables, bounds, lent)
             }
+            Call::Trials => {
+                let (vars, values) = (&case.move_vars, &case.move_values);
+                let batch = Batch { moves: case.moves, pairs: &case.move_pairs, vars, values };
+                let state = State { numbers, order, stored, reader_starts, reader_places, reasons };
+                let asked = Asked { asked: case.asked, vars: &case.asked_vars };
+                let given = Given {
+                    numbers: &mut case.move_numbers,
+                    places: &mut case.move_places,
+                    evaluations: &mut case.move_evaluations,
+                    results: &mut case.results,
+                    why: &mut case.why,
+                };
+                C::trials(session, tables, bounds, Trials { state, batch, asked, route: case.route, given })
+            }
             Call::Departures => {
                 let windows = Windows { windows: case.windows, starts, ends: &case.ends, headways: &case.headways };
                 C::departures(windows, &mut case.board)
@@ -201,6 +218,10 @@ impl Calls for Second {
 
     fn figures(session: &Session, tables: Tables<'_>, bounds: Bounds<'_>, lent: Figures<'_>) -> Answer {
         Answer::of_figures(second::figures(session, tables, bounds, lent))
+    }
+
+    fn trials(session: &Session, tables: Tables<'_>, bounds: Bounds<'_>, lent: Trials<'_>) -> Answer {
+        Answer::of_call(second::trials(session, tables, bounds, lent))
     }
 
     fn departures(windows: Windows<'_>, list: &mut [i32]) -> Answer {

@@ -15,7 +15,7 @@ use crate::{
 const BATCHES: usize = 6_000;
 
 /// The pairs of a move.
-type Pairs = Vec<(u16, i32)>;
+pub(crate) type Pairs = Vec<(u16, i32)>;
 
 /// A batch of moves on a model that was built.
 #[must_use]
@@ -212,7 +212,7 @@ pub fn tiny_batches(engine: &dyn Engine) {
 }
 
 /// A tiny model, many of them with closed chains.
-fn tiny_model(random: &mut Random) -> Case {
+pub(crate) fn tiny_model(random: &mut Random) -> Case {
     if random.below(5) < 2 { interlined(random, Sizes::TINY) } else { model(random, Sizes::TINY) }
 }
 
@@ -243,16 +243,8 @@ fn batches(engine: &dyn Engine, draw_model: impl Fn(&mut Random, usize) -> Case)
     assert!(refused > 100 && blanks > 100 && values > 1_000, "refused, blank and of value");
 }
 
-/// A random batch on a model: most of its moves good, at times with something wrong in what it is lent.
-fn draw(random: &mut Random, model: &Case) -> Case {
-    let mut built = model.clone();
-    Second.answer(&mut built);
-    if random.once_in(12) {
-        // a stored value that no call left
-        let variable = random.below(built.n);
-        built.stored.put(variable, random.between(-2, 9));
-        built.count_blanks();
-    }
+/// Random moves on a model that was built, most of them good.
+pub(crate) fn draw_moves(random: &mut Random, built: &Case) -> Vec<Pairs> {
     let mut moves: Vec<Pairs> = Vec::new();
     for _ in 0..random.below(8) {
         let mut moved = Case { call: Call::Keep, ..built.clone() };
@@ -272,6 +264,25 @@ fn draw(random: &mut Random, model: &Case) -> Case {
         }
         moves.push(pairs);
     }
+    moves
+}
+
+/// A model that was built, at times with a stored value that no call left.
+pub(crate) fn draw_built(random: &mut Random, model: &Case) -> Case {
+    let mut built = model.clone();
+    Second.answer(&mut built);
+    if random.once_in(12) {
+        let variable = random.below(built.n);
+        built.stored.put(variable, random.between(-2, 9));
+        built.count_blanks();
+    }
+    built
+}
+
+/// A random batch on a model: most of its moves good, at times with something wrong in what it is lent.
+fn draw(random: &mut Random, model: &Case) -> Case {
+    let built = draw_built(random, model);
+    let moves = draw_moves(random, &built);
     let asked = if random.once_in(12) { random.below(65536) } else { random.below(built.n) };
     let mut case = batch(&built, &moves, asked as u16);
     case.by_number = Guarded::junk(random, NUMBERS);

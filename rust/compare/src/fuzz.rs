@@ -1,15 +1,16 @@
 //! Mutated files through read and build, and scrambled buffers through every call, as tests of any engine: it comes
 //! back, stays inside its buffers, and agrees with the second implementation. What once went wrong is kept in `kept.txt`.
 
+use crate::guided;
 use crate::runs::model_a;
-use crate::salvages;
 use crate::tests::any_model;
 use crate::{
     Call, Case, Difference, Engine, Random, Second, Sizes, calls_on, compare, keep_of, model, scramble, seed, shrink,
     take_back_of, trial_of,
 };
 
-/// Cases kept from earlier runs: `file` or `salvage` and the bytes of a file in hexadecimal digits, or `calls` and a seed.
+/// Cases kept from earlier runs: `file` and the bytes of a file in hexadecimal digits, `calls` and a seed, or a target of
+/// [`guided`] and the bytes that it was given.
 const KEPT: &str = include_str!("kept.txt");
 
 /// How many mutated files, and how many models whose calls are scrambled.
@@ -27,11 +28,12 @@ pub fn kept_cases(engine: &dyn Engine) {
             ("file", digits) => {
                 read_and_build(engine, &bytes_of(digits), &mut Random::new(0));
             }
-            ("salvage", digits) => {
-                salvages::agree(engine, &salvages::salvage_of(&bytes_of(digits)));
-            }
             ("calls", seed) => scrambled_calls(engine, seed.parse().expect("a seed")),
-            _ => panic!("not a kept case: {line}"),
+            (name, digits) => {
+                let target = guided::TARGETS.iter().find(|(target, _)| *target == name);
+                let (_, answer) = target.unwrap_or_else(|| panic!("not a kept case: {line}"));
+                answer(engine, &bytes_of(digits));
+            }
         }
         kept += 1;
     }

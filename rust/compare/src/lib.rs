@@ -6,7 +6,8 @@
 //! [`shrink`] makes a case on which two engines differ smaller. [`sessions`] keeps and takes back over long sessions,
 //! [`reasons`] asks why values are blank, [`chains`] leads round closed chains, and [`salvages`] saves damaged files. [`versions`] reads and
 //! writes files of version 2, and moves files from one version to the other. [`figures`] has batches of moves in
-//! figures, [`boards`] departure boards, and [`parts`] the inputs of rows. [`tests_of!`] is everything that an engine
+//! figures, [`trials`] many moves tried at once, [`boards`] departure boards, and [`parts`] the inputs of rows. [`guided`] makes calls of the bytes that a
+//! fuzzer chooses. [`tests_of!`] is everything that an engine
 //! must pass, besides the [`vectors`]: cases with the lines that must come out of them.
 #![forbid(unsafe_code)]
 #![warn(missing_docs)]
@@ -24,6 +25,7 @@ pub mod figures;
 pub mod files;
 pub mod fuzz;
 mod guarded;
+pub mod guided;
 mod interlined;
 mod logs;
 mod models;
@@ -37,6 +39,7 @@ pub mod sessions;
 mod shrink;
 pub mod takings;
 mod tests;
+pub mod trials;
 pub mod vectors;
 pub mod versions;
 

@@ -132,6 +132,16 @@ macro_rules! tests_of {
         }
 
         #[test]
+        fn many_moves_at_once() {
+            $crate::hold(&$engine, $crate::trials::TRIALS);
+        }
+
+        #[test]
+        fn random_moves_many_at_once() {
+            $crate::trials::random_trials(&$engine);
+        }
+
+        #[test]
         fn departure_boards_on_both_sides() {
             $crate::hold(&$engine, $crate::boards::BOARDS);
         }

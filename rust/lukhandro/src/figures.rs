@@ -33,6 +33,32 @@ impl Figures {
         self.by_number[1..].iter().sum()
     }
 
+    /// The figures of two batches together, those of the batches joined; none if a count leaves 32 bits or the sum 64.
+    ///
+    /// ```
+    /// use lukhandro::{Model, Row};
+    ///
+    /// let rows = [Row::departures(3, 0, 1, 2), Row::linear(4, 2, &[(3, 4)])];
+    /// let sheet = Model::build(&[25200, 28800, 600, 0, 0], &rows)?;
+    /// let moves = [360, 720, 900, 0, -1].map(|headway| [(2, headway)]);
+    /// let (first, second) = moves.split_at(3);
+    /// let parts = sheet.figures(first, 4)?.merge(&sheet.figures(second, 4)?);
+    /// assert_eq!(parts, Some(sheet.figures(&moves, 4)?));
+    /// # Ok::<(), lukhandro::Refused>(())
+    /// ```
+    #[must_use]
+    pub fn merge(&self, other: &Figures) -> Option<Figures> {
+        let mut merged = *self;
+        let counts = merged.by_number.iter_mut().chain(&mut merged.evaluations).chain([&mut merged.blank]);
+        for (count, more) in counts.zip(other.by_number.iter().chain(&other.evaluations).chain([&other.blank])) {
+            *count = count.checked_add(*more)?;
+        }
+        merged.sum = self.sum.checked_add(other.sum)?;
+        merged.least = self.least.into_iter().chain(other.least).min();
+        merged.greatest = self.greatest.into_iter().chain(other.greatest).max();
+        Some(merged)
+    }
+
     /// The figures that a call gave.
     pub(crate) fn of(by_number: [u32; NUMBERS], totals: Result<Totals, Refused>) -> Result<Figures, Refused> {
         let Totals { blank, least, greatest, sum, first, second, third } = totals?;

@@ -4,10 +4,11 @@
 //! and refuses what does not fit. A slice may be longer than its count asks; what lies beyond is neither looked at nor
 //! changed. A refused call changes nothing.
 
+pub use crate::room::{unfit_for_build, unfit_for_figures, unfit_for_keep, unfit_for_take_back, unfit_for_trial};
 use crate::sys::{self, FiguresOutcome, ListOutcome, MoveOutcome, Outcome, Part, ReadOutcome, SalvageOutcome};
-pub use ::lent::{
-    Asked, Batch, Bounds, BoundsMut, Built, Figures, Keep, LOG_PLACES, LOG_SIZES, Move, NUMBERS, Session, State,
-    Tables, TablesMut, TakeBack, Totals, Trial, Tried, Windows,
+pub use crate::words::{
+    Asked, Batch, Bounds, BoundsMut, Built, Figures, Given, Keep, LOG_PLACES, LOG_SIZES, MOST_DEPARTURES, MOST_MOVES,
+    MOST_WINDOWS, Move, NUMBERS, Session, State, Tables, TablesMut, TakeBack, Totals, Trial, Trials, Tried, Windows,
 };
 
 /// Fills numbers, order, stored values, the index of readers and the reasons from tables and start values, and empties the
@@ -17,6 +18,7 @@ pub fn build(session: &mut Session, tables: Tables<'_>, bounds: Bounds<'_>, star
     let Tables { n, m, e, kinds, makes, params, firsts, counts, vars, coefs } = tables;
     let Bounds { lows, highs } = bounds;
     let Built { numbers, order, stored, reader_starts, reader_places, reasons, log_sizes } = built;
+    sys::same_interface();
     // SAFETY: each pointer goes with the length of its own slice, and no slice that is written overlaps another.
     unsafe {
         sys::lukhandro_build(
@@ -42,6 +44,7 @@ pub fn trial(session: &mut Session, tables: Tables<'_>, bounds: Bounds<'_>, lent
     let Trial { state, moved, asked, route, tried } = lent;
     let State { numbers, order, stored, reader_starts, reader_places, reasons } = state;
     let Tried { results, trial, flags, why } = tried;
+    sys::same_interface();
     // SAFETY: each pointer goes with the length of its own slice, and no slice that is written overlaps another.
     unsafe {
         sys::lukhandro_trial(
@@ -69,6 +72,7 @@ pub fn keep(session: &mut Session, tables: Tables<'_>, bounds: Bounds<'_>, lent:
     let Bounds { lows, highs } = bounds;
     let Keep { numbers, order, stored, reader_starts, reader_places, reasons, .. } = lent;
     let Keep { moved, flags, log_sizes, log_vars, log_values, .. } = lent;
+    sys::same_interface();
     // SAFETY: each pointer goes with the length of its own slice, and no slice that is written overlaps another.
     unsafe {
         sys::lukhandro_keep(
@@ -96,6 +100,7 @@ pub fn take_back(session: &mut Session, tables: Tables<'_>, bounds: Bounds<'_>, 
     let Bounds { lows, highs } = bounds;
     let TakeBack { numbers, order, stored, reader_starts, reader_places, reasons, .. } = lent;
     let TakeBack { flags, log_sizes, log_vars, log_values, .. } = lent;
+    sys::same_interface();
     // SAFETY: each pointer goes with the length of its own slice, and no slice that is written overlaps another.
     unsafe {
         sys::lukhandro_take_back(
@@ -117,6 +122,7 @@ pub fn take_back(session: &mut Session, tables: Tables<'_>, bounds: Bounds<'_>, 
 #[rustfmt::skip]
 pub fn read(bytes: &[u8], tables: TablesMut<'_>) -> ReadOutcome {
     let TablesMut { starts, kinds, makes, params, firsts, counts, vars, coefs } = tables;
+    sys::same_interface();
     // SAFETY: each pointer goes with the length of its own slice, and no slice that is written overlaps another.
     unsafe {
         sys::lukhandro_read(
@@ -133,6 +139,7 @@ pub fn read(bytes: &[u8], tables: TablesMut<'_>) -> ReadOutcome {
 #[rustfmt::skip]
 pub fn write(tables: Tables<'_>, starts: &[i32], bytes: &mut [u8]) -> Outcome {
     let Tables { n, m, e, kinds, makes, params, firsts, counts, vars, coefs } = tables;
+    sys::same_interface();
     // SAFETY: each pointer goes with the length of its own slice, and no slice that is written overlaps another.
     unsafe {
         sys::lukhandro_write(
@@ -150,6 +157,7 @@ pub fn write(tables: Tables<'_>, starts: &[i32], bytes: &mut [u8]) -> Outcome {
 pub fn salvage(bytes: &[u8], file: &mut [u8], list: &mut [u16]) -> SalvageOutcome {
     let (bytes_length, file_length, list_length) = (bytes.len(), file.len(), list.len());
     let (bytes, file, list) = (bytes.as_ptr(), file.as_mut_ptr(), list.as_mut_ptr());
+    sys::same_interface();
     // SAFETY: each pointer goes with the length of its own slice, and no slice that is written overlaps another.
     unsafe { sys::lukhandro_salvage(bytes, bytes_length, file, file_length, list, list_length) }
 }
@@ -159,6 +167,7 @@ pub fn salvage(bytes: &[u8], file: &mut [u8], list: &mut [u16]) -> SalvageOutcom
 pub fn read_bounded(bytes: &[u8], tables: TablesMut<'_>, bounds: BoundsMut<'_>) -> ReadOutcome {
     let TablesMut { starts, kinds, makes, params, firsts, counts, vars, coefs } = tables;
     let BoundsMut { lows, highs } = bounds;
+    sys::same_interface();
     // SAFETY: each pointer goes with the length of its own slice, and no slice that is written overlaps another.
     unsafe {
         sys::lukhandro_read_bounded(
@@ -176,6 +185,7 @@ pub fn read_bounded(bytes: &[u8], tables: TablesMut<'_>, bounds: BoundsMut<'_>) 
 pub fn write_bounded(tables: Tables<'_>, starts: &[i32], bounds: Bounds<'_>, bytes: &mut [u8]) -> Outcome {
     let Tables { n, m, e, kinds, makes, params, firsts, counts, vars, coefs } = tables;
     let Bounds { lows, highs } = bounds;
+    sys::same_interface();
     // SAFETY: each pointer goes with the length of its own slice, and no slice that is written overlaps another.
     unsafe {
         sys::lukhandro_write_bounded(
@@ -191,6 +201,7 @@ pub fn write_bounded(tables: Tables<'_>, starts: &[i32], bounds: Bounds<'_>, byt
 /// Fills the front of `file` with a file of version 1 as one of version 2, with full bounds; gives its length, 8n + 4 more
 /// than before. Refusal 14 for the header, then 1 for a short buffer.
 pub fn to_version_2(bytes: &[u8], file: &mut [u8]) -> MoveOutcome {
+    sys::same_interface();
     // SAFETY: each pointer goes with the length of its own slice, and the two do not overlap.
     unsafe { sys::lukhandro_to_version_2(bytes.as_ptr(), bytes.len(), file.as_mut_ptr(), file.len()) }
 }
@@ -198,6 +209,7 @@ pub fn to_version_2(bytes: &[u8], file: &mut [u8]) -> MoveOutcome {
 /// Fills the front of `file` with a file of version 2 as one of version 1; gives its length. Refusal 14 for the header, then
 /// 18 for the first variable whose bounds are not full, then 1 for a short buffer.
 pub fn to_version_1(bytes: &[u8], file: &mut [u8]) -> MoveOutcome {
+    sys::same_interface();
     // SAFETY: each pointer goes with the length of its own slice, and the two do not overlap.
     unsafe { sys::lukhandro_to_version_1(bytes.as_ptr(), bytes.len(), file.as_mut_ptr(), file.len()) }
 }
@@ -211,6 +223,7 @@ pub fn figures(session: &Session, tables: Tables<'_>, bounds: Bounds<'_>, lent: 
     let Tables { n, m, e, kinds, makes, params, firsts, counts, vars, coefs } = tables;
     let Bounds { lows, highs } = bounds;
     let Figures { numbers, order, stored, reader_starts, reader_places, batch, asked, by_number } = lent;
+    sys::same_interface();
     // SAFETY: each pointer goes with the length of its own slice, and no slice that is written overlaps another.
     unsafe {
         sys::lukhandro_figures(
@@ -227,11 +240,42 @@ pub fn figures(session: &Session, tables: Tables<'_>, bounds: Bounds<'_>, lent: 
     }
 }
 
+/// Tries every move on the same stored values by one route and keeps none: fills the rows with what each move is given, its
+/// number, place, evaluations, results and reasons, as `trial` gives them, and gives the evaluations of all. A move that is
+/// refused leaves its results and reasons. Refusal 1 for more than 1,000 moves, more than 32 asked variables or a short
+/// buffer; every other refusal is a move's own.
+#[rustfmt::skip]
+pub fn trials(session: &Session, tables: Tables<'_>, bounds: Bounds<'_>, lent: Trials<'_>) -> Outcome {
+    let Tables { n, m, e, kinds, makes, params, firsts, counts, vars, coefs } = tables;
+    let Bounds { lows, highs } = bounds;
+    let Trials { state, batch, asked, route, given } = lent;
+    let State { numbers, order, stored, reader_starts, reader_places, reasons } = state;
+    sys::same_interface();
+    // SAFETY: each pointer goes with the length of its own slice, and no slice that is written overlaps another.
+    unsafe {
+        sys::lukhandro_trials(
+            session, n, m, e,
+            kinds.as_ptr(), kinds.len(), makes.as_ptr(), makes.len(), params.as_ptr(), params.len(),
+            firsts.as_ptr(), firsts.len(), counts.as_ptr(), counts.len(), vars.as_ptr(), vars.len(),
+            coefs.as_ptr(), coefs.len(), lows.as_ptr(), lows.len(), highs.as_ptr(), highs.len(),
+            numbers.as_ptr(), numbers.len(), order.as_ptr(), order.len(),
+            stored.as_ptr(), stored.len(), reader_starts.as_ptr(), reader_starts.len(),
+            reader_places.as_ptr(), reader_places.len(), reasons.as_ptr(), reasons.len(),
+            batch.moves, batch.pairs.as_ptr(), batch.pairs.len(), batch.vars.as_ptr(), batch.vars.len(),
+            batch.values.as_ptr(), batch.values.len(), asked.asked, asked.vars.as_ptr(), asked.vars.len(), route,
+            given.numbers.as_mut_ptr(), given.numbers.len(), given.places.as_mut_ptr(), given.places.len(),
+            given.evaluations.as_mut_ptr(), given.evaluations.len(), given.results.as_mut_ptr(), given.results.len(),
+            given.why.as_mut_ptr(), given.why.len(),
+        )
+    }
+}
+
 /// Fills the front of `list` with all departures of one trip's windows in time order; gives how many there are. The
 /// refusals are the board's own, 1 to 5.
 #[rustfmt::skip]
 pub fn departures(windows: Windows<'_>, list: &mut [i32]) -> ListOutcome {
     let Windows { windows, starts, ends, headways } = windows;
+    sys::same_interface();
     // SAFETY: each pointer goes with the length of its own slice, and no slice that is written overlaps another.
     unsafe {
         sys::lukhandro_departures(
@@ -245,6 +289,7 @@ pub fn departures(windows: Windows<'_>, list: &mut [i32]) -> ListOutcome {
 pub fn part_of_row(m: usize, e: usize, firsts: &[u16], counts: &[u16], vars: &[u16], row: usize) -> Part {
     let (firsts_length, counts_length, vars_length) = (firsts.len(), counts.len(), vars.len());
     let (firsts, counts, vars) = (firsts.as_ptr(), counts.as_ptr(), vars.as_ptr());
+    sys::same_interface();
     // SAFETY: each pointer goes with the length of its own slice, and nothing is written.
     unsafe { sys::lukhandro_inputs_of_row(m, e, firsts, firsts_length, counts, counts_length, vars, vars_length, row) }
 }

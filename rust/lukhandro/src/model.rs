@@ -1,12 +1,13 @@
 //! A model that owns its buffers.
 
 use crate::lent::{
-    self, Asked, Batch, Bounds, BoundsMut, Built, Keep, LOG_PLACES, LOG_SIZES, Move, NUMBERS, Session, State, Tables,
-    TablesMut, TakeBack, Tried,
+    self, Asked, Batch, Bounds, BoundsMut, Built, Keep, LOG_PLACES, LOG_SIZES, MOST_MOVES, Move, NUMBERS, Session,
+    State, Tables, TablesMut, TakeBack, Tried,
 };
 use crate::sys::ReadOutcome;
 use crate::{
-    BLANK, Figures, HIGHEST, LOWEST, MOST_ASKED, MOST_ENTRIES, MOST_PAIRS, MOST_VARIABLES, Reason, Refused, Route, Row,
+    BLANK, Cause, Figures, HIGHEST, Kind, LOWEST, MOST_ASKED, MOST_ENTRIES, MOST_PAIRS, MOST_VARIABLES, Movable,
+    NOTHING_ASKED, Reason, Refused, Route, Row, Tries, Variable, cause,
 };
 
 /// A model with its values and a log of its kept moves, built and ready to try moves, keep them and take them back.
@@ -57,6 +58,7 @@ pub struct Model {
     log_sizes: [u16; LOG_SIZES],
     log_vars: Vec<u16>,
     log_values: Vec<i32>,
+    names: Vec<String>,
 }
 
 /// What a trial found. Stored values are as they were.
@@ -75,6 +77,12 @@ pub struct Trial<'a> {
 }
 
 impl Trial<'_> {
+    /// The value asked at this place; none if it is blank, or there is no such place.
+    #[must_use]
+    pub fn value(&self, place: usize) -> Option<i32> {
+        self.results.get(place).copied().filter(|&value| value != BLANK)
+    }
+
     /// Why the value asked at this place is blank; none if it is not, or there is no such place.
     ///
     /// ```
@@ -98,6 +106,18 @@ impl Trial<'_> {
     pub fn reason(&self, place: usize) -> Option<Reason> {
         self.why.get(place).copied().and_then(Reason::of)
     }
+}
+
+/// Moves as a batch has them: each one's number of pairs, and the variables and values of all. More pairs than a move may
+/// have are as good as one more: the move is refused.
+fn laid_out<S: Movable, M: AsRef<[(S, i32)]>>(moves: &[M]) -> (Vec<u16>, Vec<u16>, Vec<i32>) {
+    let (mut sizes, mut vars, mut values) = (Vec::new(), Vec::new(), Vec::new());
+    for pairs in moves.iter().map(|pairs| pairs.as_ref()).map(|pairs| &pairs[..pairs.len().min(MOST_PAIRS + 1)]) {
+        sizes.push(pairs.len() as u16);
+        vars.extend(pairs.iter().map(|&(variable, _)| variable.variable()));
+        values.extend(pairs.iter().map(|&(_, value)| value));
+    }
+    (sizes, vars, values)
 }
 
 /// The tables of a model, borrowed field by field so that its other buffers may be lent too.
@@ -216,7 +236,7 @@ impl Model {
     /// # Errors
     /// Refusal 14 for the file, and refusals 2 to 7 and 20 for what is in it.
     pub fn read(bytes: &[u8]) -> Result<Model, Refused> {
-        let (model, starts) = Model::of_file(|tables| lent::read(bytes, tables))?;
+        let (model, starts) = Model::of_file(bytes, 1, |tables| lent::read(bytes, tables))?;
         model.built(&starts)
     }
 
@@ -235,7 +255,7 @@ impl Model {
     /// Refusal 14 for the file, refusals 2 to 7 and 20 for what is in it and for the bounds, and 1 for fewer bounds than
     /// variables.
     pub fn read_within(bytes: &[u8], bounds: &[(i32, i32)]) -> Result<Model, Refused> {
-        let (model, starts) = Model::of_file(|tables| lent::read(bytes, tables))?;
+        let (model, starts) = Model::of_file(bytes, 1, |tables| lent::read(bytes, tables))?;
         model.with_bounds(bounds).built(&starts)
     }
 
@@ -256,14 +276,18 @@ impl Model {
     pub fn read_bounded(bytes: &[u8]) -> Result<Model, Refused> {
         let (mut lows, mut highs) = (vec![0; MOST_VARIABLES], vec![0; MOST_VARIABLES]);
         let bounds = BoundsMut { lows: &mut lows, highs: &mut highs };
-        let (model, starts) = Model::of_file(|tables| lent::read_bounded(bytes, tables, bounds))?;
+        let (model, starts) = Model::of_file(bytes, 2, |tables| lent::read_bounded(bytes, tables, bounds))?;
         lows.truncate(starts.len());
         highs.truncate(starts.len());
         Model { lows, highs, ..model }.built(&starts)
     }
 
     /// The model that a reader fills tables with, not built yet, and its start values.
-    fn of_file(read: impl FnOnce(TablesMut<'_>) -> ReadOutcome) -> Result<(Model, Vec<i32>), Refused> {
+    fn of_file(
+        bytes: &[u8],
+        version: u16,
+        read: impl FnOnce(TablesMut<'_>) -> ReadOutcome,
+    ) -> Result<(Model, Vec<i32>), Refused> {
         let mut starts = vec![0; MOST_VARIABLES];
         let rows = || vec![0; MOST_VARIABLES];
         let (mut kinds, mut makes, mut firsts, mut counts) = (rows(), rows(), rows(), rows());
@@ -279,7 +303,8 @@ impl Model {
             vars: &mut vars,
             coefs: &mut coefs,
         };
-        let (n, m, e) = read(tables).judged()?;
+        let judged = read(tables).judged();
+        let (n, m, e) = judged.map_err(|refused| refused.because(|refused| cause::of_file(bytes, version, refused)))?;
         for table in [&mut kinds, &mut makes, &mut firsts, &mut counts] {
             table.truncate(m);
         }
@@ -296,8 +321,17 @@ impl Model {
     /// # Errors
     /// Refusal 1 for more than 64 pairs or more than 32 asked variables, refusals 10 to 13 and 17, and 20 for a move that leads
     /// round a closed chain.
-    pub fn trial(&mut self, pairs: &[(u16, i32)], asked: &[u16], route: Route) -> Result<Trial<'_>, Refused> {
+    pub fn trial<S: Movable, V: Variable>(
+        &mut self,
+        pairs: &[(S, i32)],
+        asked: &[V],
+        route: Route,
+    ) -> Result<Trial<'_>, Refused> {
         let moved = Pairs::of(pairs);
+        let mut vars = [0; MOST_ASKED];
+        for (place, variable) in vars.iter_mut().zip(asked) {
+            *place = variable.variable();
+        }
         let trial = lent::Trial {
             state: State {
                 numbers: &self.numbers,
@@ -308,7 +342,7 @@ impl Model {
                 reasons: &self.reasons,
             },
             moved: moved.lent(),
-            asked: Asked { asked: asked.len(), vars: asked },
+            asked: Asked { asked: asked.len(), vars: &vars },
             route: route as u32,
             tried: Tried {
                 results: &mut self.results,
@@ -317,7 +351,8 @@ impl Model {
                 why: &mut self.why,
             },
         };
-        let evaluations = lent::trial(&mut self.session, tables_of!(self), bounds_of!(self), trial).judged()?;
+        let tried = lent::trial(&mut self.session, tables_of!(self), bounds_of!(self), trial).judged();
+        let evaluations = tried.map_err(|refused| self.refused_move(pairs, asked, refused))?;
         let results = self.results.get(..asked.len()).unwrap_or(&[]);
         let why = self.why.get(..asked.len()).unwrap_or(&[]);
         Ok(Trial { evaluations, results, values: &self.trial, flags: &self.flags, why })
@@ -342,15 +377,12 @@ impl Model {
     ///
     /// # Errors
     /// Refusal 1 for more than 1,000 moves.
-    pub fn figures<M: AsRef<[(u16, i32)]>>(&self, moves: &[M], asked: u16) -> Result<Figures, Refused> {
-        // more pairs than a move may have are as good as one more: the move is refused
-        let moves = moves.iter().map(|pairs| pairs.as_ref()).map(|pairs| &pairs[..pairs.len().min(MOST_PAIRS + 1)]);
-        let (mut sizes, mut vars, mut values) = (Vec::new(), Vec::new(), Vec::new());
-        for pairs in moves {
-            sizes.push(pairs.len() as u16);
-            vars.extend(pairs.iter().map(|&(variable, _)| variable));
-            values.extend(pairs.iter().map(|&(_, value)| value));
-        }
+    pub fn figures<S: Movable, M: AsRef<[(S, i32)]>>(
+        &self,
+        moves: &[M],
+        asked: impl Variable,
+    ) -> Result<Figures, Refused> {
+        let (sizes, vars, values) = laid_out(moves);
         let mut by_number = [0; NUMBERS];
         let lent = lent::Figures {
             numbers: &self.numbers,
@@ -359,11 +391,69 @@ impl Model {
             reader_starts: &self.reader_starts,
             reader_places: &self.reader_places,
             batch: Batch { moves: sizes.len(), pairs: &sizes, vars: &vars, values: &values },
-            asked,
+            asked: asked.variable(),
             by_number: &mut by_number,
         };
         let totals = lent::figures(&self.session, tables_of!(self), bounds_of!(self), lent).judged();
-        Figures::of(by_number, totals)
+        let too_many = Cause::TooMany { what: "moves in a batch", given: sizes.len(), most: MOST_MOVES };
+        Figures::of(by_number, totals.map_err(|refused| refused.because(|_| Some(too_many))))
+    }
+
+    /// Tries up to 1,000 moves at once, each on the values that are stored now, and gives what each of them is given: what
+    /// [`Model::trial`] gives it. The model is judged once for all of them. None is kept.
+    ///
+    /// ```
+    /// use lukhandro::{Model, Route, Row};
+    ///
+    /// let rows = [Row::departures(3, 0, 1, 2), Row::last(4, 0, 1, 2), Row::linear(5, 2, &[(3, 4)])];
+    /// let sheet = Model::build(&[25200, 28800, 600, 0, 0, 0], &rows)?;
+    ///
+    /// // Which headway of these needs the fewest crews? The last one is no headway.
+    /// let moves = [360, 720, 900, 0].map(|headway| [(2, headway)]);
+    /// let tries = sheet.trials(&moves, &[5], Route::MarkGuided)?;
+    /// let crews: Vec<Option<i32>> = tries.iter().map(|given| given.ok()?.value(0)).collect();
+    /// assert_eq!(crews, [Some(42), Some(22), Some(18), None]);
+    ///
+    /// // A refusal is the move's own.
+    /// let tries = sheet.trials(&[[(2, 720)], [(5, 1)]], &[5], Route::MarkGuided)?;
+    /// assert_eq!(tries.of(0).unwrap()?.value(0), Some(22));
+    /// assert_eq!(tries.of(1).unwrap().unwrap_err().number, 10);
+    /// # Ok::<(), lukhandro::Refused>(())
+    /// ```
+    ///
+    /// # Errors
+    /// Refusal 1 for more than 1,000 moves or more than 32 asked variables.
+    pub fn trials<S: Movable, M: AsRef<[(S, i32)]>, V: Variable>(
+        &self,
+        moves: &[M],
+        asked: &[V],
+        route: Route,
+    ) -> Result<Tries, Refused> {
+        let (sizes, vars, values) = laid_out(moves);
+        let asked: Vec<u16> = asked.iter().map(|variable| variable.variable()).collect();
+        let mut tries = Tries::room(sizes.len(), asked.len());
+        let lent = lent::Trials {
+            state: State {
+                numbers: &self.numbers,
+                order: &self.order,
+                stored: &self.stored,
+                reader_starts: &self.reader_starts,
+                reader_places: &self.reader_places,
+                reasons: &self.reasons,
+            },
+            batch: Batch { moves: sizes.len(), pairs: &sizes, vars: &vars, values: &values },
+            asked: Asked { asked: asked.len(), vars: &asked },
+            route: route as u32,
+            given: tries.lent(),
+        };
+        let judged = lent::trials(&self.session, tables_of!(self), bounds_of!(self), lent).judged();
+        let too_many = if sizes.len() > MOST_MOVES {
+            Cause::TooMany { what: "moves in a batch", given: sizes.len(), most: MOST_MOVES }
+        } else {
+            Cause::TooMany { what: "variables asked", given: asked.len(), most: MOST_ASKED }
+        };
+        tries.evaluations = judged.map_err(|refused| refused.because(|_| Some(too_many)))?;
+        Ok(tries)
     }
 
     /// Keeps a move: changes the stored values, and gives the number of formulas evaluated. The latest 64 kept moves can be
@@ -384,7 +474,7 @@ impl Model {
     ///
     /// # Errors
     /// Refusal 1 for more than 64 pairs, refusals 10 to 12 and 17, and 20 for a move that leads round a closed chain.
-    pub fn keep(&mut self, pairs: &[(u16, i32)]) -> Result<u32, Refused> {
+    pub fn keep<S: Movable>(&mut self, pairs: &[(S, i32)]) -> Result<u32, Refused> {
         let moved = Pairs::of(pairs);
         let keep = Keep {
             numbers: &self.numbers,
@@ -399,7 +489,15 @@ impl Model {
             log_vars: &mut self.log_vars,
             log_values: &mut self.log_values,
         };
-        lent::keep(&mut self.session, tables_of!(self), bounds_of!(self), keep).judged()
+        let kept = lent::keep(&mut self.session, tables_of!(self), bounds_of!(self), keep).judged();
+        kept.map_err(|refused| self.refused_move(pairs, NOTHING_ASKED, refused))
+    }
+
+    /// The refusal of a move with its cause.
+    fn refused_move<S: Movable, V: Variable>(&self, pairs: &[(S, i32)], asked: &[V], refused: Refused) -> Refused {
+        let pairs: Vec<(u16, i32)> = pairs.iter().map(|&(variable, value)| (variable.variable(), value)).collect();
+        let asked: Vec<u16> = asked.iter().map(|&variable| variable.variable()).collect();
+        refused.because(|refused| cause::of_move(tables_of!(self), bounds_of!(self), &pairs, &asked, refused))
     }
 
     /// Takes the latest kept move back: the stored values are those before it again, and so are their reasons. Gives the
@@ -471,8 +569,8 @@ impl Model {
 
     /// The value of a variable; none if it is blank or there is no such variable.
     #[must_use]
-    pub fn value(&self, variable: u16) -> Option<i32> {
-        self.stored.get(usize::from(variable)).copied().filter(|&value| value != BLANK)
+    pub fn value(&self, variable: impl Variable) -> Option<i32> {
+        self.stored.get(usize::from(variable.variable())).copied().filter(|&value| value != BLANK)
     }
 
     /// Why a variable is blank; none if it has a value, or there is no such variable.
@@ -492,8 +590,8 @@ impl Model {
     /// # Ok::<(), lukhandro::Refused>(())
     /// ```
     #[must_use]
-    pub fn reason(&self, variable: u16) -> Option<Reason> {
-        self.reasons.get(usize::from(variable)).copied().and_then(Reason::of)
+    pub fn reason(&self, variable: impl Variable) -> Option<Reason> {
+        self.reasons.get(usize::from(variable.variable())).copied().and_then(Reason::of)
     }
 
     /// The reasons of all variables, a byte for each: 0 for one that is not blank, else the number of its [`Reason`].
@@ -504,8 +602,8 @@ impl Model {
 
     /// The lowest and the highest number that a variable may be moved to; none if there is no such variable.
     #[must_use]
-    pub fn bounds(&self, variable: u16) -> Option<(i32, i32)> {
-        let variable = usize::from(variable);
+    pub fn bounds(&self, variable: impl Variable) -> Option<(i32, i32)> {
+        let variable = usize::from(variable.variable());
         if variable >= self.numbers.len() {
             return None;
         }
@@ -540,8 +638,8 @@ impl Model {
     /// # Ok::<(), lukhandro::Refused>(())
     /// ```
     #[must_use]
-    pub fn readers(&self, variable: u16) -> &[u16] {
-        match self.reader_starts.get(usize::from(variable)..) {
+    pub fn readers(&self, variable: impl Variable) -> &[u16] {
+        match self.reader_starts.get(usize::from(variable.variable())..) {
             Some(&[start, end, ..]) => &self.reader_places[usize::from(start)..usize::from(end)],
             _ => &[],
         }
@@ -560,6 +658,56 @@ impl Model {
     pub fn inputs(&self, row: u16) -> &[u16] {
         let Tables { m, e, firsts, counts, vars, .. } = tables_of!(self);
         lent::inputs_of_row(m, e, firsts, counts, vars, row.into())
+    }
+
+    /// A row: its formula, the variable that it makes, its parameter and its inputs with their coefficients.
+    ///
+    /// ```
+    /// use lukhandro::{Kind, Model, Row};
+    ///
+    /// let rows = [Row::over(2, 1, 0), Row::linear(3, 7, &[(2, 4)])];
+    /// let sheet = Model::build(&[5, 8, 0, 0], &rows)?;
+    /// assert_eq!(sheet.rows().collect::<Vec<Row>>(), rows);
+    /// assert_eq!(sheet.row(1).map(|row| (row.kind, row.parameter)), Some((Kind::Linear, 7)));
+    /// assert_eq!((sheet.maker(3), sheet.maker(0)), (Some(1), None));
+    /// # Ok::<(), lukhandro::Refused>(())
+    /// ```
+    #[must_use]
+    pub fn row(&self, row: u16) -> Option<Row> {
+        let at = usize::from(row);
+        let entries =
+            self.inputs(row).iter().copied().zip(self.coefs.get(usize::from(*self.firsts.get(at)?)..)?.iter().copied());
+        let kind = Kind::of(*self.kinds.get(at)?)?;
+        Some(Row { kind, makes: self.makes[at], parameter: self.params[at], entries: entries.collect() })
+    }
+
+    /// All rows, in their order.
+    pub fn rows(&self) -> impl Iterator<Item = Row> + '_ {
+        (0..self.kinds.len() as u16).filter_map(|row| self.row(row))
+    }
+
+    /// The row that makes a variable; none of a search variable, or if there is no such variable.
+    #[must_use]
+    pub fn maker(&self, variable: impl Variable) -> Option<u16> {
+        self.makes.iter().position(|&makes| makes == variable.variable()).map(|row| row as u16)
+    }
+
+    /// The name under which a [`Builder`](crate::Builder) has a variable; none if it gave it none.
+    #[must_use]
+    pub fn name(&self, variable: impl Variable) -> Option<&str> {
+        let name = self.names.get(usize::from(variable.variable()))?;
+        Some(name.as_str()).filter(|name| !name.is_empty())
+    }
+
+    /// The variable that a [`Builder`](crate::Builder) has under a name, the first if there are several.
+    #[must_use]
+    pub fn named(&self, name: &str) -> Option<u16> {
+        self.names.iter().position(|other| other == name).map(|variable| variable as u16)
+    }
+
+    /// The model with the names of its variables.
+    pub(crate) fn with_names(self, names: Vec<String>) -> Model {
+        Model { names, ..self }
     }
 
     /// Moves kept and not taken back.
@@ -624,6 +772,7 @@ impl Model {
             log_sizes: [0; LOG_SIZES],
             log_vars: vec![0; LOG_PLACES],
             log_values: vec![0; LOG_PLACES],
+            names: Vec::new(),
         }
     }
 
@@ -640,7 +789,11 @@ impl Model {
             reasons: &mut self.reasons,
             log_sizes: &mut self.log_sizes,
         };
-        lent::build(&mut self.session, tables, bounds_of!(self), starts, built).judged()?;
+        let judged = lent::build(&mut self.session, tables, bounds_of!(self), starts, built).judged();
+        judged.map_err(|refused| {
+            let tables = Tables { n: starts.len(), ..tables_of!(self) };
+            refused.because(|refused| cause::of_build(tables, bounds_of!(self), starts, refused))
+        })?;
         Ok(self)
     }
 }
@@ -653,10 +806,10 @@ struct Pairs {
 }
 
 impl Pairs {
-    fn of(pairs: &[(u16, i32)]) -> Pairs {
+    fn of<S: Movable>(pairs: &[(S, i32)]) -> Pairs {
         let mut moved = Pairs { pairs: pairs.len(), vars: [0; MOST_PAIRS], values: [0; MOST_PAIRS] };
-        for ((variable, value), pair) in moved.vars.iter_mut().zip(&mut moved.values).zip(pairs) {
-            (*variable, *value) = *pair;
+        for ((variable, value), &(moves, to)) in moved.vars.iter_mut().zip(&mut moved.values).zip(pairs) {
+            (*variable, *value) = (moves.variable(), to);
         }
         moved
     }

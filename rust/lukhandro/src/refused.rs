@@ -2,24 +2,57 @@
 
 use std::fmt;
 
-/// A refusal: nothing that was lent has changed.
+use crate::Cause;
+
+/// A refusal: nothing that was lent has changed. Two refusals are equal if their numbers and places are.
+///
+/// The calls of a [`Model`](crate::Model), and those on files, look into the data for the cause and say it; without one
+/// the sentence names all that the number stands for.
 ///
 /// ```
-/// let refused = lukhandro::Refused { number: 5, place: 3 };
+/// use lukhandro::{Model, Refused, Row};
+///
+/// let refused = Refused::new(5, 3);
 /// assert_eq!(refused.to_string(), "refused 5 3: row 3 makes a variable that an earlier row makes already");
+///
+/// let twice = [Row::min(1, &[0]), Row::max(1, &[0])];
+/// let refused = Model::build(&[7, 0], &twice).unwrap_err();
+/// assert_eq!(refused.to_string(), "refused 5 1: row 1 makes variable 1, which row 0 makes already");
 /// ```
-#[derive(Clone, Copy, Debug, PartialEq, Eq)]
+#[derive(Clone, Copy, Debug)]
+#[non_exhaustive]
 pub struct Refused {
     /// Which check refused, 1 to 21.
     pub number: u32,
     /// The smallest row, variable, pair, asked place or byte that offends.
     pub place: u32,
+    /// Which of the alternatives of that number it was, if the data was looked at.
+    pub cause: Option<Cause>,
 }
+
+impl Refused {
+    /// A refusal of which only number and place are known.
+    #[must_use]
+    pub const fn new(number: u32, place: u32) -> Refused {
+        Refused { number, place, cause: None }
+    }
+}
+
+impl PartialEq for Refused {
+    fn eq(&self, other: &Refused) -> bool {
+        (self.number, self.place) == (other.number, other.place)
+    }
+}
+
+impl Eq for Refused {}
 
 impl fmt::Display for Refused {
     fn fmt(&self, f: &mut fmt::Formatter<'_>) -> fmt::Result {
-        let Refused { number, place } = self;
+        let Refused { number, place, cause } = self;
         write!(f, "refused {number} {place}: ")?;
+        if let Some(cause) = cause {
+            return cause.fmt(f);
+        }
         match number {
             1 => write!(f, "a count is outside its bound, or a buffer is shorter than the counts ask"),
             2 => write!(f, "row {place} has a kind that is none of the nine formulas"),

@@ -1,5 +1,9 @@
 //! The rows of a model.
 
+use std::fmt;
+
+use crate::MOST_INPUTS;
+
 /// The nine formulas, by their codes.
 #[derive(Clone, Copy, Debug, PartialEq, Eq)]
 #[repr(u16)]
@@ -22,6 +26,53 @@ pub enum Kind {
     Departures = 8,
     /// The latest of those departures.
     Last = 9,
+}
+
+impl Kind {
+    /// The formula of a code, 1 to 9.
+    #[must_use]
+    pub fn of(code: u16) -> Option<Kind> {
+        [
+            Kind::Linear,
+            Kind::Min,
+            Kind::Max,
+            Kind::Element,
+            Kind::Shared,
+            Kind::Count,
+            Kind::Over,
+            Kind::Departures,
+            Kind::Last,
+        ]
+        .into_iter()
+        .find(|&kind| kind as u16 == code)
+    }
+
+    /// The least and the greatest number of inputs that it takes.
+    #[must_use]
+    pub fn inputs(self) -> (usize, usize) {
+        match self {
+            Kind::Element => (2, MOST_INPUTS),
+            Kind::Over => (2, 2),
+            Kind::Departures | Kind::Last => (3, 3),
+            _ => (1, MOST_INPUTS),
+        }
+    }
+}
+
+impl fmt::Display for Kind {
+    fn fmt(&self, f: &mut fmt::Formatter<'_>) -> fmt::Result {
+        f.write_str(match self {
+            Kind::Linear => "LINEAR",
+            Kind::Min => "MIN",
+            Kind::Max => "MAX",
+            Kind::Element => "ELEMENT",
+            Kind::Shared => "SHARED",
+            Kind::Count => "COUNT",
+            Kind::Over => "OVER",
+            Kind::Departures => "DEPARTURES",
+            Kind::Last => "LAST",
+        })
+    }
 }
 
 /// The three ways to work out the values of a trial. Over values that the calls left they agree.

@@ -1,6 +1,6 @@
 //! What is saved of a damaged model file.
 
-use crate::{MOST_BYTES, MOST_VARIABLES, Refused, lent};
+use crate::{MOST_BYTES, MOST_VARIABLES, Refused, cause, lent};
 
 /// What was saved of a damaged file, and what was not.
 #[derive(Clone, Debug, PartialEq, Eq)]
@@ -36,7 +36,9 @@ pub struct Salvage {
 pub fn salvage(bytes: &[u8]) -> Result<Salvage, Refused> {
     let mut file = vec![0; MOST_BYTES];
     let mut rows = vec![0; 2 * MOST_VARIABLES];
-    let (length, dropped, reset) = lent::salvage(bytes, &mut file, &mut rows).judged()?;
+    let saved = lent::salvage(bytes, &mut file, &mut rows).judged();
+    let (length, dropped, reset) =
+        saved.map_err(|refused| refused.because(|refused| cause::of_file(bytes, 1, refused)))?;
     file.truncate(length);
     rows.truncate(dropped + reset);
     let values = rows.split_off(dropped);

@@ -114,7 +114,7 @@ impl FiguresOutcome {
         let FiguresOutcome { number, place, blank, least, greatest, sum, first, second, third } = self;
         match number {
             0 => Ok(Totals { blank, least, greatest, sum, first, second, third }),
-            _ => Err(Refused { number, place }),
+            _ => Err(Refused::new(number, place)),
         }
     }
 }
@@ -140,7 +140,7 @@ impl MoveOutcome {
     pub fn judged(self) -> Result<usize, Refused> {
         match self {
             MoveOutcome { number: 0, length, .. } => Ok(length),
-            MoveOutcome { number, place, .. } => Err(Refused { number, place }),
+            MoveOutcome { number, place, .. } => Err(Refused::new(number, place)),
         }
     }
 }
@@ -153,7 +153,7 @@ impl Outcome {
     pub fn judged(self) -> Result<u32, Refused> {
         match self {
             Outcome { number: 0, evaluations, .. } => Ok(evaluations),
-            Outcome { number, place, .. } => Err(Refused { number, place }),
+            Outcome { number, place, .. } => Err(Refused::new(number, place)),
         }
     }
 }
@@ -166,7 +166,7 @@ impl ReadOutcome {
     pub fn judged(self) -> Result<(usize, usize, usize), Refused> {
         match self {
             ReadOutcome { number: 0, n, m, e, .. } => Ok((n as usize, m as usize, e as usize)),
-            ReadOutcome { number, place, .. } => Err(Refused { number, place }),
+            ReadOutcome { number, place, .. } => Err(Refused::new(number, place)),
         }
     }
 }
@@ -179,13 +179,26 @@ impl SalvageOutcome {
     pub fn judged(self) -> Result<(usize, usize, usize), Refused> {
         match self {
             SalvageOutcome { number: 0, length, rows, values, .. } => Ok((length, rows, values)),
-            SalvageOutcome { number, place, .. } => Err(Refused { number, place }),
+            SalvageOutcome { number, place, .. } => Err(Refused::new(number, place)),
         }
     }
 }
 
+/// Refers to the function that only an archive of the same interface has: with another one no program that makes a call
+/// links. It costs the loading of an address.
+#[inline(always)]
+pub(crate) fn same_interface() {
+    std::hint::black_box(lukhandro_interface_1 as unsafe extern "C" fn() -> u32);
+}
+
 #[rustfmt::skip]
 unsafe extern "C" {
+    /// The number of the archive's interface.
+    pub fn lukhandro_interface() -> u32;
+
+    /// The same of an archive with interface 1; another has no function of this name.
+    pub fn lukhandro_interface_1() -> u32;
+
     /// Numbers, order, values, readers and reasons from tables and start values, and an empty log.
     pub fn lukhandro_build(
         session: *mut Session, n: usize, m: usize, e: usize,
@@ -319,6 +332,24 @@ unsafe extern "C" {
         move_vars: *const u16, move_vars_length: usize, move_values: *const i32, move_values_length: usize,
         asked: u16, by_number: *mut u32, by_number_length: usize,
     ) -> FiguresOutcome;
+
+    /// Many moves tried by a route.
+    pub fn lukhandro_trials(
+        session: *const Session, n: usize, m: usize, e: usize,
+        kinds: *const u16, kinds_length: usize, makes: *const u16, makes_length: usize,
+        params: *const i32, params_length: usize, firsts: *const u16, firsts_length: usize,
+        counts: *const u16, counts_length: usize, vars: *const u16, vars_length: usize,
+        coefs: *const i16, coefs_length: usize, lows: *const i32, lows_length: usize,
+        highs: *const i32, highs_length: usize, numbers: *const u16, numbers_length: usize,
+        order: *const u16, order_length: usize, stored: *const i32, stored_length: usize,
+        reader_starts: *const u16, reader_starts_length: usize, reader_places: *const u16, reader_places_length: usize,
+        reasons: *const u8, reasons_length: usize, moves: usize, move_pairs: *const u16, move_pairs_length: usize,
+        move_vars: *const u16, move_vars_length: usize, move_values: *const i32, move_values_length: usize,
+        asked: usize, asked_vars: *const u16, asked_vars_length: usize, route: u32,
+        move_numbers: *mut u32, move_numbers_length: usize, move_places: *mut u32, move_places_length: usize,
+        move_evaluations: *mut u32, move_evaluations_length: usize, results: *mut i32, results_length: usize,
+        why: *mut u8, why_length: usize,
+    ) -> Outcome;
 
     /// The departures of one trip's windows in time order.
     pub fn lukhandro_departures(

@@ -1,6 +1,6 @@
 //! A model file of one version as one of the other.
 
-use crate::{MOST_BYTES, MOST_VARIABLES, Refused, lent};
+use crate::{MOST_BYTES, MOST_BYTES_BOUNDED, Refused, cause, lent};
 
 /// The file of version 2 of a file of version 1: the same model, with bounds that allow every value.
 ///
@@ -17,8 +17,9 @@ use crate::{MOST_BYTES, MOST_VARIABLES, Refused, lent};
 /// # Errors
 /// Refusal 14 if this is no whole file of version 1.
 pub fn to_version_2(bytes: &[u8]) -> Result<Vec<u8>, Refused> {
-    let mut file = vec![0; MOST_BYTES + 4 + 8 * MOST_VARIABLES];
-    let length = lent::to_version_2(bytes, &mut file).judged()?;
+    let mut file = vec![0; MOST_BYTES_BOUNDED];
+    let moved = lent::to_version_2(bytes, &mut file).judged();
+    let length = moved.map_err(|refused| refused.because(|refused| cause::of_file(bytes, 1, refused)))?;
     file.truncate(length);
     Ok(file)
 }
@@ -29,7 +30,8 @@ pub fn to_version_2(bytes: &[u8]) -> Result<Vec<u8>, Refused> {
 /// Refusal 14 if this is no whole file of version 2, then 18 for the first variable whose bounds are not full.
 pub fn to_version_1(bytes: &[u8]) -> Result<Vec<u8>, Refused> {
     let mut file = vec![0; MOST_BYTES];
-    let length = lent::to_version_1(bytes, &mut file).judged()?;
+    let moved = lent::to_version_1(bytes, &mut file).judged();
+    let length = moved.map_err(|refused| refused.because(|refused| cause::of_file(bytes, 2, refused)))?;
     file.truncate(length);
     Ok(file)
 }

@@ -1,4 +1,4 @@
-//! The example in Rust runs; the one in C does in `served`.
+//! The examples in Rust run; those in C do in `served`.
 
 mod headway {
     include!("../../../examples/headway.rs");
@@ -6,5 +6,14 @@ mod headway {
     #[test]
     fn the_rust_example_runs() {
         main().expect("an accepted trial");
+    }
+}
+
+mod sheet {
+    include!("../../../examples/sheet.rs");
+
+    #[test]
+    fn the_ten_lines_run() {
+        main().expect("a model that is built and tried");
     }
 }

@@ -1,12 +1,12 @@
 //! The model that owns its buffers.
 
 use lukhandro::{
-    BLANK, BoardRefused, FULL, Figures, HIGHEST, Kind, LOWEST, MOST_LOGGED, Model, Reason, Refused, Route, Row,
-    Salvage, Window, departures, salvage, to_version_1, to_version_2,
+    BLANK, BoardRefused, FULL, Figures, HIGHEST, Kind, LOWEST, MOST_LOGGED, Model, NOTHING_ASKED, NOTHING_MOVED,
+    Reason, Refused, Route, Row, Salvage, Window, departures, salvage, to_version_1, to_version_2,
 };
 
 fn refused(number: u32, place: u32) -> Refused {
-    Refused { number, place }
+    Refused::new(number, place)
 }
 
 /// Model A of the specification.
@@ -85,7 +85,7 @@ fn the_latest_64_moves_are_taken_back() {
     }
     assert_eq!(sheet.take_back().unwrap_err(), refused(15, 0));
     assert_eq!((sheet.kept(), sheet.logged()), (6, 0));
-    sheet.keep(&[]).expect("an empty move");
+    sheet.keep(NOTHING_MOVED).expect("an empty move");
     assert_eq!((sheet.take_back(), sheet.kept()), (Ok(0), 6));
 }
 
@@ -280,9 +280,9 @@ fn refusals_change_nothing() {
     let mut sheet = model_a();
     let before = sheet.stored().to_vec();
     let many: Vec<(u16, i32)> = vec![(0, 1); 65];
-    assert_eq!(sheet.trial(&many, &[], Route::InputToOutput).unwrap_err(), refused(1, 0));
-    assert_eq!(sheet.trial(&[], &[0; 33], Route::InputToOutput).unwrap_err(), refused(1, 0));
-    assert_eq!(sheet.trial(&[], &[5, 6], Route::MarkGuided).unwrap_err(), refused(13, 1));
+    assert_eq!(sheet.trial(&many, NOTHING_ASKED, Route::InputToOutput).unwrap_err(), refused(1, 0));
+    assert_eq!(sheet.trial(NOTHING_MOVED, &[0; 33], Route::InputToOutput).unwrap_err(), refused(1, 0));
+    assert_eq!(sheet.trial(NOTHING_MOVED, &[5, 6], Route::MarkGuided).unwrap_err(), refused(13, 1));
     assert_eq!(sheet.keep(&many).unwrap_err(), refused(1, 0));
     assert_eq!(sheet.keep(&[(0, 1), (3, 1)]).unwrap_err(), refused(10, 1));
     assert_eq!(sheet.keep(&[(0, 1), (0, 1)]).unwrap_err(), refused(11, 1));

@@ -11,22 +11,28 @@ const HERE: &str = include_str!("readme.rs");
 #[test]
 fn the_session_runs() -> Result<(), Refused> {
     // [session
-    use lukhandro::{Model, Route, Row};
+    use lukhandro::Route;
+    use lukhandro::builder::{Builder, departures, last, linear, search};
 
-    // Variables 0, 1, 2 are a window: 7:00 to 8:00, every ten minutes. Row by row: departures, the last, the crews.
-    let rows = [Row::departures(3, 0, 1, 2), Row::last(4, 0, 1, 2), Row::linear(5, 2, &[(3, 4)])];
-    let mut sheet = Model::build(&[25200, 28800, 600, 0, 0, 0], &rows)?;
-    assert_eq!(sheet.value(5), Some(26));
+    // A window from 7:00 to 8:00, a trip every ten minutes: the departures, the last of them, four crews each and two more.
+    let mut day = Builder::new();
+    let (start, end) = (day.add(search("start", 25200)), day.add(search("end", 28800)));
+    let headway = day.add(search("headway", 600).within(60..=7200));
+    let trips = day.add(departures(start, end, headway));
+    let final_trip = day.add(last(start, end, headway));
+    let crews = day.add(linear(2, [(4, trips)]));
+    let mut sheet = day.build()?;
+    assert_eq!((sheet.value(final_trip), sheet.value(crews)), (Some(28200), Some(26)));
 
-    let tried = sheet.trial(&[(2, 720)], &[5], Route::InputToOutput)?; // every twelve minutes: how many crews?
-    assert_eq!(tried.results, [22]); // the sheet itself still says 26
+    let tried = sheet.trial(&[(headway, 720)], &[crews], Route::InputToOutput)?; // every twelve minutes: how many crews?
+    assert_eq!(tried.value(0), Some(22)); // the sheet itself still says 26
 
-    sheet.keep(&[(2, 720)])?; // now it says 22
+    sheet.keep(&[(headway, 720)])?; // now it says 22
     sheet.take_back()?; // and 26 again
     // session]
-    assert_eq!(sheet.value(5), Some(26));
-    let refused = sheet.keep(&[(5, 1)]).expect_err("variable 5 is made by a row");
-    assert_eq!((refused.number, refused.place), (10, 0));
+    assert_eq!(sheet.value(crews), Some(26));
+    let refused = sheet.keep(&[(headway, 72_000)]).expect_err("a slipped digit");
+    assert!(README.contains(&refused.to_string()), "{refused}");
     Ok(())
 }
 

@@ -42,7 +42,7 @@ pub fn figures(
 }
 
 /// The moves of a batch, each with as many of its pairs as are lent.
-fn moves_of<'a>(batch: &Batch<'a>) -> Vec<Move<'a>> {
+pub(crate) fn moves_of<'a>(batch: &Batch<'a>) -> Vec<Move<'a>> {
     let (mut vars, mut values) = (batch.vars, batch.values);
     let next = |&pairs: &u16| {
         let pairs = usize::from(pairs);

@@ -25,6 +25,7 @@ mod reasons;
 mod refused;
 mod routes;
 mod salvage;
+mod trials;
 mod versions;
 
 pub use boards::departures;
@@ -34,6 +35,7 @@ pub use file::{read, write};
 pub use reasons::reasons;
 pub use refused::Refused;
 pub use salvage::salvage;
+pub use trials::trials;
 pub use versions::{read_bounded, to_version_1, to_version_2, write_bounded};
 
 /// No value: the one 32-bit number that is no value of a variable.

@@ -8,6 +8,7 @@ use compare::boards::random_boards;
 use compare::figures::tiny_batches;
 use compare::parts::random_parts;
 use compare::salvages::tiny_damaged_files;
+use compare::trials::tiny_trials;
 use compare::{
     Answer, Call, Case, Engine, Random, Second, Side, Sizes, compare, has_closed_chain, interlined, model, run, seed,
 };
@@ -38,6 +39,11 @@ fn figures_as_the_definitions_have_them() {
     tiny_batches(&Naive);
 }
 
+#[test]
+fn many_moves_as_the_definitions_have_them() {
+    tiny_trials(&Naive);
+}
+
 /// A fault in a call above the engine, over what was lent, what is left and the answer.
 type FaultAbove = fn(&Case, &mut Case, &mut Answer);
 
@@ -58,7 +64,7 @@ impl Engine for FaultyAbove {
 
 #[test]
 fn finds_faults_above_the_engine() {
-    let faults: [Above; 12] = [
+    let faults: [Above; 16] = [
         ("blank results left out", tiny_batches, |_, _, answer| answer.blank = 0),
         ("a sum of 32 bits", tiny_batches, |_, _, answer| answer.sum = i64::from(answer.sum as i32)),
         ("the least of no result is 0", tiny_batches, |_, _, answer| answer.least = answer.least.max(-i32::MAX)),
@@ -69,6 +75,27 @@ fn finds_faults_above_the_engine() {
             if answer.number == 1 {
                 case.by_number.put(0, 0);
             }
+        }),
+        ("a move tried over what the move before left", tiny_trials, |_, case, _| {
+            if (2..=case.move_numbers.len()).contains(&case.moves) && case.move_numbers[..2] == [0, 0] && case.asked > 0
+            {
+                let before = case.results[0];
+                case.results.put(case.asked, before);
+            }
+        }),
+        ("a refused move that writes", tiny_trials, |_, case, answer| {
+            let refused = (0..case.moves).find(|&which| answer.number == 0 && case.move_numbers[which] != 0);
+            if let Some(which) = refused {
+                case.results.put(which * case.asked, BLANK);
+            }
+        }),
+        ("evaluations of the last move alone", tiny_trials, |_, case, answer| {
+            if answer.number == 0 && case.moves > 0 {
+                answer.evaluations = case.move_evaluations[case.moves - 1];
+            }
+        }),
+        ("a record that is set by many moves", tiny_trials, |_, case, answer| {
+            case.session.evaluations = answer.evaluations
         }),
         ("a list that ends early", random_boards, |lent, case, _| {
             let last = case.board.len().saturating_sub(1);

@@ -14,6 +14,7 @@ use compare::runs::{RUNS, model_a};
 use compare::salvages::{SALVAGES, damaged_files};
 use compare::sessions::{long_sessions, sessions_over_closed_chains};
 use compare::takings::TAKINGS;
+use compare::trials::{TRIALS, random_trials};
 use compare::versions::{VERSIONS, random_files};
 use compare::{Case, Engine, Second, Test};
 use naive::Naive;
@@ -150,6 +151,22 @@ fn batches_in_figures_by_the_definitions() {
 #[test]
 fn random_batches_in_figures() {
     random_batches(&Second);
+}
+
+#[test]
+fn many_moves_at_once() {
+    hold(TRIALS, &Second);
+}
+
+#[test]
+fn many_moves_at_once_by_the_definitions() {
+    let tests: Vec<_> = TRIALS.iter().copied().filter(|(name, _)| *name != "trials: 1").collect();
+    hold(&tests, &Naive);
+}
+
+#[test]
+fn random_moves_many_at_once() {
+    random_trials(&Second);
 }
 
 #[test]

@@ -14,18 +14,19 @@
 
 enum call {
     BUILD, TRIAL, KEEP, TAKE_BACK, READ, WRITE, SALVAGE, READ_BOUNDED, WRITE_BOUNDED, TO_VERSION_2, TO_VERSION_1,
-    FIGURES, DEPARTURES, INPUTS_OF_ROW
+    FIGURES, TRIALS, DEPARTURES, INPUTS_OF_ROW
 };
 
 enum buffer {
     SESSION, KINDS, MAKES, PARAMS, FIRSTS, COUNTS, VARS, COEFS, LOWS, HIGHS, STARTS, NUMBERS, ORDER, STORED,
     READER_STARTS, READER_PLACES, REASONS, MOVE_VARS, MOVE_VALUES, ASKED_VARS, RESULTS, TRIED, FLAGS, WHY, LOG_SIZES, LOG_VARS,
-    LOG_VALUES, BYTES, SAVED, LIST, MOVE_PAIRS, BY_NUMBER, ENDS, HEADWAYS, BOARD, BUFFERS
+    LOG_VALUES, BYTES, SAVED, LIST, MOVE_PAIRS, BY_NUMBER, MOVE_NUMBERS, MOVE_PLACES, MOVE_EVALUATIONS, ENDS, HEADWAYS, BOARD,
+    BUFFERS
 };
 
 /* Bytes of one element of each buffer; the record is three elements, its counters. */
 static const uint64_t width[BUFFERS] = {
-    4, 2, 2, 4, 2, 2, 2, 2, 4, 4, 4, 2, 2, 4, 2, 2, 1, 2, 4, 2, 4, 4, 1, 1, 2, 2, 4, 1, 1, 2, 2, 4, 4, 4, 4};
+    4, 2, 2, 4, 2, 2, 2, 2, 4, 4, 4, 2, 2, 4, 2, 2, 1, 2, 4, 2, 4, 4, 1, 1, 2, 2, 4, 1, 1, 2, 2, 4, 4, 4, 4, 4, 4, 4};
 
 struct request {
     uint64_t call, n, m, e, pairs, asked, route, moves, windows, row;
@@ -158,6 +159,9 @@ static struct answer made(void) {
     case FIGURES:
         return of_figures(lukhandro_figures(session, COUNTED, ROWS_AND_ENTRIES, BOUNDS, INDEXED, BATCH,
             (uint16_t)request.asked, LENT(BY_NUMBER)));
+    case TRIALS:
+        return of_call(lukhandro_trials(session, COUNTED, ROWS_AND_ENTRIES, BOUNDS, BUILT, BATCH, request.asked, LENT(ASKED_VARS),
+            (uint32_t)request.route, LENT(MOVE_NUMBERS), LENT(MOVE_PLACES), LENT(MOVE_EVALUATIONS), LENT(RESULTS), LENT(WHY)));
     case DEPARTURES:
         return of_list(lukhandro_departures(request.windows, LENT(STARTS), LENT(ENDS), LENT(HEADWAYS), LENT(BOARD)));
     case INPUTS_OF_ROW:

@@ -7,7 +7,7 @@ use std::process::Command;
 const KIT: &str = env!("SERVED_KIT");
 const PROGRAMS: &str = env!("SERVED_PROGRAMS");
 
-/// A C program of the build (`server`, `headway` or `calls`), ready to run: under the kit's loader and, on another
+/// A C program of the build (`server`, `calls`, `model`, `headway` or `sheet`), ready to run: under the kit's loader and, on another
 /// processor, its emulator; on a stack of so many bytes, if it is told.
 #[must_use]
 pub fn program(name: &str, stack: Option<usize>) -> Command {

@@ -9,9 +9,9 @@ const GAP: u8 = 0x5A;
 const ALIGNED: usize = 8;
 
 /// The numbers of a request before its places and lengths, and all its bytes before its block: the numbers, and the
-/// place and length of the record and the 34 buffers.
+/// place and length of the record and the 37 buffers.
 const NUMBERS: usize = 11;
-const REQUEST: usize = 8 * (NUMBERS + 2 * 35);
+const REQUEST: usize = 8 * (NUMBERS + 2 * 38);
 
 /// The bytes of an answer before its block: 16 numbers of 4 bytes, and one of 8.
 const ANSWER: usize = 4 * 16 + 8;

@@ -28,6 +28,60 @@ a slipped digit: number 17, place 0
 }
 
 #[test]
+fn the_ten_lines_in_c() {
+    let expected = "\
+6 departures; every twelve minutes 5
+a slipped digit: the pair at this place has a value outside its variable's bounds: give another, or widen them
+";
+    assert_eq!(printed("sheet"), expected);
+}
+
+#[test]
+fn every_function_of_a_model_in_c() {
+    let expected = "\
+build 0 0 9: accepted
+5 5 8 1 6 5 8 8 2 2 3 3 7
+keep 0 0 3: accepted
+last is -2147483648: the headway is 0 or less
+beyond -2147483648 0
+trial 0 0 2: accepted
+results 8 9, why 0 0
+trial of nothing 0 0 0: accepted
+trial by no route 9 0 0: there is no such route: it is 1, 2 or 3
+keep of nothing 0 0 0: accepted
+keep of what is made 10 0 0: the pair at this place names a variable that a row makes, or one that is not there: move search variables only
+keep of too much 1 0 0: a count is outside its bound, or a buffer is shorter than the counts ask: see LUKHANDRO_MOST_..
+taking back 0 0 0: accepted
+taking back 0 0 3: accepted
+taking back 15 0 0: no kept move is left to take back
+figures 0, 3 accepted, 8 to 10, sum 27
+trials 0 0 2: accepted
+0 0 0: 8 0
+0 0 1: 9 0
+0 0 1: 10 0
+keep 0 0 8: accepted
+write short 1 0 0: a count is outside its bound, or a buffer is shorter than the counts ask: see LUKHANDRO_MOST_..
+write 0 0 0: accepted
+read 0 0 9: accepted
+9, bounds 0 to 2
+write 0 0 0: accepted
+read 0 0 9: accepted
+9, bounds -2147483647 to 2147483647
+read 14 20 0: this is no whole model file of the version asked for: its header is wrong at this byte, or it has only so many bytes
+-2147483648
+trial 1 0 0: a count is outside its bound, or a buffer is shorter than the counts ask: see LUKHANDRO_MOST_..
+round 0 0 2: accepted
+0 25200 25800 25200
+keep 20 2 0: the variable at this place cannot be worked out, since the chosen candidates lead round: choose otherwise
+too many 1 0 0: a count is outside its bound, or a buffer is shorter than the counts ask: see LUKHANDRO_MOST_..
+none 1 0 0: a count is outside its bound, or a buffer is shorter than the counts ask: see LUKHANDRO_MOST_..
+nothing: build 0 and 7, read 14 0, salvage 14 0, departures 0, inputs 0
+interface 1, 1; a model has 287056 bytes
+";
+    assert_eq!(printed("model"), expected);
+}
+
+#[test]
 fn every_call_from_c() {
     let expected = "\
 build 0 0 3, session 0 3 0, stored 6 28200 26, reasons 0 0 0

@@ -1,4 +1,4 @@
-//! The calls above the engine by their definitions: a batch in figures, a departure board, and the inputs of a row.
+//! The calls above the engine by their definitions: batches, a departure board, and the inputs of a row.
 
 use compare::{Answer, Call, Case, Engine};
 use second::BLANK;
@@ -9,6 +9,7 @@ use super::{Naive, first, fixed, places};
 pub fn answer(case: &mut Case) -> Answer {
     match case.call {
         Call::Figures => figures(case),
+        Call::Trials => trials(case),
         Call::Departures => departures(case),
         _ => inputs_of_row(case),
     }
@@ -39,6 +40,39 @@ fn figures(case: &mut Case) -> Answer {
     };
     case.by_number[..22].copy_from_slice(&counts);
     answer
+}
+
+fn trials(case: &mut Case) -> Answer {
+    let (moves, asked) = (case.moves, case.asked);
+    let rows = [case.move_pairs.len(), case.move_numbers.len(), case.move_places.len(), case.move_evaluations.len()];
+    let good = moves <= 1000 && asked <= 32 && rows.iter().all(|&row| row >= moves) && case.asked_vars.len() >= asked;
+    if !good || case.results.len() < moves * asked || case.why.len() < moves * asked {
+        return Answer { number: 1, ..Answer::default() };
+    }
+    let before: Vec<usize> =
+        (0..moves).map(|which| case.move_pairs[..which].iter().map(|&k| usize::from(k)).sum()).collect();
+    let room = case.n.min(4096);
+    for which in 0..moves {
+        let (pairs, own) = (usize::from(case.move_pairs[which]), which * asked..(which + 1) * asked);
+        let mut alone = Case {
+            call: Call::Trial,
+            pairs,
+            move_vars: case.move_vars.iter().copied().skip(before[which]).take(pairs).collect::<Vec<u16>>().into(),
+            move_values: case.move_values.iter().copied().skip(before[which]).take(pairs).collect::<Vec<i32>>().into(),
+            results: case.results[own.clone()].to_vec().into(),
+            why: case.why[own.clone()].to_vec().into(),
+            trial: vec![0; room].into(),
+            flags: vec![0; room].into(),
+            ..case.clone()
+        };
+        let answer = Naive.answer(&mut alone);
+        case.move_numbers[which] = answer.number;
+        case.move_places[which] = answer.place;
+        case.move_evaluations[which] = answer.evaluations;
+        case.results[own.clone()].copy_from_slice(&alone.results);
+        case.why[own].copy_from_slice(&alone.why);
+    }
+    Answer { evaluations: case.move_evaluations[..moves].iter().sum(), ..Answer::default() }
 }
 
 /// The trial of a move of a batch by a route: its answer, and the asked value.

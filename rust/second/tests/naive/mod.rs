@@ -59,7 +59,7 @@ impl Engine for Naive {
         if matches!(case.call, Call::ReadBounded | Call::WriteBounded | Call::ToVersion2 | Call::ToVersion1) {
             return versions::answer(case);
         }
-        if matches!(case.call, Call::Figures | Call::Departures | Call::InputsOfRow) {
+        if matches!(case.call, Call::Figures | Call::Trials | Call::Departures | Call::InputsOfRow) {
             return above::answer(case);
         }
         match verdict(case) {
@@ -157,7 +157,7 @@ fn check_1(case: &Case) -> bool {
         Call::TakeBack => changes && log,
         Call::Read | Call::Salvage => true,
         Call::ReadBounded | Call::WriteBounded | Call::ToVersion2 | Call::ToVersion1 => true,
-        Call::Figures | Call::Departures | Call::InputsOfRow => true,
+        Call::Figures | Call::Trials | Call::Departures | Call::InputsOfRow => true,
         Call::Write => tables && case.starts.len() >= n && case.bytes.len() >= 24 + 4 * n + 12 * m + 4 * e,
     }
 }

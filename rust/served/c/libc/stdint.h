@@ -10,5 +10,6 @@ typedef __UINT32_TYPE__ uint32_t;
 typedef __UINT64_TYPE__ uint64_t;
 #define INT32_MIN (-2147483647 - 1)
 #define INT32_MAX 2147483647
+#define UINT16_MAX 65535
 #define UINT32_MAX 4294967295u
 #endif

@@ -3,10 +3,12 @@
 //!
 //!     cargo run -p live --release --bin bench               # everything
 //!     cargo run -p live --release --bin bench chain keep    # only the lines that have these words
+//!     cargo run -p live --release --bin bench batches       # only batches, beside the trials of their moves
 //!
 //! Times of calls are microseconds for one call; the best of the rounds counts. The last columns show how time grows:
 //! nanoseconds for each variable, row and entry. A call that is linear keeps them level from size to size.
 
+mod batches;
 mod graphs;
 mod values;
 
@@ -36,6 +38,12 @@ fn main() {
                 print_line(&graph, name, engine, second);
             }
         }
+    }
+    if words.is_empty() || words.iter().any(|word| word == "batches") {
+        println!();
+        batches::print_head();
+        let wanted = |graph: &Graph| words.iter().all(|word| word == "batches" || graph.name.contains(word.as_str()));
+        graphs().iter().filter(|graph| wanted(graph)).for_each(batches::print_line);
     }
     if wanted("values") {
         println!();

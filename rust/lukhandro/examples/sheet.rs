@@ -1,0 +1,1 @@
+../../../examples/sheet.rs
