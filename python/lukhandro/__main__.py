@@ -1,0 +1,6 @@
+"""python -m lukhandro"""
+import sys
+
+from .command import main
+
+sys.exit(main())

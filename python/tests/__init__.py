@@ -1,0 +1,1 @@
+"""Tests of the desk: tools/test_desk runs them all."""
