@@ -205,6 +205,8 @@ class AtTheTerminal(Room):
         terminal.type("try head")
         terminal.until("try head")
         terminal.type("\x03")
+        time.sleep(0.5)  # an interrupt makes the terminal throw away what is shown at that moment, a prompt too
+        terminal.type("\n")
         terminal.until("sunday> ")
         terminal.type("sheet crew\n")
         self.assertIn("crew  26", terminal.until("none of them blank"))
