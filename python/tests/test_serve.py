@@ -233,7 +233,8 @@ class Typed(unittest.TestCase):
         root = Path(__file__).resolve().parent.parent.parent
         command = [sys.executable, "-m", "lukhandro", "serve", str(root / "examples" / "sunday.lkt")]
         served = subprocess.Popen(command, stdout=subprocess.PIPE, stderr=subprocess.PIPE, text=True,
-                                  env=dict(os.environ, PYTHONPATH=str(root / "python")))
+                                  env=dict(os.environ, PYTHONPATH=str(root / "python")),
+                                  preexec_fn=lambda: signal.signal(signal.SIGINT, signal.SIG_DFL))  # it may be ignored, as behind nohup
         self.addCleanup(served.stdout.close)
         self.addCleanup(served.stderr.close)
         self.assertRegex(served.stdout.readline(), r"^The sheet of .*sunday.lkt is at http://127\.0\.0\.1:\d+/[\w-]{32}/$")
