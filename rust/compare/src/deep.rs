@@ -7,6 +7,7 @@ use crate::figures::batch;
 use crate::parts::asking;
 use crate::runs::{built, keep, take_back, trial};
 use crate::salvages::salvage_of;
+use crate::trials::many;
 use crate::versions::{moving, reading_bounded, writing};
 use crate::{Answer, Call, Case, Engine, Side, chain, edges};
 
@@ -66,7 +67,7 @@ pub fn models() -> Vec<Case> {
 
 /// Every call on a deepest model by name; a move at the near end of the chain is tried, seen in figures, kept and taken
 /// back, and the far end asked.
-pub fn calls(engine: &dyn Engine, model: &Case) -> [(&'static str, Case); 16] {
+pub fn calls(engine: &dyn Engine, model: &Case) -> [(&'static str, Case); 17] {
     let built = built(engine, model);
     let search = built.numbers.iter().position(|&number| number == 0).unwrap_or(0) as u16;
     let moved = [(search, 2)];
@@ -82,6 +83,7 @@ pub fn calls(engine: &dyn Engine, model: &Case) -> [(&'static str, Case); 16] {
         ("route 2", route(2)),
         ("route 3", route(3)),
         ("figures", batch(&built, &[moved.to_vec()], model.makes[4094])),
+        ("trials", many(&built, &[moved.to_vec()], &[model.makes[4094]], 3)),
         ("taking back", take_back(&Side::of(engine, &kept).left)),
         ("keep", kept),
         ("write", write),

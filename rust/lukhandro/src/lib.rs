@@ -61,8 +61,8 @@
 //! link. It allocates nothing and calls nothing of the system.
 //!
 //! A thread that calls should have a stack of 2 MiB, as Rust's threads do. On the deepest models, chains and rings of 4,095
-//! rows, a batch in figures takes 1,120 KiB of it, a trial 1,104, a build 1,008, a keep and a taking back 976, a salvage
-//! 768 and a departure board 144, measured on an x86-64 machine; no other call takes more than 128.
+//! rows, a batch takes 1,120 KiB of it, a trial 1,104, a salvage 1,088, a build 1,008, a keep and a taking back 976 and a
+//! departure board 160, measured on an x86-64 machine; no other call takes more than 128.
 #![warn(missing_docs)]
 
 #[cfg(not(target_arch = "x86_64"))]
