@@ -1,4 +1,6 @@
 // The calls for C and Rust. Each states what the call beneath it states.
+#![tactic(auto)]
+
 mod batch;
 mod bounded;
 mod build;

@@ -1,4 +1,6 @@
 // Values worked out by following the choices: a formula is worked out once what it looks at is, and a variable that needs itself is left undetermined.
+#![tactic(auto)]
+
 pub mod afresh;
 pub mod renewals;
 pub mod visits;

@@ -1,4 +1,6 @@
 // Numbers in a model file, and what it is made of: fields, columns, lines, bounds and the header, and where each part begins.
+#![tactic(auto)]
+
 pub mod columns;
 pub mod laid;
 pub mod limits;

@@ -1,4 +1,6 @@
 // A batch of candidate moves in figures: each move is tried on the same stored values by each of the three routes, and none is kept.
+#![tactic(auto)]
+
 mod add;
 mod batch;
 mod outcomes;

@@ -1,5 +1,7 @@
 // The model file in its two versions: `write` stores a model as bytes and `read` lays the model that bytes hold over lent rows, both of version 1;
 // `write_bounded` and `read_bounded` do so with bounds, in version 2. Whatever a call is lent, it answers and leaves what the paper says; a refused call changes nothing.
+#![tactic(auto)]
+
 pub mod conversions;
 pub mod headers;
 mod lay;

@@ -39,12 +39,12 @@ pub fn fill_trial(
     trial: &mut [i32],
     flags: &mut [u8],
 ) -> u32
-    ghost { Tables × TrialLent }
-    requires* lent { λ w. ⌜ (lent n m e kinds.now makes.now params.now firsts.now counts.now vars.now coefs.now, to_try pairs move_vars.now move_values.now asked asked_vars.now route results.old trial.old flags.old []) ≡ w ⌝ }
-    requires* trying { λ (t, tried). ⌜ Trying t order.now (index_in reader_starts.now reader_places.now) stored.now tried ⌝ }
-    requires* makers { λ (t, _). ⌜ Makers t by.now ⌝ }
-    requires* closing { λ (t, _). ⌜ closed ≡ closes t ⌝ }
-    ensures* { λ (t, tried) r. ⌜ TrialFilled t stored.now tried r results.new trial.new flags.new ⌝ }
+    ghost w: { Tables × TrialLent }
+    requires lent { (lent n m e kinds.now makes.now params.now firsts.now counts.now vars.now coefs.now, to_try pairs move_vars.now move_values.now asked asked_vars.now route results.old trial.old flags.old []) ≡ w }
+    requires trying { Trying w.0 order.now (index_in reader_starts.now reader_places.now) stored.now w.1 }
+    requires makers { Makers w.0 by.now }
+    requires closing { closed ≡ closes w.0 }
+    ensures { TrialFilled w.0 stored.now w.1 result results.new trial.new flags.new }
 {
     begin_route(n, stored, pairs, move_vars, move_values, trial, flags);
     let wanted = &asked_vars[..asked];

@@ -1,4 +1,6 @@
 // The nine formulas over a part of the lent entries and the lent row of values.
+#![tactic(auto)]
+
 pub mod blanks;
 mod buckets;
 mod element;

@@ -1,4 +1,6 @@
 // frequencies.txt of the GTFS Schedule Reference: its bytes read as windows, and windows written as its bytes.
+#![tactic(auto)]
+
 mod checks;
 mod ends;
 mod fields;

@@ -1,4 +1,6 @@
 // The golden runs: what `values` prints for each file that the arguments name, and then what `reasons` does, under the file's name.
+#![tactic(auto)]
+
 ghost use Rattle.io.specs.Counts.{IsPrefixLen};
 
 use libc::STDOUT_FILENO;

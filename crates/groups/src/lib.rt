@@ -1,4 +1,6 @@
 // Variables that depend on each other, over any links in rows: the groups, and the number that each shares.
+#![tactic(auto)]
+
 pub mod asks;
 pub mod stacks;
 mod walk;

@@ -1,4 +1,6 @@
 // The casts that lose nothing and that the language has no form for: a signed number through its bits, and a table entry as an index.
+#![tactic(auto)]
+
 pub mod naturals;
 
 ghost use Rattle.std.specs.Prelude.{◌≡◌, ◌<◌};

@@ -1,4 +1,6 @@
 // The figures of two batches merged: totals and tallies of both.
+#![tactic(auto)]
+
 ghost use Rattle.std.specs.Prelude.{true, ◌&&◌, ◌≡◌, ◌+◌, ◌≤◌, ◌+ℤ◌, length};
 ghost use Rattle.paper.specs.Lists.{nat, over};
 ghost use Rattle.figures.specs.Adding.{plus};

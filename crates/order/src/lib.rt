@@ -1,4 +1,6 @@
 // Topological numbers where no chain closes, found and checked, and the order checked; chains threaded through a list.
+#![tactic(auto)]
+
 pub mod ascents;
 mod chain;
 mod parts;

@@ -43,16 +43,16 @@ pub fn fill_guided(
     work: &mut [u16],
     touched: &mut [u16],
 ) -> usize
-    ghost { Tables × TrialLent }
-    requires* lent { λ w. ⌜ (lent n m e kinds.now makes.now params.now firsts.now counts.now vars.now coefs.now, to_try pairs move_vars.now move_values.now asked asked_vars.now route results.old trial.old flags.old []) ≡ w ⌝ }
-    requires* trying { λ (t, tried). ⌜ Trying t order.now (index_in reader_starts.now reader_places.now) stored.now tried ⌝ }
-    requires* makers { λ (t, _). ⌜ Makers t by.now ⌝ }
-    requires* ended { λ (t, _). ⌜ closes t ≡ false ⌝ }
-    requires* third { λ _. ⌜ route_of route ≡ mark-guided ⌝ }
-    requires* rest { λ _. ⌜ AtRest n stored.now trial.old flags.old marks.old work.old ⌝ }
-    requires* list { λ _. ⌜ n ≤ length touched.old ⌝ }
-    ensures* filled { λ (t, tried) _. ⌜ TrialFilled t stored.now tried (size (λ v. eqb (nat flags.new v) 1) n) results.new trial.new flags.new ⌝ }
-    ensures* astray { λ _ r. ⌜ Astray n stored.now trial.new flags.new marks.new work.new touched.new 0 r ⌝ }
+    ghost w: { Tables × TrialLent }
+    requires lent { (lent n m e kinds.now makes.now params.now firsts.now counts.now vars.now coefs.now, to_try pairs move_vars.now move_values.now asked asked_vars.now route results.old trial.old flags.old []) ≡ w }
+    requires trying { Trying w.0 order.now (index_in reader_starts.now reader_places.now) stored.now w.1 }
+    requires makers { Makers w.0 by.now }
+    requires ended { closes w.0 ≡ false }
+    requires third { route_of route ≡ mark-guided }
+    requires rest { AtRest n stored.now trial.old flags.old marks.old work.old }
+    requires list { n ≤ length touched.old }
+    ensures filled { TrialFilled w.0 stored.now w.1 (size (λ v. eqb (nat flags.new v) 1) n) results.new trial.new flags.new }
+    ensures astray { Astray n stored.now trial.new flags.new marks.new work.new touched.new 0 result }
 {
     put_move(pairs, move_vars, move_values, trial);
     let wanted = &asked_vars[..asked];

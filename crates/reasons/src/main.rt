@@ -1,5 +1,7 @@
 // Reads a model file on standard input, builds the model, and prints the refusal line or the list with reasons: a blank as `blank:` followed
 // by its reason. A read that fails counts as the end of the input. One byte more than the longest file is read, so that a longer input shows.
+#![tactic(auto)]
+
 ghost use Rattle.std.specs.Prelude.{true, ◌++◌, ◌≡◌, length, drop};
 ghost use Rattle.io.specs.Counts.{IsPrefixLen};
 ghost use Rattle.report.specs.Printed.{printed};

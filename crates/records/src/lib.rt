@@ -1,4 +1,6 @@
 // The session record, and what a call that takes it by value comes to.
+#![tactic(auto)]
+
 pub mod answers;
 
 use tables::Answer;

@@ -1,4 +1,6 @@
 // A model file read and built: what the programs print is what build answers, and what it leaves in the rows that they lend.
+#![tactic(auto)]
+
 ghost use Rattle.std.specs.Prelude.{◌≡◌};
 ghost use Rattle.paper.specs.Tables.{lent};
 ghost use Rattle.report.specs.Printed.{left_by_file, of_tables, of_file};

@@ -1,4 +1,6 @@
 // Values worked out: of one row, of all rows along the order, and by each of the three routes.
+#![tactic(auto)]
+
 mod afresh;
 pub mod ask;
 pub mod marks;

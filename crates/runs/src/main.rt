@@ -1,4 +1,6 @@
 // The runs of the paper that are not proved, and the windows of the GTFS sample feed, each with its end one second to either side.
+#![tactic(auto)]
+
 mod print;
 mod rows;
 

@@ -1,4 +1,6 @@
 // Salvage of a damaged model file: what is whole and good in it is written as a file that build accepts, with a list of what was not saved.
+#![tactic(auto)]
+
 pub mod packing;
 mod save;
 mod stand;

@@ -1,5 +1,7 @@
 // What the programs print, put into a lent buffer: the refusal line and the list, with reasons or without. A place is where the next byte goes; a full buffer takes no
 // more, so every call takes any buffer, and the contract says what is in it.
+#![tactic(auto)]
+
 pub mod buffers;
 mod numbers;
 mod reasons;

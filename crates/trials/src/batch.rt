@@ -152,12 +152,12 @@ fn try_each(
     results: &mut [i32],
     why: &mut [u8],
 ) -> u32
-    ghost { Model × Batch × Question }
-    requires* lent { λ x. ⌜ (to_model n m e kinds.now makes.now params.now firsts.now counts.now vars.now coefs.now lows.now highs.now numbers.now order.now stored.now reader_starts.now reader_places.now reasons.now, batch_of moves move_pairs.now move_vars.now move_values.now, question asked asked_vars.now route) ≡ x ⌝ }
-    requires* judged { λ (w, _, _). ⌜ OnceJudged w session.blanks by.now closed judged ⌝ }
-    requires* rows { λ _. ⌜ (length trial.old ≡ 4096) × (length flags.old ≡ 4096) ⌝ }
-    requires* fit { λ (_, b, q). ⌜ trials_fit b q (rows_in move_numbers.old move_places.old move_evaluations.old results.old why.old) ≡ true ⌝ }
-    ensures* { λ (w, b, q) r. ⌜ (r ≡ total (map evaluations_given (tries (record_in session) w q (moves_of b) results.old why.old))) × (rows_in move_numbers.new move_places.new move_evaluations.new results.new why.new ≡ filled moves asked (tries (record_in session) w q (moves_of b) results.old why.old) (rows_in move_numbers.old move_places.old move_evaluations.old results.old why.old)) ⌝ }
+    ghost w: { Model × Batch × Question }
+    requires lent { (to_model n m e kinds.now makes.now params.now firsts.now counts.now vars.now coefs.now lows.now highs.now numbers.now order.now stored.now reader_starts.now reader_places.now reasons.now, batch_of moves move_pairs.now move_vars.now move_values.now, question asked asked_vars.now route) ≡ w }
+    requires judged { OnceJudged w.0 session.blanks by.now closed judged }
+    requires rows { (length trial.old ≡ 4096) × (length flags.old ≡ 4096) }
+    requires fit { trials_fit w.1 w.2 (rows_in move_numbers.old move_places.old move_evaluations.old results.old why.old) ≡ true }
+    ensures { (result ≡ total (map evaluations_given (tries (record_in session) w.0 w.2 (moves_of w.1) results.old why.old))) × (rows_in move_numbers.new move_places.new move_evaluations.new results.new why.new ≡ filled moves asked (tries (record_in session) w.0 w.2 (moves_of w.1) results.old why.old) (rows_in move_numbers.old move_places.old move_evaluations.old results.old why.old)) }
 {
     let mut evaluations: u32 = 0;
     let mut first: usize = 0;

@@ -1,4 +1,6 @@
 // Many moves tried on the same stored values: the model is judged once, and each move by its own checks.
+#![tactic(auto)]
+
 mod batch;
 pub mod given;
 pub mod once;

@@ -152,10 +152,10 @@ fn judge_move(
     flags: &[u8],
     why: &[u8],
 ) -> Answer
-    ghost { Model × TrialLent }
-    requires* lent { λ w. ⌜ (to_model n m e kinds.now makes.now params.now firsts.now counts.now vars.now coefs.now lows.now highs.now numbers.now order.now stored.now reader_starts.now reader_places.now reasons.now, to_try pairs move_vars.now move_values.now asked asked_vars.now route results.now trial.now flags.now why.now) ≡ w ⌝ }
-    requires* judged { λ (model, _). ⌜ OnceJudged model blanks by.now closed judged ⌝ }
-    ensures* { λ (model, tried) r. ⌜ CallJudged (trial_verdict (record { kept = 0; evaluations = 0; blanks = blanks }) model tried) model.tables by.now closed r ⌝ }
+    ghost w: { Model × TrialLent }
+    requires lent { (to_model n m e kinds.now makes.now params.now firsts.now counts.now vars.now coefs.now lows.now highs.now numbers.now order.now stored.now reader_starts.now reader_places.now reasons.now, to_try pairs move_vars.now move_values.now asked asked_vars.now route results.now trial.now flags.now why.now) ≡ w }
+    requires judged { OnceJudged w.0 blanks by.now closed judged }
+    ensures { CallJudged (trial_verdict (record { kept = 0; evaluations = 0; blanks = blanks }) w.0 w.1) w.0.tables by.now closed result }
 {
     if !move_fits(
         n,
@@ -244,10 +244,10 @@ pub fn try_judged(
     flags: &mut [u8],
     why: &mut [u8],
 ) -> Done
-    ghost { Model × TrialLent }
-    requires* lent { λ w. ⌜ (to_model n m e kinds.now makes.now params.now firsts.now counts.now vars.now coefs.now lows.now highs.now numbers.now order.now stored.now reader_starts.now reader_places.now reasons.now, to_try pairs move_vars.now move_values.now asked asked_vars.now route results.old trial.old flags.old why.old) ≡ w ⌝ }
-    requires* judged { λ (model, _). ⌜ OnceJudged model session.blanks by.now closed judged ⌝ }
-    ensures* { λ (model, asking) r. ⌜ left_by_trial r results.new trial.new flags.new why.new ≡ tried (record_in session) model asking ⌝ }
+    ghost w: { Model × TrialLent }
+    requires lent { (to_model n m e kinds.now makes.now params.now firsts.now counts.now vars.now coefs.now lows.now highs.now numbers.now order.now stored.now reader_starts.now reader_places.now reasons.now, to_try pairs move_vars.now move_values.now asked asked_vars.now route results.old trial.old flags.old why.old) ≡ w }
+    requires judged { OnceJudged w.0 session.blanks by.now closed judged }
+    ensures { left_by_trial result results.new trial.new flags.new why.new ≡ tried (record_in session) w.0 w.1 }
 {
     let verdict = judge_move(
         judged,

@@ -129,9 +129,9 @@ pub(crate) fn trial_fits(
     flags: &[u8],
     why: &[u8],
 ) -> bool
-    ghost { Model × TrialLent }
-    requires* lent { λ w. ⌜ (to_model n m e kinds.now makes.now params.now firsts.now counts.now vars.now coefs.now lows.now highs.now numbers.now order.now stored.now reader_starts.now reader_places.now reasons.now, to_try pairs move_vars.now move_values.now asked asked_vars.now route results.now trial.now flags.now why.now) ≡ w ⌝ }
-    ensures* { λ (model, tried) r. ⌜ r ≡ trial_fits model tried ⌝ }
+    ghost w: { Model × TrialLent }
+    requires lent { (to_model n m e kinds.now makes.now params.now firsts.now counts.now vars.now coefs.now lows.now highs.now numbers.now order.now stored.now reader_starts.now reader_places.now reasons.now, to_try pairs move_vars.now move_values.now asked asked_vars.now route results.now trial.now flags.now why.now) ≡ w }
+    ensures { result ≡ trial_fits w.0 w.1 }
 {
     model_fits(
         n,
@@ -196,9 +196,9 @@ pub(crate) fn keep_fits(
     log_vars: &[u16],
     log_values: &[i32],
 ) -> bool
-    ghost { Log × Model × KeepLent }
-    requires* lent { λ w. ⌜ (log_in log_sizes.now log_vars.now log_values.now, to_model n m e kinds.now makes.now params.now firsts.now counts.now vars.now coefs.now lows.now highs.now numbers.now order.now stored.now reader_starts.now reader_places.now reasons.now, to_keep pairs move_vars.now move_values.now flags.now) ≡ w ⌝ }
-    ensures* { λ (log, model, keep) r. ⌜ r ≡ keep_fits log model keep ⌝ }
+    ghost w: { Log × Model × KeepLent }
+    requires lent { (log_in log_sizes.now log_vars.now log_values.now, to_model n m e kinds.now makes.now params.now firsts.now counts.now vars.now coefs.now lows.now highs.now numbers.now order.now stored.now reader_starts.now reader_places.now reasons.now, to_keep pairs move_vars.now move_values.now flags.now) ≡ w }
+    ensures { result ≡ keep_fits w.0 w.1 w.2 }
 {
     model_fits(
         n,
@@ -249,9 +249,9 @@ pub(crate) fn take_fits(
     log_vars: &[u16],
     log_values: &[i32],
 ) -> bool
-    ghost { Log × Model }
-    requires* lent { λ w. ⌜ (log_in log_sizes.now log_vars.now log_values.now, to_model n m e kinds.now makes.now params.now firsts.now counts.now vars.now coefs.now lows.now highs.now numbers.now order.now stored.now reader_starts.now reader_places.now reasons.now) ≡ w ⌝ }
-    ensures* { λ (log, model) r. ⌜ r ≡ take_fits log model (to_take flags.now) ⌝ }
+    ghost w: { Log × Model }
+    requires lent { (log_in log_sizes.now log_vars.now log_values.now, to_model n m e kinds.now makes.now params.now firsts.now counts.now vars.now coefs.now lows.now highs.now numbers.now order.now stored.now reader_starts.now reader_places.now reasons.now) ≡ w }
+    ensures { result ≡ take_fits w.0 w.1 (to_take flags.now) }
 {
     model_fits(
         n,

@@ -49,9 +49,9 @@ pub fn judge_trial(
     by: &mut [u16; 4096],
     closed: &mut bool,
 ) -> Answer
-    ghost { Model × TrialLent }
-    requires* lent { λ w. ⌜ (to_model n m e kinds.now makes.now params.now firsts.now counts.now vars.now coefs.now lows.now highs.now numbers.now order.now stored.now reader_starts.now reader_places.now reasons.now, to_try pairs move_vars.now move_values.now asked asked_vars.now route results.now trial.now flags.now why.now) ≡ w ⌝ }
-    ensures* { λ (model, tried) r. ⌜ CallJudged (trial_verdict (record { kept = 0; evaluations = 0; blanks = blanks }) model tried) model.tables by.new closed.new r ⌝ }
+    ghost w: { Model × TrialLent }
+    requires lent { (to_model n m e kinds.now makes.now params.now firsts.now counts.now vars.now coefs.now lows.now highs.now numbers.now order.now stored.now reader_starts.now reader_places.now reasons.now, to_try pairs move_vars.now move_values.now asked asked_vars.now route results.now trial.now flags.now why.now) ≡ w }
+    ensures { CallJudged (trial_verdict (record { kept = 0; evaluations = 0; blanks = blanks }) w.0 w.1) w.0.tables by.new closed.new result }
 {
     if !trial_fits(
         n,
@@ -178,9 +178,9 @@ pub fn judge_keep(
     by: &mut [u16; 4096],
     closed: &mut bool,
 ) -> Answer
-    ghost { Log × Model × KeepLent }
-    requires* lent { λ w. ⌜ (log_in log_sizes.now log_vars.now log_values.now, to_model n m e kinds.now makes.now params.now firsts.now counts.now vars.now coefs.now lows.now highs.now numbers.now order.now stored.now reader_starts.now reader_places.now reasons.now, to_keep pairs move_vars.now move_values.now flags.now) ≡ w ⌝ }
-    ensures* { λ (log, model, keep) r. ⌜ CallJudged (keep_verdict (record { kept = kept; evaluations = 0; blanks = blanks }) log model keep) model.tables by.new closed.new r ⌝ }
+    ghost w: { Log × Model × KeepLent }
+    requires lent { (log_in log_sizes.now log_vars.now log_values.now, to_model n m e kinds.now makes.now params.now firsts.now counts.now vars.now coefs.now lows.now highs.now numbers.now order.now stored.now reader_starts.now reader_places.now reasons.now, to_keep pairs move_vars.now move_values.now flags.now) ≡ w }
+    ensures { CallJudged (keep_verdict (record { kept = kept; evaluations = 0; blanks = blanks }) w.0 w.1 w.2) w.1.tables by.new closed.new result }
 {
     if !keep_fits(
         n,
@@ -302,9 +302,9 @@ pub fn judge_take_back(
     by: &mut [u16; 4096],
     closed: &mut bool,
 ) -> Answer
-    ghost { Log × Model }
-    requires* lent { λ w. ⌜ (log_in log_sizes.now log_vars.now log_values.now, to_model n m e kinds.now makes.now params.now firsts.now counts.now vars.now coefs.now lows.now highs.now numbers.now order.now stored.now reader_starts.now reader_places.now reasons.now) ≡ w ⌝ }
-    ensures* { λ (log, model) r. ⌜ CallJudged (take_verdict (record { kept = kept; evaluations = 0; blanks = blanks }) log model (to_take flags.now)) model.tables by.new closed.new r ⌝ }
+    ghost w: { Log × Model }
+    requires lent { (log_in log_sizes.now log_vars.now log_values.now, to_model n m e kinds.now makes.now params.now firsts.now counts.now vars.now coefs.now lows.now highs.now numbers.now order.now stored.now reader_starts.now reader_places.now reasons.now) ≡ w }
+    ensures { CallJudged (take_verdict (record { kept = kept; evaluations = 0; blanks = blanks }) w.0 w.1 (to_take flags.now)) w.1.tables by.new closed.new result }
 {
     if !take_fits(
         n,

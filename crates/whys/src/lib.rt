@@ -1,5 +1,7 @@
 // Why the result of a formula is blank. A blank input that stops it comes first, then the headway, the index, and departures; what is left is a result
 // that left the range.
+#![tactic(auto)]
+
 pub mod notes;
 pub mod plain;
 pub mod reasoned;

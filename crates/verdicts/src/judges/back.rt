@@ -32,14 +32,14 @@ pub fn back_checks(
     log_vars: &[u16],
     log_values: &[i32],
 ) -> Answer
-    ghost { Tables × Log }
-    requires* lent { λ w. ⌜ (lent n m e kinds.now makes.now params.now firsts.now counts.now vars.now coefs.now, log_in log_sizes.now log_vars.now log_values.now) ≡ w ⌝ }
-    requires* sound { λ (t, _). ⌜ Sound t ⌝ }
-    requires* makers { λ (t, _). ⌜ Makers t by.now ⌝ }
-    requires* closing { λ (t, _). ⌜ closed ≡ closes t ⌝ }
-    requires* there { λ _. ⌜ n ≤ length stored.now ⌝ }
-    requires* latest { λ (_, log). ⌜ LatestFits n log ⌝ }
-    ensures* { λ (t, log) r. ⌜ r ≡ answer_of 0 (by_lines (fresh_lines (back log (pred (logged log))) t (values_in t stored.now)) accepted) ⌝ }
+    ghost w: { Tables × Log }
+    requires lent { (lent n m e kinds.now makes.now params.now firsts.now counts.now vars.now coefs.now, log_in log_sizes.now log_vars.now log_values.now) ≡ w }
+    requires sound { Sound w.0 }
+    requires makers { Makers w.0 by.now }
+    requires closing { closed ≡ closes w.0 }
+    requires there { n ≤ length stored.now }
+    requires latest { LatestFits n w.1 }
+    ensures { result ≡ answer_of 0 (by_lines (fresh_lines (back w.1 (pred (logged w.1))) w.0 (values_in w.0 stored.now)) accepted) }
 {
     let at = latest_move(log_sizes);
     fresh_checks(
