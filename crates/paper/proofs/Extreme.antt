@@ -31,6 +31,7 @@ valued-in {z} (x ∷ xs) m = go (is_blank x) refl m (valued-in xs)
     go true e m further = let w = further m in (Memᴰ.tail w.0, w.1)
     go false e (Memᴰ.head q) further = (Memᴰ.head q, ap is_blank q ∙ e)
     go false e (Memᴰ.tail m) further = let w = further m in (Memᴰ.tail w.0, w.1)
+valued-in {z = z} [] m = elim m [ ]
 
 valued-all : (p : ℤ → Bool) (xs : List ℤ) → all (λ x. is_blank x || p x) xs ≡ all p (valued xs)
 valued-all p [] = refl

@@ -21,6 +21,7 @@ use Rattle.paper.proofs.Outside.{Leads, outside-has, outside_low, outside-ends, 
 greatest-le : {i : ℕ} (f : ℕ → ℕ) (xs : List ℕ) → Memᴰ i xs → f i ≤ greatest (map f xs)
 greatest-le f (x ∷ xs) (Memᴰ.head q) = rw q (omega arith)
 greatest-le f (x ∷ xs) (Memᴰ.tail m) = let h = greatest-le f xs m in omega arith
+greatest-le {i = i} f [] x' = elim x' [ ]
 
 greatest-most : (f : ℕ → ℕ) (k : ℕ) (xs : List ℕ) → ((i : ℕ) → f i ≤ k) → greatest (map f xs) ≤ k
 greatest-most f k [] h = omega arith

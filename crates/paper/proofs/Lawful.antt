@@ -26,9 +26,11 @@ one_in zero [] m = m
 one_in zero (v ∷ vs) (Memᴰ.head q) = Memᴰ.head q
 one_in (suc i) [] m = m
 one_in (suc i) (v ∷ vs) m = Memᴰ.tail (one_in i vs m)
+one_in {w = w} zero (v ∷ vs) (Memᴰ.tail x5) = elim x5 [ ]
 
 chosen-in : {w : ℕ} (z : ℤ) (vs : List ℕ) → Memᴰ w (chosen z vs) → Memᴰ w vs
 chosen-in (pos i) vs m = one_in i vs m
+chosen-in {w = w} (negsuc _) vs m = elim m [ ]
 
 pub looked-in : {w : ℕ} (k : ℕ) (f : Values) (vs : List ℕ) → Memᴰ w (looked k f vs) → Memᴰ w vs
 unfolding looked
@@ -38,6 +40,7 @@ looked-in {w} k f vs m = go (eqb k 4) vs m
     go true (u ∷ us) (Memᴰ.head q) = Memᴰ.head q
     go true (u ∷ us) (Memᴰ.tail t) = Memᴰ.tail (chosen-in (f u) us t)
     go false us t = t
+    go true [] t = elim t [ ]
 
 module _ (f g : Values) where
   get_d-one : (i : ℕ) (vs : List ℕ) → ((w : ℕ) → Memᴰ w (take 1 (drop i vs)) → f w ≡ g w) → get_or (map f vs) i blank ≡ get_or (map g vs) i blank

@@ -57,10 +57,12 @@ module _ {A : Type 0} (p : A → Bool) where
   pub all_in : (xs : List A) → all p xs ≡ true → {i : A} → Memᴰ i xs → p i ≡ true
   all_in (x ∷ xs) e (Memᴰ.head q) = ap p q ∙ and_left (p x) (all p xs) e
   all_in (x ∷ xs) e (Memᴰ.tail m) = all_in xs (and_right (p x) (all p xs) e) m
+  all_in [] e {i = i} x'' = elim x'' [ ]
 
   pub any_out : (xs : List A) → any p xs ≡ false → {i : A} → Memᴰ i xs → p i ≡ false
   any_out (x ∷ xs) e (Memᴰ.head q) = ap p q ∙ or-false-left (p x) (any p xs) e
   any_out (x ∷ xs) e (Memᴰ.tail m) = any_out xs (or-false-right (p x) (any p xs) e) m
+  any_out [] e {i = i} x'' = elim x'' [ ]
 
   pub all_of : (xs : List A) → ((i : A) → Memᴰ i xs → p i ≡ true) → all p xs ≡ true
   all_of [] h = refl
@@ -69,6 +71,7 @@ module _ {A : Type 0} (p : A → Bool) where
   pub any-in : (xs : List A) {i : A} → Memᴰ i xs → p i ≡ true → any p xs ≡ true
   any-in (x ∷ xs) (Memᴰ.head q) e = ap (◌|| any p xs) (sym (ap p q) ∙ e)
   any-in (x ∷ xs) (Memᴰ.tail m) e = or_right (p x) (any-in xs m e)
+  any-in [] {i = i} x'' e = elim x'' [ ]
 
   -- an entry that passes, or fails
   pub any-has : (xs : List A) → any p xs ≡ true → (i : A) × Memᴰ i xs × (p i ≡ true)

@@ -111,11 +111,13 @@ module _ (s : Values) where
   pub undoes-low : (u : ℕ → Move) (n : ℕ) (moves : List (List (ℕ × ℤ))) → Undoes s u n moves → n ≤ length moves
   undoes-low u zero moves h = omega arith
   undoes-low u (suc n) (mv ∷ earlier) h = let k = undoes-low u n earlier h.1 in omega arith
+  undoes-low u (suc n) [] h = elim h [ ]
 
   pub undoes-latest : (u : ℕ → Move) (n : ℕ) (moves : List (List (ℕ × ℤ))) → 0 < n → Undoes s u n moves
       → (moved (pairs_of_move (u (pred n))) (applied s moves) ≡ applied s (rest moves)) × Undoes s u (pred n) (rest moves)
   undoes-latest u zero moves l h = absurd (omega arith)
   undoes-latest u (suc n) (mv ∷ earlier) l h = h
+  undoes-latest u (suc n) [] l h = elim h [ ]
 
   -- by other moves with the same pairs; the oldest d are left out
   undoes-later : (u w : ℕ → Move) (d n m : ℕ) (moves : List (List (ℕ × ℤ))) → ((j : ℕ) → j < n → bare (w j) ≡ bare (u (j + d))) → m ≡ n + d → Undoes s u m moves → Undoes s w n moves

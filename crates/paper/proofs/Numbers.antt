@@ -17,6 +17,7 @@ use Rattle.paper.proofs.Lawful.{Lawful}
 greatest-le : {i : ℕ} (f : ℕ → ℕ) (xs : List ℕ) → Memᴰ i xs → f i ≤ greatest (map f xs)
 greatest-le f (x ∷ xs) (Memᴰ.head q) = rw q (omega arith)
 greatest-le f (x ∷ xs) (Memᴰ.tail m) = let h = greatest-le f xs m in omega arith
+greatest-le {i = i} f [] x' = elim x' [ ]
 
 module _ (N : Net) where
   -- a table of numbers that meets the paper's sentence at every variable

@@ -120,6 +120,7 @@ judge answer left as_was ok (refused (suc code) place) o₀ (stopped o) zero num
   given = ap ok (number (suc code) place) ∙ o;
   as-was = λ wrong. same (suc code) place;
 }
+judge {Left = Left} answer left as_was ok (refused Prim.Native.Nat.zero place) o₀ x7 zero number same = elim x7 [ ]
 
 -- ── each call ──
 pub build-judged : (l : BuildLent) → Judged (λ (x : BuildLeft). x.answer) (build_leaves l) (build_as_was l) build_number (build_verdict l) (build l)

@@ -27,6 +27,7 @@ only-in {i} p (x ∷ xs) m = go (p x) refl m (only-in p xs)
     go true e (Memᴰ.head q) ih = (Memᴰ.head q, ap p q ∙ e)
     go true e (Memᴰ.tail t) ih = (Memᴰ.tail (ih t).0, (ih t).1)
     go false e t ih = (Memᴰ.tail (ih t).0, (ih t).1)
+only-in {i = i} p [] m = elim m [ ]
 
 only-has : {i : ℕ} (p : ℕ → Bool) (xs : List ℕ) → Memᴰ i xs → p i ≡ true → Memᴰ i (only p xs)
 only-has {i} p (x ∷ xs) m e = go (p x) refl m (λ t. only-has p xs t e)
@@ -36,6 +37,7 @@ only-has {i} p (x ∷ xs) m e = go (p x) refl m (λ t. only-has p xs t e)
     go true q (Memᴰ.tail t) ih = Memᴰ.tail (ih t)
     go false q (Memᴰ.head s) ih = clash (sym (ap p s) ∙ e) q
     go false q (Memᴰ.tail t) ih = ih t
+only-has {i = i} p [] m e = elim m [ ]
 
 pub only-all : (p : ℕ → Bool) (xs : List ℕ) → ((i : ℕ) → Memᴰ i xs → p i ≡ true) → only p xs ≡ xs
 only-all p [] h = refl
@@ -48,6 +50,7 @@ module _ (f : ℕ → List ℕ) where
       go : Memᴰ i (joined f k) ⊎ Memᴰ i (f k) → (Memᴰ i (joined f k) → (u : ℕ) × (u < k) × Memᴰ i (f u)) → (u : ℕ) × (u < suc k) × Memᴰ i (f u)
       go (inl t) ih = let (u, l, h) = ih t in (u, omega arith, h)
       go (inr t) ih = (k, le_refl (suc k), t)
+  joined_in {i = i} zero m = elim m [ ]
 
   joined-has : {i : ℕ} (k u : ℕ) → u < k → Memᴰ i (f u) → Memᴰ i (joined f k)
   joined-has zero u l m = absurd (not-suc-le-zero l)
@@ -78,6 +81,7 @@ module _ (dep : ℕ → List ℕ) (n : ℕ) where
       go u l true e t =
           let (k, o) = only-in (λ j. not (grouped dep n v j)) (dep u) t in
           record { from = u; low = l; here = e; linked = k; out = not-true (grouped dep n v i) o }
+      go u l false e t = elim t [ ]
 
   pub outside-has : (v i : ℕ) → Leads dep n v i → Memᴰ i (outside dep n v)
   outside-has v i h =

@@ -26,6 +26,7 @@ pub record PermittedExactly (t : Tables) (v : ℕ) : Type 0 where
 first-in : {i : ℕ} (xs : List ℕ) → Memᴰ i (take 1 xs) → Memᴰ i xs
 first-in [] m = m
 first-in (x ∷ xs) (Memᴰ.head q) = Memᴰ.head q
+first-in {i = i} (x ∷ xs) (Memᴰ.tail x5) = elim x5 [ ]
 
 other-in : {i : ℕ} (xs : List ℕ) → Memᴰ i (drop 1 xs) → Memᴰ i xs
 other-in [] m = m
@@ -34,6 +35,7 @@ other-in (x ∷ xs) m = Memᴰ.tail m
 first-or-other : {i : ℕ} (xs : List ℕ) → Memᴰ i xs → Memᴰ i (take 1 xs) ⊎ Memᴰ i (drop 1 xs)
 first-or-other (x ∷ xs) (Memᴰ.head q) = inl (Memᴰ.head q)
 first-or-other (x ∷ xs) (Memᴰ.tail m) = inr m
+first-or-other {i = i} [] x' = elim x' [ ]
 
 -- a number below n that fails
 below_fails : (p : ℕ → Bool) (n : ℕ) → all_below p n ≡ false → (x : ℕ) × (x < n) × (p x ≡ false)
@@ -49,14 +51,17 @@ module _ (t : Tables) where
     where
       go : (b : Bool) → Memᴰ i (cond b [] (inputs_of t v)) → Memᴰ i (inputs_of t v)
       go false h = h
+      go true h = elim h [ ]
   linked-input index v {i} m = go (is_element t v) m
     where
       go : (b : Bool) → Memᴰ i (cond b (take 1 (inputs_of t v)) []) → Memᴰ i (inputs_of t v)
       go true h = first-in (inputs_of t v) h
+      go false h = elim h [ ]
   linked-input candidate v {i} m = go (is_element t v) m
     where
       go : (b : Bool) → Memᴰ i (cond b (drop 1 (inputs_of t v)) []) → Memᴰ i (inputs_of t v)
       go true h = other-in (inputs_of t v) h
+      go false h = elim h [ ]
 
   input-linked : (v : ℕ) {i : ℕ} → Memᴰ i (inputs_of t v) → (k : Through) × Memᴰ i (linked t k v)
   input-linked v {i} m = go (is_element t v) refl (first-or-other (inputs_of t v) m)

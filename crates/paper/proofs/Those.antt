@@ -28,6 +28,9 @@ module _ (p : ℕ → Bool) where
       go : (b : Bool) → p k ≡ b → Memᴰ r (those p k) ⊎ Memᴰ r (cond b (k ∷ []) []) → (Memᴰ r (those p k) → (r < k) × (p r ≡ true)) → (r < suc k) × (p r ≡ true)
       go b e (inl n) ih = let h = ih n in (omega arith, h.1)
       go true e (inr (Memᴰ.head q)) ih = (omega arith, ap p q ∙ e)
+      go false e (inr x5) ih = elim x5 [ ]
+      go true e (inr (Memᴰ.tail x10)) ih = elim x10 [ ]
+  those-in zero r m = elim m [ ]
 
   pub those-has : (k r : ℕ) → r < k → p r ≡ true → Memᴰ r (those p k)
   those-has zero r l e = absurd (not-suc-le-zero l)
