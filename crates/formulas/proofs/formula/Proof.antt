@@ -48,75 +48,75 @@ count-requires : tie.Need-count-requires
 count-requires c κs = (few c.before.before, c.before.before.requires.within)
 
 over-requires : tie.Need-over-requires
-over-requires c κs = let s = c.before.before in (two-inputs (length s.args.vars.now) (rw c.match.keys7 at s.requires.suits), s.requires.within)
+over-requires c κs = let s = c.before.before in (two-inputs (length s.args.vars.now) (rw c.in-7.is at s.requires.suits), s.requires.within)
 
 departures-requires : tie.Need-departures-requires
-departures-requires c κs = (three c.before.before (rw c.match.keys8 refl), c.before.before.requires.within)
+departures-requires c κs = (three c.before.before (rw c.in-8.is refl), c.before.before.requires.within)
 
 last-requires : tie.Need-last-requires
-last-requires c κs = (three c.before.before (rw c.match.keys9 refl), c.before.before.requires.within)
+last-requires c κs = (three c.before.before (rw c.in-9.is refl), c.before.before.requires.within)
 
 -- ── what it gives ──
 gives : {r e : ℤ} → mag r < 2 ^ hbits w32 → r ≡ e → Value (to_z w32 (of_z w32 r)) ≡ Value e
 gives k p = ap Value (told w32 k p)
 
-returns : tie.Need-returns
+returns : tie.Need-returns-in-1
 unfolding worked formula
-returns c = simp c.before.match.keys1 (gives c.linear.type-inv (simp (to_z-of_z c.before.before.before.ranges.param) at c.linear.ensures))
+returns c = simp c.before.in-1.is (gives c.linear.type_inv (simp (to_z-of_z c.before.before.before.ranges.param) at c.linear.ensures))
 
-returns-2 : tie.Need-returns-2
+returns-2 : tie.Need-returns-in-2
 unfolding worked formula
-returns-2 c = simp c.before.match.keys2 (gives c.least.type-inv c.least.ensures)
+returns-2 c = simp c.before.in-2.is (gives c.least.type_inv c.least.ensures)
 
-returns-3 : tie.Need-returns-3
+returns-3 : tie.Need-returns-in-3
 unfolding worked formula
-returns-3 c = simp c.before.match.keys3 (gives c.greatest.type-inv c.greatest.ensures)
+returns-3 c = simp c.before.in-3.is (gives c.greatest.type_inv c.greatest.ensures)
 
-returns-4 : tie.Need-returns-4
+returns-4 : tie.Need-returns-in-4
 unfolding worked formula
-returns-4 c = simp c.before.match.keys4 (gives c.element.type-inv c.element.ensures)
+returns-4 c = simp c.before.in-4.is (gives c.element.type_inv c.element.ensures)
 
-returns-5 : tie.Need-returns-5
+returns-5 : tie.Need-returns-in-5
 unfolding worked formula
-returns-5 c = simp c.before.match.keys5 (gives c.shared.type-inv c.shared.ensures)
+returns-5 c = simp c.before.in-5.is (gives c.shared.type_inv c.shared.ensures)
 
-returns-6 : tie.Need-returns-6
+returns-6 : tie.Need-returns-in-6
 unfolding worked formula
-returns-6 c = simp c.before.match.keys6 (gives c.count.type-inv (simp (to_z-of_z c.before.before.before.ranges.param) at c.count.ensures))
+returns-6 c = simp c.before.in-6.is (gives c.count.type_inv (simp (to_z-of_z c.before.before.before.ranges.param) at c.count.ensures))
 
-returns-7 : tie.Need-returns-7
+returns-7 : tie.Need-returns-in-7
 unfolding worked formula
-returns-7 c = simp c.before.match.keys7 (gives c.over.type-inv c.over.ensures)
+returns-7 c = simp c.before.in-7.is (gives c.over.type_inv c.over.ensures)
 
-returns-8 : tie.Need-returns-8
+returns-8 : tie.Need-returns-in-8
 unfolding worked formula
-returns-8 c = simp c.before.match.keys8 (gives c.departures.type-inv c.departures.ensures)
+returns-8 c = simp c.before.in-8.is (gives c.departures.type_inv c.departures.ensures)
 
-returns-9 : tie.Need-returns-9
+returns-9 : tie.Need-returns-in-9
 unfolding worked formula
-returns-9 c = simp c.before.match.keys9 (gives c.last.type-inv c.last.ensures)
+returns-9 c = simp c.before.in-9.is (gives c.last.type_inv c.last.ensures)
 
 -- ── the closing range ──
-returns-10 : tie.Need-returns-10
+returns-10 : tie.Need-returns-in-0
 unfolding worked
-returns-10 c = simp (between-low 1 c.before.before.args.kind 9 (omega (arith, c.match.keys10)))
+returns-10 c = simp (between-low 1 c.before.before.args.kind 9 (omega (arith, c.in-0.in-0-own.keys10)))
 
 past : (k m : ℕ) → m ≤ k → (k ≡ m → ⊥) → suc m ≤ k
 past k m h n = omega arith
 
-above : (c : tie.At-match-rest) → 9 < c.before.before.args.kind
+above : (c : tie.In-0-2) → 9 < c.before.before.args.kind
 above c =
     let k = c.before.before.args.kind in
-    let r = c.match.rest in
+    let r = c.in-0.in-0-own.rest in
     let four = past k 3 (past k 2 (past k 1 (past k 0 zero-le r.1) r.0.0.0.0.0.0.0.0.0.1) r.0.0.0.0.0.0.0.0.1) r.0.0.0.0.0.0.0.1 in
     past k 9 (past k 8 (past k 7 (past k 6 (past k 5 (past k 4 four r.0.0.0.0.0.0.1) r.0.0.0.0.0.1) r.0.0.0.0.1) r.0.0.0.1) r.0.0.1) r.0.1
 
-returns-11 : tie.Need-returns-11
+returns-11 : tie.Need-returns-in-0-2
 unfolding worked
 returns-11 c = simp (between-high 1 c.before.before.args.kind 9 (above c))
 
-pub formula-spec : {M : Type 1} → statement M
-formula-spec =
+pub formula_spec : {M : Type 1} → statement M
+formula_spec =
     tie.close
     (tie.spec
     linear-requires
@@ -139,3 +139,4 @@ formula-spec =
     returns-9
     returns-10
     returns-11)
+

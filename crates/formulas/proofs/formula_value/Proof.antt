@@ -31,60 +31,60 @@ no-refusal : {w : Worked} {a b : ℤ} → w ≡ Value a → w ≡ NoFormula → 
 no-refusal p q = let z : ◌≡◌ {A = ℕ} 0 1 = cc in absurd (omega arith)
 
 -- ── the code ──
-add-end : tie.Need-overflow-add-end
+add-end : tie.Need-overflow_add-end
 add-end c = search rules
 
-mul-formula : tie.Need-overflow-mul-formula
+mul-formula : tie.Need-offset_bounds-coefs-first
 mul-formula c = search rules
 
-sub-formula : tie.Need-overflow-sub-formula
+sub-formula : tie.Need-slice_bounds-formula-count
 sub-formula c = search rules
 
-part-formula-start : tie.Need-slice-bounds-formula-start
+part-formula-start : tie.Need-slice_bounds-formula-start
 part-formula-start c = search rules
 
-part-formula-end : tie.Need-slice-bounds-formula-end
+part-formula-end : tie.Need-slice_bounds-formula-end
 part-formula-end c = search rules
 
-mul-formula-2 : tie.Need-overflow-mul-formula-2
+mul-formula-2 : tie.Need-offset_bounds-vars-first
 mul-formula-2 c = search rules
 
-sub-formula-2 : tie.Need-overflow-sub-formula-2
+sub-formula-2 : tie.Need-slice_bounds-formula-count-2
 sub-formula-2 c = search rules
 
-part-formula-start-2 : tie.Need-slice-bounds-formula-start-2
+part-formula-start-2 : tie.Need-slice_bounds-formula-start-2
 part-formula-start-2 c = search rules
 
-part-formula-end-2 : tie.Need-slice-bounds-formula-end-2
+part-formula-end-2 : tie.Need-slice_bounds-formula-end-2
 part-formula-end-2 c = search rules
 
-formula-requires : tie.Need-formula-requires
+formula-requires : tie.Need-formula-worked-requires
 formula-requires c κs =
     let s = c.before.before.before in
     let e : s.args.first + s.args.count - s.args.first ≡ s.args.count = omega arith in
     simp e (part-row s.requires)
 
-enum-known-worked : tie.Need-enum-known-worked
+enum-known-worked : tie.Need-enum_known-worked
 enum-known-worked c = search rules
 
-enum_told : tie.Need-enum-told
+enum_told : tie.Need-enum_told-1
 enum_told c = search rules
 
-gave : (c : tie.After-formula) → let a = c.before.before.before.before.args in
-    c.formula.result ≡ Value (formula a.kind a.param (part_of a.first a.count a.coefs.now) (inputs (part_of a.first a.count a.vars.now) a.values.now))
+gave : (c : tie.After-formula-worked) → let a = c.before.before.before.before.args in
+    c.formula-worked.result ≡ Value (formula a.kind a.param (part_of a.first a.count a.coefs.now) (inputs (part_of a.first a.count a.vars.now) a.values.now))
 gave c =
     let s = c.before.before.before.before in
     let e : s.args.first + s.args.count - s.args.first ≡ s.args.count = omega arith in
-    (simp (e, to_z-of_z s.ranges.param) at c.formula.ensures) ∙ known _ _ _ _ s.requires.known
+    (simp (e, to_z-of_z s.ranges.param) at c.formula-worked.ensures) ∙ known _ _ _ _ s.requires.known
 
-returns : tie.Need-returns
-returns c = no-refusal (gave c.before.before) c.enum_told.given.1
+returns : tie.Need-returns-in_default
+returns c = no-refusal (gave c.before) c.in_default.is
 
-returns-2 : tie.Need-returns-2
-returns-2 c = told w32 c.known-told.given.0.1 (same-value c.before.worked.given.1 (gave c.before.before.before))
+returns-2 : tie.Need-returns
+returns-2 c = told w32 c.in-Value.known_told-1-own.given.0.1 (same-value c.before.in-Value.is (gave c.before))
 
-pub formula-value-spec : {M : Type 1} → statement M
-formula-value-spec =
+pub formula_value_spec : {M : Type 1} → statement M
+formula_value_spec =
     tie.close
     (tie.spec
     add-end
@@ -101,3 +101,4 @@ formula-value-spec =
     enum_told
     returns
     returns-2)
+

@@ -15,17 +15,18 @@ fits c =
     let a = c.args.a in let b = c.args.b in
     away-fit w64 (a -ℤ b) (omega (arith, dif-away a b, fits-away w32 a c.ranges.a, fits-away w32 b c.ranges.b))
 
-cast-result : tie.Need-overflow-cast-result
+cast-result : tie.Need-overflow_cast-result
 cast-result c = cast_fits w32 tt c.ranges.a
 
-cast-result-2 : tie.Need-overflow-cast-result-2
+cast-result-2 : tie.Need-overflow_cast-result-2
 cast-result-2 c = cast_fits w32 tt c.ranges.b
 
-sub-result : tie.Need-overflow-sub-result
+sub-result : tie.Need-overflow_sub-result
 sub-result c = simp (cast_is w32 tt c.ranges.a, cast_is w32 tt c.ranges.b) (fits c)
 
 returns : tie.Need-returns
 returns c = simp (cast_is w32 tt c.ranges.a, cast_is w32 tt c.ranges.b) (to_z-of_z (fits c))
 
-pub difference-spec : {M : Type 1} → statement M
-difference-spec = tie.close (tie.spec cast-result cast-result-2 sub-result returns)
+pub difference_spec : {M : Type 1} → statement M
+difference_spec = tie.close (tie.spec cast-result cast-result-2 sub-result returns)
+

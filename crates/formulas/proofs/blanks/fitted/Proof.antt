@@ -15,29 +15,30 @@ use Rattle.paper.specs.Formula.{in_range}
 use Rattle.formulas.proofs.blanks.fitted.Statement.{statement}
 use Rattle.formulas.proofs.blanks.fitted.Tie as tie
 
-returns : tie.Need-returns
+returns : tie.Need-returns-then-exact-ltminus2147483647
 returns c =
     let z = c.before.args.exact in
-    simp (away-low z 2147483646 (lt-read w64 z (negsuc 2147483646) c.before.ranges.exact (sfits_lit tt) c.if1.true))
+    simp (away-low z 2147483646 (lt-read w64 z (negsuc 2147483646) c.before.ranges.exact (sfits_lit tt) c.if-exact-ltminus2147483647.true))
 
 -- between the tests the second decides
-rest : (c : tie.Else1) → in_range c.before.args.exact ≡ le_z c.before.args.exact (pos 2147483647)
-rest c = let z = c.before.args.exact in sym (away-rest z 2147483646 (lt-read w64 z (negsuc 2147483646) c.before.ranges.exact (sfits_lit tt) c.if1.false))
+rest : (c : tie.Else-exact-ltminus2147483647) → in_range c.before.args.exact ≡ le_z c.before.args.exact (pos 2147483647)
+rest c = let z = c.before.args.exact in sym (away-rest z 2147483646 (lt-read w64 z (negsuc 2147483646) c.before.ranges.exact (sfits_lit tt) c.if-exact-ltminus2147483647.false))
 
-inside : (c : tie.Then2) → in_range c.before.before.args.exact ≡ true
-inside c = let s = c.before.before in rest c.before ∙ le_read w64 s.args.exact (pos 2147483647) s.ranges.exact (sfits_lit tt) c.if2.true
+inside : (c : tie.Then-exact-le2147483647) → in_range c.before.before.args.exact ≡ true
+inside c = let s = c.before.before in rest c.before ∙ le_read w64 s.args.exact (pos 2147483647) s.ranges.exact (sfits_lit tt) c.if-exact-le2147483647.true
 
-fits : (c : tie.Then2) → SFits w32 c.before.before.args.exact
+fits : (c : tie.Then-exact-le2147483647) → SFits w32 c.before.before.args.exact
 fits c = let z = c.before.before.args.exact in away-fit w32 z (omega (arith, leb-true (nat_abs z) 2147483647 (inside c), nat_abs-away z))
 
-cast-result : tie.Need-overflow-cast-result
+cast-result : tie.Need-overflow_cast-result
 cast-result c = simp (to_z-of_z c.before.before.ranges.exact) (fits c)
 
-returns-2 : tie.Need-returns-2
+returns-2 : tie.Need-returns-then-exact-le2147483647
 returns-2 c = simp (to_z-of_z c.before.before.ranges.exact, to_z-of_z (fits c), inside c)
 
-returns-3 : tie.Need-returns-3
-returns-3 c = let s = c.before.before in simp (rest c.before ∙ le_read w64 s.args.exact (pos 2147483647) s.ranges.exact (sfits_lit tt) c.if2.false)
+returns-3 : tie.Need-returns-else-exact-le2147483647
+returns-3 c = let s = c.before.before in simp (rest c.before ∙ le_read w64 s.args.exact (pos 2147483647) s.ranges.exact (sfits_lit tt) c.if-exact-le2147483647.false)
 
-pub fitted-spec : {M : Type 1} → statement M
-fitted-spec = tie.close (tie.spec returns cast-result returns-2 returns-3)
+pub fitted_spec : {M : Type 1} → statement M
+fitted_spec = tie.close (tie.spec returns cast-result returns-2 returns-3)
+

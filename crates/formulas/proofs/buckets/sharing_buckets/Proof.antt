@@ -13,46 +13,46 @@ use Rattle.formulas.proofs.Counting.{Passed, passed_none, passed-next, passed-al
 use Rattle.formulas.proofs.buckets.sharing_buckets.Statement.{statement}
 use Rattle.formulas.proofs.buckets.sharing_buckets.Tie as tie
 
-abbrev invariant-loop : tie.invariant-loop
+abbrev invariant-loop : tie.invariant-loop-i
 invariant-loop held counts n₀ i₀ i-end n i = (i ≤ length held) × Passed (λ x. leb 2 (places x held)) held i n
 
-abbrev decreases-loop : tie.decreases-loop
+abbrev decreases-loop : tie.decreases-loop-i
 decreases-loop held counts n₀ i₀ i-end n i = length held - i
 
-loop-holds : tie.Need-loop-init invariant-loop decreases-loop
+loop-holds : tie.Need-loop-i-init invariant-loop decreases-loop
 loop-holds c = (omega arith, passed_none)
 
-mul-held-twice : tie.Need-overflow-mul-held-twice invariant-loop decreases-loop
+mul-held-twice : tie.Need-offset_bounds-held-i invariant-loop decreases-loop
 mul-held-twice c = search rules
 
-shared-slice-copy-out-held-twice : tie.Need-shared-slice-copy-out-held-twice invariant-loop decreases-loop
+shared-slice-copy-out-held-twice : tie.Need-bounds-held-i invariant-loop decreases-loop
 shared-slice-copy-out-held-twice c = search rules
 
-held-twice-requires : tie.Need-held-twice-requires invariant-loop decreases-loop
+held-twice-requires : tie.Need-held_twice-requires invariant-loop decreases-loop
 held-twice-requires c κs = c.before.before.before.before.requires
 
-one-if-requires : tie.Need-one-if-requires invariant-loop decreases-loop
+one-if-requires : tie.Need-one_if-n-requires invariant-loop decreases-loop
 one-if-requires c κs = tt
 
-loop-again : tie.Need-loop-preserved invariant-loop decreases-loop
+loop-again : tie.Need-loop-i-preserved invariant-loop decreases-loop
 loop-again c =
     let held = c.before.before.before.before.before.before.args.held.now in
-    (omega arith, passed-next (pos 0) c.before.before.before.before.loop.invariant.1 c.before.before.before.loop-test.true (c.one-if.ensures ∙ ap (λ t. cond t 1 0) (c.before.held-twice.ensures ∙ ap (λ x. leb 2 (places x held)) (to_z-of_z (sfits_of c.before.before.held-twice-arg.given)))))
+    (omega arith, passed-next (pos 0) c.before.before.before.before.loop-i.invariant.1 c.before.before.before.loop-i-test.true (c.one_if-n.ensures ∙ ap (λ t. cond t 1 0) (c.before.held_twice.ensures ∙ ap (λ x. leb 2 (places x held)) (to_z-of_z (sfits_of c.before.before.held_twice-arg-1.given)))))
 
-add-n : tie.Need-overflow-add-n invariant-loop decreases-loop
+add-n : tie.Need-overflow_add-n invariant-loop decreases-loop
 add-n c = omega (arith, passed-most (loop-again c).1, c.before.before.before.before.before.before.requires.0)
 
-add-i : tie.Need-overflow-add-i invariant-loop decreases-loop
+add-i : tie.Need-overflow_step-i invariant-loop decreases-loop
 add-i c = search rules
 
-loop-less : tie.Need-loop-smaller invariant-loop decreases-loop
+loop-less : tie.Need-loop-i-smaller invariant-loop decreases-loop
 loop-less c = search rules
 
 returns : tie.Need-returns invariant-loop decreases-loop
-returns c = passed-all c.before.loop.invariant.1 c.loop-test.false
+returns c = passed-all c.before.loop-i.invariant.1 c.loop-i-test.false
 
-pub sharing-buckets-spec : {M : Type 1} → statement M
-sharing-buckets-spec =
+pub sharing_buckets_spec : {M : Type 1} → statement M
+sharing_buckets_spec =
     tie.close
     (tie.spec
     invariant-loop
@@ -67,3 +67,4 @@ sharing-buckets-spec =
     loop-less
     loop-again
     returns)
+

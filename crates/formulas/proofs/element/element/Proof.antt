@@ -34,52 +34,53 @@ other (pos n ∷ xs) h e = rw (add-one n)
 other (negsuc n ∷ xs) h e = absurd (true≢false e)
 
 -- ── the code ──
-input-requires : tie.Need-input-requires
+input-requires : tie.Need-input-index-requires
 input-requires c κs = c.before.requires
 
-index : (c : tie.After-input) → SFits w32 c.input.result
-index c = sfits_of c.input.type-inv
+index : (c : tie.After-input-index) → SFits w32 c.input-index.result
+index c = sfits_of c.input-index.type_inv
 
-sign : (c : tie.After-input) {t : Bool} → lt_z (to_z w32 (of_z w32 c.input.result)) (pos 0) ≡ t → lt_z c.input.result (pos 0) ≡ t
-sign c e = lt-read w32 c.input.result (pos 0) (index c) (sfits_lit tt) e
+sign : (c : tie.After-input-index) {t : Bool} → lt_z (to_z w32 (of_z w32 c.input-index.result)) (pos 0) ≡ t → lt_z c.input-index.result (pos 0) ≡ t
+sign c e = lt-read w32 c.input-index.result (pos 0) (index c) (sfits_lit tt) e
 
-returns : tie.Need-returns
+returns : tie.Need-returns-then-index-lt0
 returns c =
     let s = c.before.before.before in
-    sym (negative (inputs s.args.vars.now s.args.values.now) (rw c.before.input.ensures at (sign c.before c.if1.true)))
+    sym (negative (inputs s.args.vars.now s.args.values.now) (rw c.before.input-index.ensures at (sign c.before c.if-index-lt0.true)))
 
-chosen : (c : tie.Else1) → let s = c.before.before.before in let xs = inputs s.args.vars.now s.args.values.now in
-    element xs ≡ input_at xs (nat_abs (to_z w32 (of_z w32 c.before.input.result)) + 1)
+chosen : (c : tie.Else-index-lt0) → let s = c.before.before.before in let xs = inputs s.args.vars.now s.args.values.now in
+    element xs ≡ input_at xs (nat_abs (to_z w32 (of_z w32 c.before.input-index.result)) + 1)
 chosen c =
     let s = c.before.before.before in
     let xs = inputs s.args.vars.now s.args.values.now in
     let n = inputs-length s.args.vars.now s.args.values.now in
-    other xs (omega arith) (rw c.before.input.ensures at (sign c.before c.if1.false))
-    ∙ ap (λ z. input_at xs (nat_abs z + 1)) (sym (told w32 c.before.input.type-inv c.before.input.ensures))
+    other xs (omega arith) (rw c.before.input-index.ensures at (sign c.before c.if-index-lt0.false))
+    ∙ ap (λ z. input_at xs (nat_abs z + 1)) (sym (told w32 c.before.input-index.type_inv c.before.input-index.ensures))
 
-cast-place : tie.Need-overflow-cast-place
+cast-place : tie.Need-overflow_cast-place
 cast-place c =
     let f = index c.before in
-    simp (to_z-of_z f) (nat-of c.before.input.result (sign c.before c.if1.false), Fits-nat_abs {w = w32} {w' = w64} tt f)
+    simp (to_z-of_z f) (nat-of c.before.input-index.result (sign c.before c.if-index-lt0.false), Fits-nat_abs {w = w32} {w' = w64} tt f)
 
-add-place : tie.Need-overflow-add-place
+add-place : tie.Need-overflow_add-place
 add-place c =
-    let k = c.before.input.result in let f = index c.before in
+    let k = c.before.input-index.result in let f = index c.before in
     simp (to_z-of_z f) (omega (arith, nat_abs-away k, fits-away w32 k f))
 
-input-requires-2 : tie.Need-input-requires-2
-input-requires-2 c κs = (c.if2.true, c.before.before.before.before.requires.1)
+input-requires-2 : tie.Need-input-requires
+input-requires-2 c κs = (c.if-place-vars.true, c.before.before.before.before.requires.1)
 
-returns-2 : tie.Need-returns-2
-returns-2 c = told w32 c.input2.type-inv c.input2.ensures ∙ sym (chosen c.before.before)
+returns-2 : tie.Need-returns-then-place-vars
+returns-2 c = told w32 c.input.type_inv c.input.ensures ∙ sym (chosen c.before.before)
 
-returns-3 : tie.Need-returns-3
+returns-3 : tie.Need-returns-else-place-vars
 returns-3 c =
     let s = c.before.before.before.before in
     let xs = inputs s.args.vars.now s.args.values.now in
-    sym (chosen c.before ∙ get_or-eq_default xs blank (rw (inputs-length s.args.vars.now s.args.values.now) c.if2.false))
+    sym (chosen c.before ∙ get_or-eq_default xs blank (rw (inputs-length s.args.vars.now s.args.values.now) c.if-place-vars.false))
 
-pub element-spec : {M : Type 1} → statement M
-element-spec =
+pub element_spec : {M : Type 1} → statement M
+element_spec =
     tie.close
     (tie.spec input-requires returns cast-place add-place input-requires-2 returns-2 returns-3)
+

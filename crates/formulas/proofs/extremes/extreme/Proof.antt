@@ -12,55 +12,55 @@ use Rattle.formulas.proofs.Skipping.{Left, left-first, left-next, left-all}
 use Rattle.formulas.proofs.extremes.extreme.Statement.{statement}
 use Rattle.formulas.proofs.extremes.extreme.Tie as tie
 
-abbrev invariant-loop : tie.invariant-loop
+abbrev invariant-loop : tie.invariant-loop-i
 invariant-loop max vars values below left₀ i₀ left i = Left max vars values i (to_z w32 left)
 
-abbrev decreases-loop : tie.decreases-loop
+abbrev decreases-loop : tie.decreases-loop-i
 decreases-loop max vars values below left₀ i₀ left i = length vars - i
 
 input-requires : tie.Need-input-requires invariant-loop decreases-loop
 input-requires c κs = c.before.requires
 
-standing-requires : tie.Need-standing-requires invariant-loop decreases-loop
+standing-requires : tie.Need-standing-left-requires invariant-loop decreases-loop
 standing-requires c κs = tt
 
-loop-holds : tie.Need-loop-init invariant-loop decreases-loop
+loop-holds : tie.Need-loop-i-init invariant-loop decreases-loop
 loop-holds c =
     let x = c.before.input in
-    let f : SFits w32 x.result = sfits_of x.type-inv in
-    left-first c.before.before.before.requires.0 f x.ensures (told w32 c.standing.type-inv (simp (to_z-of_z f) at c.standing.ensures))
+    let f : SFits w32 x.result = sfits_of x.type_inv in
+    left-first c.before.before.before.requires.0 f x.ensures (told w32 c.standing-left.type_inv (simp (to_z-of_z f) at c.standing-left.ensures))
 
-input-requires-2 : tie.Need-input-requires-2 invariant-loop decreases-loop
-input-requires-2 c κs = (c.loop-test.true, c.before.before.before.before.before.requires.1)
+input-requires-2 : tie.Need-input-requires-in-loop-i invariant-loop decreases-loop
+input-requires-2 c κs = (c.loop-i-test.true, c.before.before.before.before.before.requires.1)
 
-standing-requires-2 : tie.Need-standing-requires-2 invariant-loop decreases-loop
+standing-requires-2 : tie.Need-standing-requires invariant-loop decreases-loop
 standing-requires-2 c κs = tt
 
-one-of-requires : tie.Need-one-of-requires invariant-loop decreases-loop
+one-of-requires : tie.Need-one_of-left-requires invariant-loop decreases-loop
 one-of-requires c κs = tt
 
-add-i : tie.Need-overflow-add-i invariant-loop decreases-loop
+add-i : tie.Need-overflow_add-i invariant-loop decreases-loop
 add-i c = omega arith
 
-loop-less : tie.Need-loop-smaller invariant-loop decreases-loop
+loop-less : tie.Need-loop-i-smaller invariant-loop decreases-loop
 loop-less c = omega arith
 
-loop-again : tie.Need-loop-preserved invariant-loop decreases-loop
+loop-again : tie.Need-loop-i-preserved invariant-loop decreases-loop
 loop-again c =
-    let x = c.before.before.input2 in
-    let s = c.before.standing2 in
-    let f : SFits w32 x.result = sfits_of x.type-inv in
-    left-next c.before.before.before.before.loop.invariant c.before.before.before.loop-test.true f x.ensures
-    (told w32 c.one-of.type-inv (simp (told w32 s.type-inv s.ensures, to_z-of_z f) at c.one-of.ensures))
+    let x = c.before.before.input-in-loop-i in
+    let s = c.before.standing in
+    let f : SFits w32 x.result = sfits_of x.type_inv in
+    left-next c.before.before.before.before.loop-i.invariant c.before.before.before.loop-i-test.true f x.ensures
+    (told w32 c.one_of-left.type_inv (simp (told w32 s.type_inv s.ensures, to_z-of_z f) at c.one_of-left.ensures))
 
-stood-for-requires : tie.Need-stood-for-requires invariant-loop decreases-loop
+stood-for-requires : tie.Need-stood_for-requires invariant-loop decreases-loop
 stood-for-requires c κs = tt
 
 returns : tie.Need-returns invariant-loop decreases-loop
-returns c = told w32 c.stood-for.type-inv (c.stood-for.ensures ∙ left-all c.before.before.loop.invariant c.before.loop-test.false)
+returns c = told w32 c.stood_for.type_inv (c.stood_for.ensures ∙ left-all c.before.before.loop-i.invariant c.before.loop-i-test.false)
 
-pub extreme-spec : {M : Type 1} → statement M
-extreme-spec =
+pub extreme_spec : {M : Type 1} → statement M
+extreme_spec =
     tie.close
     (tie.spec
     invariant-loop
@@ -76,3 +76,4 @@ extreme-spec =
     loop-again
     stood-for-requires
     returns)
+

@@ -17,27 +17,28 @@ use Rattle.formulas.proofs.extremes.standing.Tie as tie
 less : (x : ℤ) → HasValue x → SFits w32 (x -ℤ pos 1)
 less x v = let d = dif-parts x (pos 1) in parts-fit w32 (x -ℤ pos 1) (omega (arith, v.high)) (omega (arith, v.low))
 
-returns : tie.Need-returns
-returns c = simp (c.if1.true, to_z-of_z c.before.ranges.x)
+returns : tie.Need-returns-then-below
+returns c = simp (c.if-below.true, to_z-of_z c.before.ranges.x)
 
-is-blank-requires : tie.Need-is-blank-requires
+is-blank-requires : tie.Need-is_blank-requires
 is-blank-requires c κs = search rules
 
-test : (c : tie.After-is-blank) → eq_z c.before.before.args.x blank ≡ c.is-blank.result
-test c = sym (simp (to_z-of_z c.before.before.ranges.x) at c.is-blank.ensures)
+test : (c : tie.After-is_blank) → eq_z c.before.before.args.x blank ≡ c.is_blank.result
+test c = sym (simp (to_z-of_z c.before.before.ranges.x) at c.is_blank.ensures)
 
-sub-result : tie.Need-overflow-sub-result
+sub-result : tie.Need-overflow_sub-result
 sub-result c =
     let s = c.before.before.before in
-    simp (to_z-of_z s.ranges.x) (less s.args.x (has_value s.args.x s.ranges.x (test c.before ∙ c.if2.false)))
+    simp (to_z-of_z s.ranges.x) (less s.args.x (has_value s.args.x s.ranges.x (test c.before ∙ c.if-is_blank.false)))
 
-returns-2 : tie.Need-returns-2
-returns-2 c = simp (c.before.before.if1.false, test c.before ∙ c.if2.true)
+returns-2 : tie.Need-returns-then-is_blank
+returns-2 c = simp (c.before.before.if-below.false, test c.before ∙ c.if-is_blank.true)
 
-returns-3 : tie.Need-returns-3
+returns-3 : tie.Need-returns-else-is_blank
 returns-3 c =
     let s = c.before.before.before in
-    to_z-of_z (sub-result c) ∙ simp (c.before.before.if1.false, test c.before ∙ c.if2.false, to_z-of_z s.ranges.x)
+    to_z-of_z (sub-result c) ∙ simp (c.before.before.if-below.false, test c.before ∙ c.if-is_blank.false, to_z-of_z s.ranges.x)
 
-pub standing-spec : {M : Type 1} → statement M
-standing-spec = tie.close (tie.spec returns is-blank-requires sub-result returns-2 returns-3)
+pub standing_spec : {M : Type 1} → statement M
+standing_spec = tie.close (tie.spec returns is-blank-requires sub-result returns-2 returns-3)
+

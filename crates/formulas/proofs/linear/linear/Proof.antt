@@ -16,89 +16,89 @@ use Rattle.formulas.proofs.Sums.{Summed, summed-none, summed-next, summed-all, t
 use Rattle.formulas.proofs.linear.linear.Statement.{statement}
 use Rattle.formulas.proofs.linear.linear.Tie as tie
 
-abbrev invariant-loop : tie.invariant-loop
+abbrev invariant-loop : tie.invariant-loop-i
 invariant-loop param coefs vars values sum₀ blank₀ i₀ sum blank i = Summed (to_z w32 param) coefs vars values i blank (to_z w64 sum)
 
-abbrev decreases-loop : tie.decreases-loop
+abbrev decreases-loop : tie.decreases-loop-i
 decreases-loop param coefs vars values sum₀ blank₀ i₀ sum blank i = length vars - i
 
-cast-sum : tie.Need-overflow-cast-sum invariant-loop decreases-loop
+cast-sum : tie.Need-overflow_cast-sum invariant-loop decreases-loop
 cast-sum c = cast_fits w32 tt c.before.ranges.param
 
-loop-holds : tie.Need-loop-init invariant-loop decreases-loop
+loop-holds : tie.Need-loop-i-init invariant-loop decreases-loop
 loop-holds c = let f = c.before.ranges.param in summed-none (rw (to_z-of_z f) f) (to_z-of_z (cast_fits w32 tt f))
 
-input-requires : tie.Need-input-requires invariant-loop decreases-loop
-input-requires c κs = (c.loop-test.true, c.before.before.before.requires.1)
+input-requires : tie.Need-input-x-requires invariant-loop decreases-loop
+input-requires c κs = (c.loop-i-test.true, c.before.before.before.requires.1)
 
-is-blank-requires : tie.Need-is-blank-requires invariant-loop decreases-loop
+is-blank-requires : tie.Need-is_blank-blank-requires invariant-loop decreases-loop
 is-blank-requires c κs = search rules
 
 -- the input at i
-abbrev x : tie.After-is-blank invariant-loop decreases-loop → ℤ
-x c = let s = c.before.before.before.before.before in input_at (inputs s.args.vars.now s.args.values.now) c.before.before.before.loop.i
+abbrev x : tie.After-is_blank-blank invariant-loop decreases-loop → ℤ
+x c = let s = c.before.before.before.before.before in input_at (inputs s.args.vars.now s.args.values.now) c.before.before.before.loop-i.i
 
-test : (c : tie.After-is-blank invariant-loop decreases-loop) → c.is-blank.result ≡ eq_z (x c) blank
-test c = let r = c.before.input in simp (told w32 r.type-inv r.ensures) at c.is-blank.ensures
+test : (c : tie.After-is_blank-blank invariant-loop decreases-loop) → c.is_blank-blank.result ≡ eq_z (x c) blank
+test c = let r = c.before.input-x in simp (told w32 r.type_inv r.ensures) at c.is_blank-blank.ensures
 
-mul-coef : tie.Need-overflow-mul-coef invariant-loop decreases-loop
-mul-coef c = omega (arith, c.before.before.before.before.before.well-formed)
+mul-coef : tie.Need-offset_bounds-coefs-i invariant-loop decreases-loop
+mul-coef c = omega (arith, c.before.before.before.before.before.well_formed)
 
-shared-slice-copy-out-coef : tie.Need-shared-slice-copy-out-coef invariant-loop decreases-loop
+shared-slice-copy-out-coef : tie.Need-bounds-coefs-i invariant-loop decreases-loop
 shared-slice-copy-out-coef c = omega arith
 
 -- the coefficient at i
-abbrev k : tie.After-coef invariant-loop decreases-loop → ℤ
-k c = get_or c.before.before.before.before.before.before.args.coefs.now c.before.before.before.before.loop.i (pos 0)
+abbrev k : tie.After-coef-1 invariant-loop decreases-loop → ℤ
+k c = get_or c.before.before.before.before.before.before.args.coefs.now c.before.before.before.before.loop-i.i (pos 0)
 
-k-fits : (c : tie.After-coef invariant-loop decreases-loop) → SFits w16 (k c)
-k-fits c = sfits_of c.coef.given
+k-fits : (c : tie.After-coef-1 invariant-loop decreases-loop) → SFits w16 (k c)
+k-fits c = sfits_of c.coef-1.given
 
-cast-plus-product : tie.Need-overflow-cast-plus-product invariant-loop decreases-loop
+cast-plus-product : tie.Need-overflow_cast-coef invariant-loop decreases-loop
 cast-plus-product c = cast_fits w16 tt (k-fits c)
 
-x_fits : (c : tie.After-coef invariant-loop decreases-loop) → SFits w32 c.before.before.input.result
-x_fits c = sfits_of c.before.before.input.type-inv
+x_fits : (c : tie.After-coef-1 invariant-loop decreases-loop) → SFits w32 c.before.before.input-x.result
+x_fits c = sfits_of c.before.before.input-x.type_inv
 
-x-is : (c : tie.After-coef invariant-loop decreases-loop) → to_z w64 (of_z w64 (to_z w32 (of_z w32 c.before.before.input.result))) ≡ x c.before
-x-is c = cast_is w32 tt (x_fits c) ∙ c.before.before.input.ensures
+x-is : (c : tie.After-coef-1 invariant-loop decreases-loop) → to_z w64 (of_z w64 (to_z w32 (of_z w32 c.before.before.input-x.result))) ≡ x c.before
+x-is c = cast_is w32 tt (x_fits c) ∙ c.before.before.input-x.ensures
 
-cast-plus-product-2 : tie.Need-overflow-cast-plus-product-2 invariant-loop decreases-loop
+cast-plus-product-2 : tie.Need-overflow_cast-x invariant-loop decreases-loop
 cast-plus-product-2 c = cast_fits w32 tt (x_fits c)
 
-room : (c : tie.After-coef invariant-loop decreases-loop) → away (k c *ℤ x c.before) ≤ 70368744177664
-room c = term-room (k c) (x c.before) (k-fits c) (rw c.before.before.input.ensures at (x_fits c))
+room : (c : tie.After-coef-1 invariant-loop decreases-loop) → away (k c *ℤ x c.before) ≤ 70368744177664
+room c = term-room (k c) (x c.before) (k-fits c) (rw c.before.before.input-x.ensures at (x_fits c))
 
-plus-product-requires : tie.Need-plus-product-requires invariant-loop decreases-loop
-plus-product-requires c κs = simp (cast_is w16 tt (k-fits c), x-is c) (omega (arith, room c, c.before.before.before.before.loop.invariant.room))
+plus-product-requires : tie.Need-plus_product-sum-requires invariant-loop decreases-loop
+plus-product-requires c κs = simp (cast_is w16 tt (k-fits c), x-is c) (omega (arith, room c, c.before.before.before.before.loop-i.invariant.room))
 
-add-i : tie.Need-overflow-add-i invariant-loop decreases-loop
+add-i : tie.Need-overflow_add-i invariant-loop decreases-loop
 add-i c = omega arith
 
-loop-less : tie.Need-loop-smaller invariant-loop decreases-loop
+loop-less : tie.Need-loop-i-smaller invariant-loop decreases-loop
 loop-less c = omega arith
 
-loop-again : tie.Need-loop-preserved invariant-loop decreases-loop
+loop-again : tie.Need-loop-i-preserved invariant-loop decreases-loop
 loop-again c =
     let a = c.before in
-    summed-next a.before.before.before.before.loop.invariant (omega arith) a.before.before.before.loop-test.true (test a.before)
-    (told w64 c.plus-product.type-inv (simp (cast_is w16 tt (k-fits a), x-is a) at c.plus-product.ensures))
+    summed-next a.before.before.before.before.loop-i.invariant (omega arith) a.before.before.before.loop-i-test.true (test a.before)
+    (told w64 c.plus_product-sum.type_inv (simp (cast_is w16 tt (k-fits a), x-is a) at c.plus_product-sum.ensures))
     (room a)
 
-returns : tie.Need-returns invariant-loop decreases-loop
-returns c = simp ((summed-all c.before.before.loop.invariant c.before.loop-test.false).0 ∙ c.if1.true)
+returns : tie.Need-returns-then-blank invariant-loop decreases-loop
+returns c = simp ((summed-all c.before.before.loop-i.invariant c.before.loop-i-test.false).0 ∙ c.if-blank.true)
 
 fitted-requires : tie.Need-fitted-requires invariant-loop decreases-loop
 fitted-requires c κs = search rules
 
-returns-2 : tie.Need-returns-2 invariant-loop decreases-loop
+returns-2 : tie.Need-returns invariant-loop decreases-loop
 returns-2 c =
     let s = c.before.before.before.before.before in
-    let e = summed-all c.before.before.before.loop.invariant c.before.before.loop-test.false in
-    simp (e.0 ∙ c.before.if1.false) (told w32 c.fitted.type-inv (c.fitted.ensures ∙ ap fit e.1 ∙ simp (to_z-of_z s.ranges.param)))
+    let e = summed-all c.before.before.before.loop-i.invariant c.before.before.loop-i-test.false in
+    simp (e.0 ∙ c.before.if-blank.false) (told w32 c.fitted.type_inv (c.fitted.ensures ∙ ap fit e.1 ∙ simp (to_z-of_z s.ranges.param)))
 
-pub linear-spec : {M : Type 1} → statement M
-linear-spec =
+pub linear_spec : {M : Type 1} → statement M
+linear_spec =
     tie.close
     (tie.spec
     invariant-loop
@@ -118,3 +118,4 @@ linear-spec =
     returns
     fitted-requires
     returns-2)
+

@@ -12,39 +12,39 @@ use Rattle.formulas.proofs.Reading.{two-blank}
 use Rattle.formulas.proofs.over.over.Statement.{statement}
 use Rattle.formulas.proofs.over.over.Tie as tie
 
-input-requires : tie.Need-input-requires
+input-requires : tie.Need-input-a-requires
 input-requires c κs = (omega (arith, c.before.requires.0), c.before.requires.1)
 
-input-requires-2 : tie.Need-input-requires-2
+input-requires-2 : tie.Need-input-b-requires
 input-requires-2 c κs = (omega (arith, c.before.before.requires.0), c.before.before.requires.1)
 
-is-blank-requires : tie.Need-is-blank-requires
+is-blank-requires : tie.Need-is_blank-requires
 is-blank-requires c κs = search rules
 
-is-blank-requires-2 : tie.Need-is-blank-requires-2
+is-blank-requires-2 : tie.Need-is_blank-requires-2
 is-blank-requires-2 c κs = search rules
 
 -- what is tested
-test : (c : tie.After-is-blank2) → let a = c.before.before.before.before.before.args in (c.before.is-blank.result || c.is-blank2.result) ≡ some_blank (inputs a.vars.now a.values.now)
+test : (c : tie.After-is_blank-2) → let a = c.before.before.before.before.before.args in (c.before.is_blank.result || c.is_blank-2.result) ≡ some_blank (inputs a.vars.now a.values.now)
 test c =
-    let s = c.before.before.before.before.before in let a = c.before.before.before.input in let b = c.before.before.input2 in
-    ap₂ ◌||◌ (c.before.is-blank.ensures ∙ ap (λ x. eq_z x blank) (told w32 a.type-inv a.ensures)) (c.is-blank2.ensures ∙ ap (λ x. eq_z x blank) (told w32 b.type-inv b.ensures))
+    let s = c.before.before.before.before.before in let a = c.before.before.before.input-a in let b = c.before.before.input-b in
+    ap₂ ◌||◌ (c.before.is_blank.ensures ∙ ap (λ x. eq_z x blank) (told w32 a.type_inv a.ensures)) (c.is_blank-2.ensures ∙ ap (λ x. eq_z x blank) (told w32 b.type_inv b.ensures))
     ∙ two-blank s.args.vars.now s.args.values.now s.requires.0
 
-returns : tie.Need-returns
-returns c = simp (sym (test c.before) ∙ c.if1.true)
+returns : tie.Need-returns-then-is_blank
+returns c = simp (sym (test c.before) ∙ c.if-is_blank.true)
 
 excess-requires : tie.Need-excess-requires
 excess-requires c κs = search rules
 
 result : (c : tie.After-excess) → let a = c.before.before.before.before.before.before.before.args in let xs = inputs a.vars.now a.values.now in c.excess.result ≡ excess (input_at xs 0) (input_at xs 1)
-result c = let a = c.before.before.before.before.before.input in let b = c.before.before.before.before.input2 in simp (told w32 a.type-inv a.ensures, told w32 b.type-inv b.ensures) at c.excess.ensures
+result c = let a = c.before.before.before.before.before.input-a in let b = c.before.before.before.before.input-b in simp (told w32 a.type_inv a.ensures, told w32 b.type_inv b.ensures) at c.excess.ensures
 
-returns-2 : tie.Need-returns-2
-returns-2 c = simp (sym (test c.before.before) ∙ c.before.if1.false) (told w32 c.excess.type-inv (result c))
+returns-2 : tie.Need-returns
+returns-2 c = simp (sym (test c.before.before) ∙ c.before.if-is_blank.false) (told w32 c.excess.type_inv (result c))
 
-pub over-spec : {M : Type 1} → statement M
-over-spec =
+pub over_spec : {M : Type 1} → statement M
+over_spec =
     tie.close
     (tie.spec
     input-requires
@@ -54,3 +54,4 @@ over-spec =
     returns
     excess-requires
     returns-2)
+

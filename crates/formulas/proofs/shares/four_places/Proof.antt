@@ -11,127 +11,127 @@ use Rattle.formulas.proofs.Pairs.{turned-most, turned-four}
 use Rattle.formulas.proofs.shares.four_places.Statement.{statement}
 use Rattle.formulas.proofs.shares.four_places.Tie as tie
 
-mul-a : tie.Need-overflow-mul-a
+mul-a : tie.Need-offset_bounds-held-i
 mul-a c = search rules
 
-shared-slice-copy-out-a : tie.Need-shared-slice-copy-out-a
+shared-slice-copy-out-a : tie.Need-bounds-held-i
 shared-slice-copy-out-a c = search rules
 
-add-b : tie.Need-overflow-add-b
+add-b : tie.Need-overflow_add-b
 add-b c = search rules
 
-mul-b : tie.Need-overflow-mul-b
+mul-b : tie.Need-offset_bounds-held-i-2
 mul-b c = search rules
 
-shared-slice-copy-out-b : tie.Need-shared-slice-copy-out-b
+shared-slice-copy-out-b : tie.Need-bounds-held-i-2
 shared-slice-copy-out-b c = search rules
 
-add-c : tie.Need-overflow-add-c
+add-c : tie.Need-overflow_add-c
 add-c c = search rules
 
-mul-c : tie.Need-overflow-mul-c
+mul-c : tie.Need-offset_bounds-held-i-3
 mul-c c = search rules
 
-shared-slice-copy-out-c : tie.Need-shared-slice-copy-out-c
+shared-slice-copy-out-c : tie.Need-bounds-held-i-3
 shared-slice-copy-out-c c = search rules
 
-add-d : tie.Need-overflow-add-d
+add-d : tie.Need-overflow_add-d
 add-d c = search rules
 
-mul-d : tie.Need-overflow-mul-d
+mul-d : tie.Need-offset_bounds-held-i-4
 mul-d c = search rules
 
-shared-slice-copy-out-d : tie.Need-shared-slice-copy-out-d
+shared-slice-copy-out-d : tie.Need-bounds-held-i-4
 shared-slice-copy-out-d c = search rules
 
-mul-mark-a : tie.Need-overflow-mul-mark-a
+mul-mark-a : tie.Need-offset_bounds-marks-i
 mul-mark-a c = search rules
 
-slice-read-mark-a : tie.Need-slice-read-mark-a
+slice-read-mark-a : tie.Need-bounds-marks-i
 slice-read-mark-a c = search rules
 
-add-mark-b : tie.Need-overflow-add-mark-b
+add-mark-b : tie.Need-overflow_add-mark_b
 add-mark-b c = search rules
 
-mul-mark-b : tie.Need-overflow-mul-mark-b
+mul-mark-b : tie.Need-offset_bounds-marks-i-2
 mul-mark-b c = search rules
 
-slice-read-mark-b : tie.Need-slice-read-mark-b
+slice-read-mark-b : tie.Need-bounds-marks-i-2
 slice-read-mark-b c = search rules
 
-add-mark-c : tie.Need-overflow-add-mark-c
+add-mark-c : tie.Need-overflow_add-mark_c
 add-mark-c c = search rules
 
-mul-mark-c : tie.Need-overflow-mul-mark-c
+mul-mark-c : tie.Need-offset_bounds-marks-i-3
 mul-mark-c c = search rules
 
-slice-read-mark-c : tie.Need-slice-read-mark-c
+slice-read-mark-c : tie.Need-bounds-marks-i-3
 slice-read-mark-c c = search rules
 
-add-mark-d : tie.Need-overflow-add-mark-d
+add-mark-d : tie.Need-overflow_add-mark_d
 add-mark-d c = search rules
 
-mul-mark-d : tie.Need-overflow-mul-mark-d
+mul-mark-d : tie.Need-offset_bounds-marks-i-4
 mul-mark-d c = search rules
 
-slice-read-mark-d : tie.Need-slice-read-mark-d
+slice-read-mark-d : tie.Need-bounds-marks-i-4
 slice-read-mark-d c = search rules
 
-add-mark-four : tie.Need-overflow-add-mark-four
+add-mark-four : tie.Need-overflow_add-i
 add-mark-four c = search rules
 
-mark-four-requires : tie.Need-mark-four-requires
+mark-four-requires : tie.Need-mark_four-later-requires
 mark-four-requires c κs = search rules
 
-one-of-four-requires : tie.Need-one-of-four-requires
+one-of-four-requires : tie.Need-one_of_four-one_a-requires
 one-of-four-requires c κs = tt
 
-one-of-four-requires-2 : tie.Need-one-of-four-requires-2
+one-of-four-requires-2 : tie.Need-one_of_four-one_b-requires
 one-of-four-requires-2 c κs = tt
 
-one-of-four-requires-3 : tie.Need-one-of-four-requires-3
+one-of-four-requires-3 : tie.Need-one_of_four-one_c-requires
 one-of-four-requires-3 c κs = tt
 
-one-of-four-requires-4 : tie.Need-one-of-four-requires-4
+one-of-four-requires-4 : tie.Need-one_of_four-one_d-requires
 one-of-four-requires-4 c κs = tt
 
 returns : tie.Need-returns
 returns c =
-    let m = c.before.before.before.before.before.before in let told = m.mark-four.ensures in let d = m.before.before.before.before.before.before in
+    let m = c.before.before.before.before.before.before in let told = m.mark_four-later.ensures in let d = m.before.before.before.before.before.before in
     let s = d.before.before.before.before.before in let held = s.args.held.now in let i = s.args.i in
-    let fa : SFits w32 (get_or held i (pos 0)) = sfits_of d.before.before.before.a.given in
-    let fb : SFits w32 (get_or held (i + 1) (pos 0)) = sfits_of d.before.before.b.given in
-    let fc : SFits w32 (get_or held (i + 2) (pos 0)) = sfits_of d.before.c.given in
-    let fd : SFits w32 (get_or held (i + 3) (pos 0)) = sfits_of d.d.given in
+    let fa : SFits w32 (get_or held i (pos 0)) = sfits_of d.before.before.before.a-1.given in
+    let fb : SFits w32 (get_or held (i + 1) (pos 0)) = sfits_of d.before.before.b-1.given in
+    let fc : SFits w32 (get_or held (i + 2) (pos 0)) = sfits_of d.before.c-1.given in
+    let fd : SFits w32 (get_or held (i + 3) (pos 0)) = sfits_of d.d-1.given in
     turned-four held s.requires.2 s.requires.0 (to_z-of_z fa) (to_z-of_z fb) (to_z-of_z fc) (to_z-of_z fd) (
       told.0,
       told.1,
       told.2,
       told.3,
       told.4,
-      c.before.before.before.one-of-four.ensures,
-      c.before.before.one-of-four2.ensures,
-      c.before.one-of-four3.ensures,
-      c.one-of-four4.ensures,
+      c.before.before.before.one_of_four-one_a.ensures,
+      c.before.before.one_of_four-one_b.ensures,
+      c.before.one_of_four-one_c.ensures,
+      c.one_of_four-one_d.ensures,
     )
 
-add-result : tie.Need-overflow-add-result
+add-result : tie.Need-overflow_add-result
 add-result c = omega (arith, turned-most _ (returns c), c.before.before.before.before.before.before.before.before.before.before.before.before.before.before.before.before.before.requires.1)
 
-add-result-2 : tie.Need-overflow-add-result-2
+add-result-2 : tie.Need-overflow_add-result-2
 add-result-2 c = omega (arith, turned-most _ (returns c), c.before.before.before.before.before.before.before.before.before.before.before.before.before.before.before.before.before.requires.1)
 
-add-result-3 : tie.Need-overflow-add-result-3
+add-result-3 : tie.Need-overflow_add-result-3
 add-result-3 c = omega (arith, turned-most _ (returns c), c.before.before.before.before.before.before.before.before.before.before.before.before.before.before.before.before.before.requires.1)
 
-add-result-4 : tie.Need-overflow-add-result-4
+add-result-4 : tie.Need-overflow_add-result-4
 add-result-4 c = omega (arith, turned-most _ (returns c), c.before.before.before.before.before.before.before.before.before.before.before.before.before.before.before.before.before.requires.1)
 
-same_length : tie.Need-same-length
+same_length : tie.Need-shape_of-marks
 same_length c = search rules
 
-pub four-places-spec : {M : Type 1} → statement M
-four-places-spec =
+pub four_places_spec : {M : Type 1} → statement M
+four_places_spec =
     tie.close
     (tie.spec
     mul-a
@@ -168,3 +168,4 @@ four-places-spec =
     add-result-4
     same_length
     returns)
+

@@ -12,18 +12,18 @@ use Rattle.formulas.proofs.Times.{trips-most, last-is, last_fits}
 use Rattle.formulas.proofs.windows.latest.Statement.{statement}
 use Rattle.formulas.proofs.windows.latest.Tie as tie
 
-times-before-requires : tie.Need-times-before-requires
+times-before-requires : tie.Need-times_before-n-requires
 times-before-requires c κs = simp (to_z-of_z c.ranges.headway) c.requires
 
-number : (c : tie.After-times-before) → c.times-before.result ≡ trips c.before.args.start c.before.args.end c.before.args.headway
+number : (c : tie.After-times_before-n) → c.times_before-n.result ≡ trips c.before.args.start c.before.args.end c.before.args.headway
 number c =
     let s = c.before in
-    simp (to_z-of_z s.ranges.start, to_z-of_z s.ranges.end, to_z-of_z s.ranges.headway) at c.times-before.ensures
+    simp (to_z-of_z s.ranges.start, to_z-of_z s.ranges.end, to_z-of_z s.ranges.headway) at c.times_before-n.ensures
 
-returns : tie.Need-returns
-returns c = let s = c.before.before in sym (last-of s.args.start s.args.end s.args.headway s.requires 0 (sym (number c.before) ∙ c.if1.true))
+returns : tie.Need-returns-then-n-eq0
+returns c = let s = c.before.before in sym (last-of s.args.start s.args.end s.args.headway s.requires 0 (sym (number c.before) ∙ c.if-n-eq0.true))
 
-sub-time : tie.Need-overflow-sub-time
+sub-time : tie.Need-overflow_sub-n
 sub-time c = search rules
 
 time-requires : tie.Need-time-requires
@@ -37,21 +37,21 @@ latest-is : (c : tie.After-time) → let a = c.before.before.before.args in to_z
 latest-is c =
     let e = c.before in
     let s = e.before.before in
-    told w64 c.time.type-inv
+    told w64 c.time.type_inv
     (simp (to_z-of_z s.ranges.start, to_z-of_z s.ranges.headway) at c.time.ensures
-    ∙ last-is s.args.start s.args.end s.args.headway e.before.times-before.result s.requires (number e.before) e.if1.false)
+    ∙ last-is s.args.start s.args.end s.args.headway e.before.times_before-n.result s.requires (number e.before) e.if-n-eq0.false)
 
 fits : (c : tie.After-time) → let a = c.before.before.before.args in SFits w32 (last a.start a.end a.headway)
 fits c = let s = c.before.before.before in last_fits s.args.start s.args.end s.args.headway s.ranges.start s.ranges.end
 
-cast-result : tie.Need-overflow-cast-result
+cast-result : tie.Need-overflow_cast-result
 cast-result c = rw (latest-is c) (fits c)
 
-returns-2 : tie.Need-returns-2
+returns-2 : tie.Need-returns
 returns-2 c = rw (latest-is c) (to_z-of_z (fits c))
 
-pub latest-spec : {M : Type 1} → statement M
-latest-spec =
+pub latest_spec : {M : Type 1} → statement M
+latest_spec =
     tie.close
     (tie.spec
     times-before-requires
@@ -60,3 +60,4 @@ latest-spec =
     time-requires
     cast-result
     returns-2)
+

@@ -20,51 +20,51 @@ no-headway : (b : Bool) (s e h : ℤ) → le_z h (pos 0) ≡ true → blank ≡ 
 no-headway true s e h q = simp q
 no-headway false s e h q = simp q
 
-returns : tie.Need-returns
-returns c = let s = c.before in no-headway s.args.last _ _ _ (le_read w32 s.args.headway (pos 0) s.ranges.headway (sfits_lit tt) c.if1.true)
+returns : tie.Need-returns-then-headway-le0
+returns c = let s = c.before in no-headway s.args.last _ _ _ (le_read w32 s.args.headway (pos 0) s.ranges.headway (sfits_lit tt) c.if-headway-le0.true)
 
-above : (c : tie.Else1) → le_z c.before.args.headway (pos 0) ≡ false
-above c = let s = c.before in le_read w32 s.args.headway (pos 0) s.ranges.headway (sfits_lit tt) c.if1.false
+above : (c : tie.Else-headway-le0) → le_z c.before.args.headway (pos 0) ≡ false
+above c = let s = c.before in le_read w32 s.args.headway (pos 0) s.ranges.headway (sfits_lit tt) c.if-headway-le0.false
 
-positive : (c : tie.Else1) → lt_z (pos 0) (to_z w32 (of_z w32 c.before.args.headway)) ≡ true
+positive : (c : tie.Else-headway-le0) → lt_z (pos 0) (to_z w32 (of_z w32 c.before.args.headway)) ≡ true
 positive c = rw (to_z-of_z c.before.ranges.headway) (le-lt c.before.args.headway (pos 0) (above c))
 
 latest-requires : tie.Need-latest-requires
 latest-requires c κs = positive c.before
 
-returns-2 : tie.Need-returns-2
+returns-2 : tie.Need-returns-then-last
 returns-2 c =
     let s = c.before.before.before in
-    simp c.before.if2.true (told w32 c.latest.type-inv (simp (to_z-of_z s.ranges.start, to_z-of_z s.ranges.end, to_z-of_z s.ranges.headway) at c.latest.ensures))
+    simp c.before.if-last.true (told w32 c.latest.type_inv (simp (to_z-of_z s.ranges.start, to_z-of_z s.ranges.end, to_z-of_z s.ranges.headway) at c.latest.ensures))
 
-times-before-requires : tie.Need-times-before-requires
+times-before-requires : tie.Need-times_before-requires
 times-before-requires c κs = positive c.before
 
-number : (c : tie.After-times-before) → let a = c.before.before.before.args in c.times-before.result ≡ trips a.start a.end a.headway
+number : (c : tie.After-times_before) → let a = c.before.before.before.args in c.times_before.result ≡ trips a.start a.end a.headway
 number c =
     let s = c.before.before.before in
-    simp (to_z-of_z s.ranges.start, to_z-of_z s.ranges.end, to_z-of_z s.ranges.headway) at c.times-before.ensures
+    simp (to_z-of_z s.ranges.start, to_z-of_z s.ranges.end, to_z-of_z s.ranges.headway) at c.times_before.ensures
 
-few : (c : tie.After-times-before) → c.times-before.result < 9223372036854775808
+few : (c : tie.After-times_before) → c.times_before.result < 9223372036854775808
 few c =
     let s = c.before.before.before in
     let l = le-lt s.args.headway (pos 0) (above c.before.before) in
     omega (arith, number c, trips-most s.args.start s.args.end s.args.headway s.ranges.start s.ranges.end l)
 
-cast-fitted : tie.Need-overflow-cast-fitted
+cast-fitted : tie.Need-overflow_cast-times_before
 cast-fitted c = sfits_of (few c)
 
 fitted-requires : tie.Need-fitted-requires
 fitted-requires c κs = search rules
 
-returns-3 : tie.Need-returns-3
+returns-3 : tie.Need-returns
 returns-3 c =
     let t = c.before in
-    simp (t.before.if2.false, above t.before.before)
-    (told w32 c.fitted.type-inv (c.fitted.ensures ∙ ap fit (to_z_pos w64 (few t) ∙ ap pos (number t))))
+    simp (t.before.if-last.false, above t.before.before)
+    (told w32 c.fitted.type_inv (c.fitted.ensures ∙ ap fit (to_z_pos w64 (few t) ∙ ap pos (number t))))
 
-pub window-value-spec : {M : Type 1} → statement M
-window-value-spec =
+pub window_value_spec : {M : Type 1} → statement M
+window_value_spec =
     tie.close
     (tie.spec
     returns
@@ -74,3 +74,4 @@ window-value-spec =
     cast-fitted
     fitted-requires
     returns-3)
+

@@ -3,11 +3,7 @@ use lib.IntN.{negsuc}
 use mir.Syntax.{w32}
 use mir.Facts.{sfits_lit}
 use Rattle.integers.proofs.Bits.{eqb-bits}
-use Rattle.formulas.proofs.blanks.is_blank.Statement.{statement}
-use Rattle.formulas.proofs.blanks.is_blank.Tie as tie
+use Rattle.formulas.proofs.blanks.is_blank.Goals as goal
 
-returns : tie.Need-returns
+pub returns : goal.returns
 returns c = eqb-bits w32 c.args.value (negsuc 2147483647) c.ranges.value (sfits_lit tt)
-
-pub is-blank-spec : {M : Type 1} → statement M
-is-blank-spec = tie.close (tie.spec returns)
