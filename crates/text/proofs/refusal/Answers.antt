@@ -4,4 +4,4 @@ use Rattle.text.proofs.Laid.{put-counts, put-shows}
 use Rattle.text.proofs.refusal.Goals as goal
 
 pub returns : goal.returns
-returns c = let p = c.put_refusal.ensures in record { prefix_len = put-counts p; shows = put-shows p; }
+returns c = let p = c.put_refusal.ensures in record { prefix_len = put-counts p; shows = put-shows p }

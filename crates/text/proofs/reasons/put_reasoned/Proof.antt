@@ -47,7 +47,6 @@ put_reasoned_spec =
     tie.close
     (tie.spec
     is-blank-requires
-    
     put-all-requires
     put-decimal-requires
     same_length
@@ -55,4 +54,3 @@ put_reasoned_spec =
     put-value-requires
     same-length-2
     returns-2)
-
