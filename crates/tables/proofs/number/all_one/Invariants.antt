@@ -1,0 +1,21 @@
+-- What was passed and what is left decide together (`fold_next`). Assumes nothing.
+use Prim.Native.Nat.{◌+◌, ◌-◌, ◌≤◌}
+use native.Mathlib.Omega.{arith}
+use mathlib.Core.Bool.{◌&&◌}
+use mathlib.Core.Path.{◌≡◌, refl, ap, ◌∙◌}
+use lib.IntN.{pos}
+use lib.ListN.{length, drop, get_or}
+use borrow.Author.Rules.{rules, sfits_of}
+use mir.Syntax.{w16}
+use mir.Facts.{sfits_lit}
+use Rattle.integers.specs.Integers.{eq_z}
+use Rattle.integers.proofs.Bits.{eqb-bits}
+use Rattle.tables.specs.Rows.{all_one}
+use Rattle.tables.proofs.Whole.{fold_next, fold_end}
+use Rattle.tables.proofs.number.all_one.Given as goal
+
+abbrev pub invariant-loop-i : goal.invariant-loop-i
+invariant-loop-i l = (l.i-end ≡ length l.part) × (l.i ≤ l.i-end) × ((l.good && all_one (drop l.i l.part)) ≡ all_one l.part)
+
+abbrev pub decreases-loop-i : goal.decreases-loop-i
+decreases-loop-i l = l.i-end - l.i

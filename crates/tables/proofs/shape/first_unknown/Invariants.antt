@@ -1,0 +1,15 @@
+-- The loop has passed every variable before this one (`Scan`). Assumes nothing.
+use Prim.Native.Nat.{◌-◌}
+use native.Mathlib.Omega.{arith}
+use lib.Dec.{ltb}
+use borrow.Author.Rules.{rules}
+use borrow.Author.Tests.{lt-ltb, le-ltb}
+use Rattle.paper.specs.Lists.{nat}
+use Rattle.paper.proofs.Scan.{Scan, scan-start, scan-next, scan-found, scan-all}
+use Rattle.tables.proofs.shape.first_unknown.Given as goal
+
+abbrev pub invariant-loop-i : goal.invariant-loop-i
+invariant-loop-i l = Scan (λ j. ltb (nat l.vars j) l.n) l.count l.i
+
+abbrev pub decreases-loop-i : goal.decreases-loop-i
+decreases-loop-i l = l.count - l.i
