@@ -59,7 +59,7 @@ loop-again c =
     filling-next _ _ _ _ _ l.row (l.row - 1) _ _ l.invariant (omega arith) (entry c).requires.0.0 refl c.wide-v.ensures.0 (known c)
 
 same_length : tie.Need-shape_of-by invariant-loop decreases-loop
-same_length c = filling-long _ _ _ _ _ _ c.before.loop-row.invariant ∙ c.before.before.before.before.clear.auto.1.0
+same_length c = filling-long _ _ _ _ _ _ c.before.loop-row.invariant ∙ c.before.before.before.before.clear.auto.by
 
 returns : tie.Need-returns invariant-loop decreases-loop
 returns c =

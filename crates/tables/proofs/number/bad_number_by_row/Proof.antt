@@ -88,7 +88,7 @@ row-good c =
     ap₂ ◌&&◌ (c.before.before.coefs_good.ensures ∙ known) (c.param_good.ensures ∙ ap (param_good kind) (to_z-of_z fits))
 
 returns : tie.Need-returns-then-not-good invariant-loop decreases-loop
-returns c = scan-found _ _ _ (turn c.before).loop-row.inv (omega arith) (sym (row-good c.before) ∙ not-true _ c.if-not-good.true-raw)
+returns c = scan-found _ _ _ (turn c.before).loop-row.invariant (omega arith) (sym (row-good c.before) ∙ not-true _ c.if-not-good.true-raw)
 
 add_row : tie.Need-overflow_step-row invariant-loop decreases-loop
 add_row c = search rules
@@ -97,7 +97,7 @@ loop-less : tie.Need-loop-row-smaller invariant-loop decreases-loop
 loop-less c = search rules
 
 loop-again : tie.Need-loop-row-preserved invariant-loop decreases-loop
-loop-again c = scan-next _ _ _ (turn c.before).loop-row.inv (omega arith) (sym (row-good c.before) ∙ not-false _ c.if-not-good.false-raw)
+loop-again c = scan-next _ _ _ (turn c.before).loop-row.invariant (omega arith) (sym (row-good c.before) ∙ not-false _ c.if-not-good.false-raw)
 
 returns-2 : tie.Need-returns invariant-loop decreases-loop
 returns-2 c = scan-all _ _ _ c.before.loop-row.invariant (omega arith)

@@ -9,4 +9,4 @@ returns c =
     let a = c.args in let e = c.before.before.before in let s = c.before in
     let f = e.wide.ensures.0 in let k = e.wide-2.ensures.0 in let g = s.wide-3.ensures.0 in
     let end = e.lesser-end.ensures in let start = s.lesser-start.ensures in
-    cut-within a.coefs.now a.first a.count s.lesser-start.result-1 e.lesser-end.result-1 (omega arith) (omega arith)
+    cut-within a.coefs.now a.first a.count s.lesser-start.result e.lesser-end.result (omega arith) (omega arith)

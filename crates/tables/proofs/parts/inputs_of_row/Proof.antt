@@ -12,7 +12,7 @@ use Rattle.tables.proofs.parts.inputs_of_row.Tie as tie
 part-of-row-requires : tie.Need-part_of_row-part-requires
 part-of-row-requires c κs = search rules
 
-ends : (c : tie.After-struct_known-1) → let r = c.before.part_of_row-part.result-1 in r.first + r.count ≤ length c.before.before.before.before.before.args.vars.now
+ends : (c : tie.After-struct_known-1) → let r = c.before.part_of_row-part.result in r.first + r.count ≤ length c.before.before.before.before.before.args.vars.now
 ends c = let a = c.before.before.before.before.before.args in within a.m a.e a.firsts.now a.counts.now a.vars.now a.row _ c.before.part_of_row-part.ensures
 
 add-end : tie.Need-overflow_add-end
@@ -31,7 +31,7 @@ part-result-end : tie.Need-slice_bounds-result-end
 part-result-end c = ends c
 
 returns : tie.Need-returns
-returns c = let r = c.before.before.part_of_row-part in very c.before.before.before.before.before.before.args.vars r.result-1.first r.result-1.count _ (ap (λ (p : Part). (p.first, p.count)) r.ensures)
+returns c = let r = c.before.before.part_of_row-part in very c.before.before.before.before.before.before.args.vars r.result.first r.result.count _ (ap (λ (p : Part). (p.first, p.count)) r.ensures)
 
 pub inputs_of_row_spec : {M : Type 1} → statement M
 inputs_of_row_spec = tie.close (tie.spec part-of-row-requires add-end mul-result sub-result part-result-start part-result-end returns)

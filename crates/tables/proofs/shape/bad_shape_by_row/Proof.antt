@@ -97,7 +97,7 @@ all-good c =
     placed-shape (rows c) (turn c).loop-row.row _ _ _ _ c.row_good.ensures c.before.before.before.before.before.before.wide-first.ensures.0 c.before.before.before.before.wide.ensures.0 (turn c).loop-row.invariant.1
 
 returns : tie.Need-returns-then-not-placed invariant-loop decreases-loop
-returns c = scan-found _ _ _ (turn c.before).loop-row.inv.0 (omega arith) (sym (and-off (test c.before) _ _ (not-true _ c.if-not-placed.true-raw) (all-good c.before)))
+returns c = scan-found _ _ _ (turn c.before).loop-row.invariant.0 (omega arith) (sym (and-off (test c.before) _ _ (not-true _ c.if-not-placed.true-raw) (all-good c.before)))
 
 mul-inputs-good : tie.Need-offset_bounds-vars-first invariant-loop decreases-loop
 mul-inputs-good c = search rules
@@ -127,7 +127,7 @@ inputs c = let t = c.before.before.before in c.inputs_good.ensures ∙ and-on (t
 
 returns-2 : tie.Need-returns-then-not-inputs_good invariant-loop decreases-loop
 returns-2 c =
-    let l = (turn c.before.before.before.before).loop-row in scan-found _ _ _ l.inv.0 (omega arith) (sym (inputs c.before) ∙ not-true _ c.if-not-inputs_good.true-raw)
+    let l = (turn c.before.before.before.before).loop-row in scan-found _ _ _ l.invariant.0 (omega arith) (sym (inputs c.before) ∙ not-true _ c.if-not-inputs_good.true-raw)
 
 add_row : tie.Need-overflow_step-row invariant-loop decreases-loop
 add_row c = search rules
@@ -138,8 +138,8 @@ loop-less c = search rules
 loop-again : tie.Need-loop-row-preserved invariant-loop decreases-loop
 loop-again c =
     let t = c.before.before.before.before in let l = (turn t).loop-row in
-    let at = (stands c.before.before.before).0 in let before = l.inv.1 in let own = t.before.before.before.before.wide.ensures.0 in let long = (start t).requires.3 in (
-      scan-next _ _ _ l.inv.0 (omega arith) (sym (inputs c.before) ∙ not-false _ c.if-not-inputs_good.false-raw),
+    let at = (stands c.before.before.before).0 in let before = l.invariant.1 in let own = t.before.before.before.before.wide.ensures.0 in let long = (start t).requires.3 in (
+      scan-next _ _ _ l.invariant.0 (omega arith) (sym (inputs c.before) ∙ not-false _ c.if-not-inputs_good.false-raw),
       omega (arith, total-next (rows t).counts l.row (omega arith)),
     )
 

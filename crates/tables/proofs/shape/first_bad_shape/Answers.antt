@@ -7,4 +7,4 @@ pub returns-then-rows_known-inputs_known : goal.returns-then-rows_known-inputs_k
 returns-then-rows_known-inputs_known c =
     let s = c.before.before.before.before.before.before.before.before.before.before.before in let a = s.args in
     all-shapes a.n a.m a.e a.kinds.now a.makes.now a.firsts.now a.counts.now a.vars.now s.requires.1 s.requires.3
-    c.all_Known.ensures c.counts_good.ensures c.all_known-2.ensures c.parts_good.ensures c.if-rows_known-inputs_known.true
+    c.all_known.ensures c.counts_good.ensures c.all_known-2.ensures c.parts_good.ensures c.if-rows_known-inputs_known.true
