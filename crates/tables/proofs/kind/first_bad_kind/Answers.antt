@@ -1,11 +1,9 @@
-use Prim.Native.Nat.{◌-◌}
 use native.Mathlib.Omega.{arith}
 use mathlib.Core.Path.{sym, ◌∙◌}
-use borrow.Author.Rules.{rules}
 use borrow.Author.Tests.{eqb-true, not-true, not-false}
 use Rattle.paper.specs.Lists.{first_fail}
 use Rattle.paper.specs.Checks.{kind_good}
-use Rattle.paper.proofs.Scan.{Scan, scan-start, scan-next, scan-found, scan-all}
+use Rattle.paper.proofs.Scan.{scan-start, scan-next, scan-found, scan-all}
 use Rattle.tables.specs.Rows.{kind_rows}
 use Rattle.tables.proofs.kind.first_bad_kind.Goals as goal
 

@@ -1,13 +1,9 @@
 -- The answer is that of the rows before this one (`below_next`). Assumes nothing.
 use Prim.Native.Nat.{◌-◌, ◌≤◌}
-use native.Mathlib.Omega.{arith}
-use mathlib.Core.Bool.{◌&&◌}
-use mathlib.Core.Path.{◌≡◌, refl, ap, ◌∙◌}
-use borrow.Author.Rules.{rules}
+use mathlib.Core.Path.{◌≡◌}
 use Rattle.paper.specs.Lists.{all_below}
 use Rattle.paper.specs.Checks.{kind_good}
 use Rattle.tables.specs.Rows.{kind_rows}
-use Rattle.tables.proofs.Whole.{below_next}
 use Rattle.tables.proofs.kind.kinds_good.Given as goal
 
 abbrev pub invariant-loop-row : goal.invariant-loop-row

@@ -1,8 +1,6 @@
-use Prim.Native.Nat.{◌-◌, ◌≤◌}
 use native.Mathlib.Omega.{arith}
 use mathlib.Core.Path.{refl}
-use borrow.Author.Rules.{rules}
-use Rattle.paper.proofs.Buffers.{Filled, filled-start, filled_next, filled-end}
+use Rattle.paper.proofs.Buffers.{filled-start, filled_next, filled-end}
 use Rattle.tables.proofs.maker.clear.Goals as goal
 
 pub loop-v-init : goal.loop-v-init

@@ -1,9 +1,6 @@
 -- The places before this one are 0, and the rest as they were (`Filled`). Assumes nothing.
 use Prim.Native.Nat.{◌-◌, ◌≤◌}
-use native.Mathlib.Omega.{arith}
-use mathlib.Core.Path.{refl}
-use borrow.Author.Rules.{rules}
-use Rattle.paper.proofs.Buffers.{Filled, filled-start, filled_next, filled-end}
+use Rattle.paper.proofs.Buffers.{Filled}
 use Rattle.tables.proofs.maker.clear.Given as goal
 
 abbrev pub invariant-loop-v : goal.invariant-loop-v

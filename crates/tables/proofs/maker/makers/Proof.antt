@@ -85,4 +85,3 @@ makers_spec =
     loop-again
     same_length
     returns)
-

@@ -1,17 +1,9 @@
 -- What was passed and what is left decide together (`fold_next`). Assumes nothing.
-use Prim.Native.Nat.{◌+◌, ◌-◌, ◌≤◌}
-use native.Mathlib.Omega.{arith}
+use Prim.Native.Nat.{◌-◌, ◌≤◌}
 use mathlib.Core.Bool.{◌&&◌}
-use mathlib.Core.Path.{◌≡◌, refl, ap, ◌∙◌}
-use lib.IntN.{pos}
-use lib.ListN.{length, drop, get_or}
-use borrow.Author.Rules.{rules, sfits_of}
-use mir.Syntax.{w16}
-use mir.Facts.{sfits_lit}
-use Rattle.integers.specs.Integers.{eq_z}
-use Rattle.integers.proofs.Bits.{eqb-bits}
+use mathlib.Core.Path.{◌≡◌}
+use lib.ListN.{length, drop}
 use Rattle.tables.specs.Rows.{all_one}
-use Rattle.tables.proofs.Whole.{fold_next, fold_end}
 use Rattle.tables.proofs.number.all_one.Given as goal
 
 abbrev pub invariant-loop-i : goal.invariant-loop-i

@@ -1,11 +1,11 @@
-use Prim.Native.Nat.{◌+◌, ◌-◌, ◌≤◌}
+use Prim.Native.Nat.{◌+◌}
 use native.Mathlib.Omega.{arith}
 use mathlib.Core.Bool.{◌&&◌}
-use mathlib.Core.Path.{◌≡◌, refl, ap, ◌∙◌}
+use mathlib.Core.Path.{refl, ap, ◌∙◌}
 use lib.Dec.{leb}
 use lib.IntN.{pos, nat_abs}
-use lib.ListN.{length, drop, get_or}
-use borrow.Author.Rules.{rules, sfits_of}
+use lib.ListN.{drop, get_or}
+use borrow.Author.Rules.{sfits_of}
 use mir.Syntax.{w16}
 use mir.Val.{SFits}
 use mir.Facts.{to_z-of_z}

@@ -1,17 +1,9 @@
 -- What was passed and what is left decide together (`fold_next`). Assumes nothing.
-use Prim.Native.Nat.{◌+◌, ◌-◌, ◌≤◌}
-use native.Mathlib.Omega.{arith}
+use Prim.Native.Nat.{◌-◌, ◌≤◌}
 use mathlib.Core.Bool.{◌&&◌}
-use mathlib.Core.Path.{◌≡◌, refl, ap, ◌∙◌}
-use lib.Dec.{leb}
-use lib.IntN.{pos, nat_abs}
-use lib.ListN.{length, drop, get_or}
-use borrow.Author.Rules.{rules, sfits_of}
-use mir.Syntax.{w16}
-use mir.Val.{SFits}
-use mir.Facts.{to_z-of_z}
+use mathlib.Core.Path.{◌≡◌}
+use lib.ListN.{length, drop}
 use Rattle.tables.specs.Rows.{all_small}
-use Rattle.tables.proofs.Whole.{fold_next, fold_end}
 use Rattle.tables.proofs.number.all_small.Given as goal
 
 abbrev pub invariant-loop-i : goal.invariant-loop-i

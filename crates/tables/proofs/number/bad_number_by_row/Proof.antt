@@ -127,4 +127,3 @@ bad_number_by_row_spec =
     loop-less
     loop-again
     returns-2)
-

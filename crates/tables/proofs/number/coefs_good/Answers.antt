@@ -1,5 +1,4 @@
 -- What is known answers, or else the test that the kind picks. Assumes nothing.
-use borrow.Author.Rules.{rules}
 use borrow.Author.Tests.{ne_eqb}
 use Rattle.tables.proofs.number.coefs_good.Goals as goal
 

@@ -1,6 +1,5 @@
 -- Where all parameters and all coefficients are shown to be good every row is (`all-numbers`), and else they are asked row by row. Assumes nothing.
 use Rattle.tables.proofs.Sifting.{all-numbers}
-use borrow.Author.Rules.{rules}
 use Rattle.tables.proofs.number.first_bad_number.Goals as goal
 
 pub returns-then-known : goal.returns-then-known

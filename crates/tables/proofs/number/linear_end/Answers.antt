@@ -1,7 +1,6 @@
 -- A LINEAR row answers by itself, and another by what it was given. Assumes nothing.
 use Prim.Native.Nat.{◌+◌}
 use mathlib.Core.Path.{ap₂}
-use borrow.Author.Rules.{rules}
 use Rattle.tables.proofs.number.linear_end.Goals as goal
 
 pub returns-then-linear : goal.returns-then-linear

@@ -1,5 +1,4 @@
 -- Nothing is asked, or the part between the two places answers. Assumes nothing.
-use borrow.Author.Rules.{rules}
 use borrow.Author.Tests.{not-false}
 use Rattle.tables.proofs.number.ones_between.Goals as goal
 

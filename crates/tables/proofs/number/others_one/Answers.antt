@@ -1,8 +1,6 @@
-use Prim.Native.Nat.{◌-◌}
 use native.Mathlib.Omega.{arith}
 use mathlib.Core.Path.{refl}
-use borrow.Author.Rules.{rules}
-use Rattle.tables.proofs.Sifting.{Sifted, sifted-start, sifted-next, sifted-end, from-before, from-within}
+use Rattle.tables.proofs.Sifting.{sifted-start, sifted-next, sifted-end, from-before, from-within}
 use Rattle.tables.proofs.number.others_one.Goals as goal
 
 pub loop-row-init : goal.loop-row-init

@@ -1,9 +1,6 @@
 -- So far as the answer is yes, the rows passed are good if the coefficients after the last LINEAR part are 1 too (`Sifted`). Assumes nothing.
 use Prim.Native.Nat.{◌-◌}
-use native.Mathlib.Omega.{arith}
-use mathlib.Core.Path.{refl}
-use borrow.Author.Rules.{rules}
-use Rattle.tables.proofs.Sifting.{Sifted, sifted-start, sifted-next, sifted-end, from-before, from-within}
+use Rattle.tables.proofs.Sifting.{Sifted}
 use Rattle.tables.proofs.number.others_one.Given as goal
 
 abbrev pub invariant-loop-row : goal.invariant-loop-row

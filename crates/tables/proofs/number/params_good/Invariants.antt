@@ -1,15 +1,9 @@
 -- The answer is that of the rows before this one (`Joint`). Assumes nothing.
 use Prim.Native.Nat.{◌-◌}
-use native.Mathlib.Omega.{arith}
-use mathlib.Core.Path.{ap, ◌∙◌}
 use lib.IntN.{pos}
 use lib.ListN.{get_or}
-use borrow.Author.Rules.{rules, sfits_of}
-use mir.Syntax.{w32}
-use mir.Val.{SFits}
-use mir.Facts.{to_z-of_z}
 use Rattle.paper.specs.Lists.{nat}
-use Rattle.paper.proofs.Scan.{Joint, joint-start, joint-next, joint-end}
+use Rattle.paper.proofs.Scan.{Joint}
 use Rattle.tables.specs.Rows.{param_good}
 use Rattle.tables.proofs.number.params_good.Given as goal
 

@@ -1,6 +1,5 @@
 -- The two ends are held within the list, which leaves what there is of the part (`cut-within`). Assumes nothing.
 use native.Mathlib.Omega.{arith}
-use borrow.Author.Rules.{rules}
 use Rattle.tables.proofs.Cut.{cut-within}
 use Rattle.tables.proofs.number.part_of.Goals as goal
 

@@ -1,6 +1,5 @@
 -- The part that is named ends within the lent entries (`within`), and it is cut out where it lies (`very`). Assumes nothing.
 use Prim.Native.Nat.{◌+◌, ◌≤◌}
-use native.Mathlib.Omega.{arith}
 use mathlib.Core.Path.{ap}
 use lib.ListN.{length}
 use borrow.Author.Rules.{rules}
@@ -35,4 +34,3 @@ returns c = let r = c.before.before.part_of_row-part in very c.before.before.bef
 
 pub inputs_of_row_spec : {M : Type 1} → statement M
 inputs_of_row_spec = tie.close (tie.spec part-of-row-requires add-end mul-result sub-result part-result-start part-result-end returns)
-

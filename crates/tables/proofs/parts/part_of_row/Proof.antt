@@ -69,4 +69,3 @@ part_of_row_spec =
     add-end
     returns-2
     returns-3)
-

@@ -1,7 +1,6 @@
 -- The greatest of that part, and then the test. Assumes nothing.
 use mathlib.Core.Path.{ap, ◌∙◌}
 use lib.Dec.{ltb}
-use borrow.Author.Rules.{rules}
 use Rattle.paper.specs.Lists.{greatest}
 use Rattle.tables.proofs.Whole.{front}
 use Rattle.tables.proofs.shape.all_known.Goals as goal

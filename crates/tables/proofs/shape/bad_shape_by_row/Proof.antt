@@ -178,4 +178,3 @@ bad_shape_by_row_spec =
     loop-less
     loop-again
     returns-3)
-

@@ -1,12 +1,8 @@
 -- The answer is that of the rows before this one (`below_next`). Assumes nothing.
 use Prim.Native.Nat.{◌-◌, ◌≤◌}
-use native.Mathlib.Omega.{arith}
-use mathlib.Core.Bool.{◌&&◌}
-use mathlib.Core.Path.{◌≡◌, refl, ap, ◌∙◌}
-use borrow.Author.Rules.{rules}
+use mathlib.Core.Path.{◌≡◌}
 use Rattle.paper.specs.Lists.{nat, all_below}
 use Rattle.paper.specs.Checks.{arity}
-use Rattle.tables.proofs.Whole.{below_next}
 use Rattle.tables.proofs.shape.counts_good.Given as goal
 
 abbrev pub invariant-loop-row : goal.invariant-loop-row

@@ -1,5 +1,4 @@
 -- Where nothing is wrong with all rows and entries together nothing is with any (`all-shapes`), and else they are asked row by row. Assumes nothing.
-use borrow.Author.Rules.{rules}
 use Rattle.tables.proofs.Placing.{all-shapes}
 use Rattle.tables.proofs.shape.first_bad_shape.Goals as goal
 

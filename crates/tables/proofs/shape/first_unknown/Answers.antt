@@ -1,10 +1,7 @@
-use Prim.Native.Nat.{◌-◌}
 use native.Mathlib.Omega.{arith}
-use lib.Dec.{ltb}
-use borrow.Author.Rules.{rules}
 use borrow.Author.Tests.{lt-ltb, le-ltb}
 use Rattle.paper.specs.Lists.{nat}
-use Rattle.paper.proofs.Scan.{Scan, scan-start, scan-next, scan-found, scan-all}
+use Rattle.paper.proofs.Scan.{scan-start, scan-next, scan-found, scan-all}
 use Rattle.tables.proofs.shape.first_unknown.Goals as goal
 
 pub loop-i-init : goal.loop-i-init

@@ -1,11 +1,8 @@
 -- The loop has passed every variable before this one (`Scan`). Assumes nothing.
 use Prim.Native.Nat.{◌-◌}
-use native.Mathlib.Omega.{arith}
 use lib.Dec.{ltb}
-use borrow.Author.Rules.{rules}
-use borrow.Author.Tests.{lt-ltb, le-ltb}
 use Rattle.paper.specs.Lists.{nat}
-use Rattle.paper.proofs.Scan.{Scan, scan-start, scan-next, scan-found, scan-all}
+use Rattle.paper.proofs.Scan.{Scan}
 use Rattle.tables.proofs.shape.first_unknown.Given as goal
 
 abbrev pub invariant-loop-i : goal.invariant-loop-i

@@ -1,8 +1,6 @@
-use Prim.Native.Nat.{◌-◌, ◌≤◌, max}
 use native.Mathlib.Omega.{arith}
-use mathlib.Core.Path.{◌≡◌, refl, ap}
-use lib.ListN.{length, drop, drop_of_length-le}
-use borrow.Author.Rules.{rules}
+use mathlib.Core.Path.{refl, ap}
+use lib.ListN.{drop_of_length-le}
 use Rattle.paper.specs.Lists.{greatest}
 use Rattle.paper.proofs.Scan.{next}
 use Rattle.tables.proofs.shape.greatest_of.Goals as goal

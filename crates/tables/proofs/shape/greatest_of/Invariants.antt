@@ -1,11 +1,8 @@
 -- The greatest of what was passed and of what is left is that of all. Assumes nothing.
 use Prim.Native.Nat.{◌-◌, ◌≤◌, max}
-use native.Mathlib.Omega.{arith}
-use mathlib.Core.Path.{◌≡◌, refl, ap}
-use lib.ListN.{length, drop, drop_of_length-le}
-use borrow.Author.Rules.{rules}
+use mathlib.Core.Path.{◌≡◌}
+use lib.ListN.{length, drop}
 use Rattle.paper.specs.Lists.{greatest}
-use Rattle.paper.proofs.Scan.{next}
 use Rattle.tables.proofs.shape.greatest_of.Given as goal
 
 abbrev pub invariant-loop-i : goal.invariant-loop-i

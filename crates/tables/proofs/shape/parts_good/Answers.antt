@@ -1,7 +1,5 @@
-use Prim.Native.Nat.{◌-◌, ◌<◌}
 use native.Mathlib.Omega.{arith}
-use borrow.Author.Rules.{rules}
-use Rattle.tables.proofs.Placing.{Placing, placing-start, placing-next, placing-end}
+use Rattle.tables.proofs.Placing.{placing-start, placing-next, placing-end}
 use Rattle.tables.proofs.shape.parts_good.Goals as goal
 
 pub loop-row-init : goal.loop-row-init

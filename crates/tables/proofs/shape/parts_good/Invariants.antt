@@ -1,8 +1,6 @@
 -- Each part begins where the one before it ends, so far as the answer is yes, and `before` is then the sum of the counts (`Placing`). Assumes nothing.
 use Prim.Native.Nat.{◌-◌, ◌<◌}
-use native.Mathlib.Omega.{arith}
-use borrow.Author.Rules.{rules}
-use Rattle.tables.proofs.Placing.{Placing, placing-start, placing-next, placing-end}
+use Rattle.tables.proofs.Placing.{Placing}
 use Rattle.tables.proofs.shape.parts_good.Given as goal
 
 abbrev pub invariant-loop-row : goal.invariant-loop-row

@@ -2,7 +2,6 @@
 use mathlib.Core.Bool.{◌&&◌}
 use mathlib.Core.Path.{ap, ap₂}
 use lib.Dec.{ltb}
-use borrow.Author.Rules.{rules}
 use Rattle.tables.proofs.shape.row_good.Goals as goal
 
 pub returns : goal.returns

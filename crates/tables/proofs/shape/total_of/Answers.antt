@@ -1,8 +1,6 @@
-use Prim.Native.Nat.{◌*◌, ◌-◌, ◌≤◌}
 use native.Mathlib.Omega.{arith}
 use mathlib.Core.Path.{◌≡◌, refl, ap, ◌∙◌}
 use lib.ListN.{take}
-use borrow.Author.Rules.{rules}
 use Rattle.paper.specs.Lists.{total}
 use Rattle.paper.proofs.Scan.{total-next}
 use Rattle.tables.proofs.shape.total_of.Goals as goal

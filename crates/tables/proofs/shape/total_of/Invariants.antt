@@ -1,11 +1,8 @@
 -- The sum is that of the counts before this row, each below 65,536. Assumes nothing.
 use Prim.Native.Nat.{◌*◌, ◌-◌, ◌≤◌}
-use native.Mathlib.Omega.{arith}
-use mathlib.Core.Path.{◌≡◌, refl, ap, ◌∙◌}
+use mathlib.Core.Path.{◌≡◌}
 use lib.ListN.{take}
-use borrow.Author.Rules.{rules}
 use Rattle.paper.specs.Lists.{total}
-use Rattle.paper.proofs.Scan.{total-next}
 use Rattle.tables.proofs.shape.total_of.Given as goal
 
 abbrev pub invariant-loop-row : goal.invariant-loop-row

@@ -52,4 +52,3 @@ entry_at_spec =
     add-t16
     returns
     returns-2)
-
