@@ -6,7 +6,7 @@ use crate::fields::scan_field;
 use formulas::inputs::one_if;
 
 // The columns of the fields that are read, as the header has them; a number past the last one, if it has none.
-#[derive(Drop)]
+#[derive(Clone, Copy)]
 pub struct Columns {
     pub trip: usize,
     pub start: usize,
