@@ -9,7 +9,7 @@
 -- `ends-said`, `ends_with`, `returned` and `calls-said` take `Logic`. The rest assumes nothing.
 use mathlib.Core.List.{List, [], ◌∷◌}
 use seplogic.Ra.Ura.{Ura}
-use mir.Syntax.{Name, Place, Opd, Body, Fn, seq, call}
+use mir.Syntax.{Callee, Place, Opd, Body, Fn, seq, call}
 use mir.Val.{Val}
 use base.Logic.{SProp, ent, sep, wand, ex, emp, via, comm∗, fst∗, mono_l, wand_i, apply∗, ex_i, id⊢}
 use prog.Model.{Model}
@@ -73,7 +73,7 @@ module _ {M : Type 1} {𝓤 : Ura M} (𝓛 : Logic 𝓤) (T : Ended) (c : Clause
         (ensured 𝓛 T c y.0.0 y.0.3 y.1 r)))) (id⊢ 𝓤 _) $ await t z $ pick t (λ r. split t $ split t $ move t (2 ∷ []) $
         use1 𝓛 (some (λ (ws : Lasts T y.0.0 y.0.3). ‵ (lasts T y.0.0 y.0.3 ws) ⊛ raw (Ensures r ws))) (id⊢ 𝓤 _) $ pick t (λ ws. split t $ k r ws))
 
-  module _ {K : Type 0} {Γ : List (Item 𝓤)} {C : Calls 𝓤 H} {Λ : Loops 𝓤 H} {E : Locals 𝓤 H} {g : Name} {xs : List Opd} {d : Place} {rest : Body} {p : Post 𝓤 H} where
+  module _ {K : Type 0} {Γ : List (Item 𝓤)} {C : Calls 𝓤 H} {Λ : Loops 𝓤 H} {E : Locals 𝓤 H} {g : Callee} {xs : List Opd} {d : Place} {rest : Body} {p : Post 𝓤 H} where
     pub calls-said : K → FmC 𝓤 H 𝓛.laws C → Triple 𝓤 (C g) Con → (y : Con.Ghost) → ent 𝓤 (emp 𝓤) ((c y.0.0 y.0.3).requires y.1) → Opds K 𝓛 (raw (Con.pre y) ∷ Γ) E xs (Con.args y)
         → ((v : Val) (r : Res S y.0.0) (ws : Lasts T y.0.0 y.0.3) → Seq K 𝓛
         (‵ (lasts T y.0.0 y.0.3 ws) ∷ raw (Ensures y v r ws) ∷ raw (alive 𝓛 S y.0.0 y.0.1) ∷ ‵ ((type_at S.result y.0.0).own_val r (v ∷ [])) ∷ Γ) (lands C Λ E d v rest p))
@@ -116,7 +116,7 @@ module _ {M : Type 1} {𝓤 : Ura M} (𝓛 : Logic 𝓤) (𝓜 : Model 𝓤 𝓛
 
   pub walked : (T : Ended) (c : Clauses 𝓤 T) (sp : (κs : Lfts T.signature.lifetimes) → Spells (types_at T.signature.params κs))
       → ((κs : Lfts T.signature.lifetimes) → Tellss (types_at T.signature.params κs) (Ises (types_at T.signature.params κs)) (sp κs))
-      → (k : Name) (e : Fn) → Closed 𝓤 H (tables 𝓤 H 𝓜 𝓡 γ).C (tables 𝓤 H 𝓜 𝓡 γ).Λ k e
+      → (k : Callee) (e : Fn) → Closed 𝓤 H (tables 𝓤 H 𝓜 𝓡 γ).C (tables 𝓤 H 𝓜 𝓡 γ).Λ k e
       → ((κs : Lfts T.signature.lifetimes) (qs : Shares T.signature.lifetimes) (bounds : AllOutlive T.signature.lifetimes T.signature.outlives κs) (a : Args T.signature κs) (g : (c κs a).ghost)
       → Walked 𝓛 T c (tables 𝓤 H 𝓜 𝓡 γ).C (tables 𝓤 H 𝓜 𝓡 γ).Λ e sp κs qs bounds a g)
       → Triple 𝓤 ((tables 𝓤 H 𝓜 𝓡 γ).C k) (Con 𝓛 T c)

@@ -1,5 +1,5 @@
-// The walker, for long rows: it holds the lent entry table and the place reached, and yields one entry after another. A function that takes or
-// makes one is proved by a walk of its code by hand; `entry_at`, which does the work, and `entry_from`, for every other caller, take plain slices.
+// The walker, for long rows: it holds the lent entry table and the place reached, and yields one entry after another. `entry_at`, which does the
+// work, and `entry_from`, for every other caller, take plain slices.
 ghost use Rattle.std.specs.Prelude.{◌≡◌};
 ghost use Rattle.tables.specs.Entries.{step_at, went_on};
 

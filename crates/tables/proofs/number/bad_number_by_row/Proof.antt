@@ -20,90 +20,90 @@ use Rattle.tables.proofs.Numbers.{coefs-known}
 use Rattle.tables.proofs.number.bad_number_by_row.Statement.{statement}
 use Rattle.tables.proofs.number.bad_number_by_row.Tie as tie
 
-abbrev invariant-loop : tie.invariant-loop
+abbrev invariant-loop : tie.invariant-loop-row
 invariant-loop m kinds params firsts counts coefs ones linear row₀ row = Scan (number_good (number_rows kinds params firsts counts coefs)) m row
 
-abbrev decreases-loop : tie.decreases-loop
+abbrev decreases-loop : tie.decreases-loop-row
 decreases-loop m kinds params firsts counts coefs ones linear row₀ row = m - row
 
-all-one-requires : tie.Need-all-one-requires invariant-loop decreases-loop
+all-one-requires : tie.Need-all_one-ones-requires invariant-loop decreases-loop
 all-one-requires c κs = search rules
 
-coefs-good-requires : tie.Need-coefs-good-requires invariant-loop decreases-loop
+coefs-good-requires : tie.Need-coefs_good-linear-requires invariant-loop decreases-loop
 coefs-good-requires c κs = search rules
 
-loop-holds : tie.Need-loop-init invariant-loop decreases-loop
+loop-holds : tie.Need-loop-row-init invariant-loop decreases-loop
 loop-holds c = scan-start _ _
 
-mul-kind : tie.Need-overflow-mul-kind invariant-loop decreases-loop
+mul-kind : tie.Need-offset_bounds-kinds-row invariant-loop decreases-loop
 mul-kind c = search rules
 
-shared-slice-read-kind : tie.Need-shared-slice-read-kind invariant-loop decreases-loop
+shared-slice-read-kind : tie.Need-bounds-kinds-row invariant-loop decreases-loop
 shared-slice-read-kind c = search rules
 
-mul-part-of : tie.Need-overflow-mul-part-of invariant-loop decreases-loop
+mul-part-of : tie.Need-offset_bounds-firsts-row invariant-loop decreases-loop
 mul-part-of c = search rules
 
-shared-slice-read-part-of : tie.Need-shared-slice-read-part-of invariant-loop decreases-loop
+shared-slice-read-part-of : tie.Need-bounds-firsts-row invariant-loop decreases-loop
 shared-slice-read-part-of c = search rules
 
-mul-part-of-2 : tie.Need-overflow-mul-part-of-2 invariant-loop decreases-loop
+mul-part-of-2 : tie.Need-offset_bounds-counts-row invariant-loop decreases-loop
 mul-part-of-2 c = search rules
 
-shared-slice-read-part-of-2 : tie.Need-shared-slice-read-part-of-2 invariant-loop decreases-loop
+shared-slice-read-part-of-2 : tie.Need-bounds-counts-row invariant-loop decreases-loop
 shared-slice-read-part-of-2 c = search rules
 
-part-of-requires : tie.Need-part-of-requires invariant-loop decreases-loop
+part-of-requires : tie.Need-part_of-part-requires invariant-loop decreases-loop
 part-of-requires c κs = search rules
 
-coefs-good-requires-2 : tie.Need-coefs-good-requires-2 invariant-loop decreases-loop
+coefs-good-requires-2 : tie.Need-coefs_good-requires invariant-loop decreases-loop
 coefs-good-requires-2 c κs = search rules
 
-mul-param-good : tie.Need-overflow-mul-param-good invariant-loop decreases-loop
+mul-param-good : tie.Need-offset_bounds-params-row invariant-loop decreases-loop
 mul-param-good c = search rules
 
-shared-slice-copy-out-param-good : tie.Need-shared-slice-copy-out-param-good invariant-loop decreases-loop
+shared-slice-copy-out-param-good : tie.Need-bounds-params-row invariant-loop decreases-loop
 shared-slice-copy-out-param-good c = search rules
 
-param-good-requires : tie.Need-param-good-requires invariant-loop decreases-loop
+param-good-requires : tie.Need-param_good-requires invariant-loop decreases-loop
 param-good-requires c κs = search rules
 
 -- ── a turn of the loop ──
-abbrev turn : tie.After-param-good invariant-loop decreases-loop → tie.At-loop invariant-loop decreases-loop
+abbrev turn : tie.After-param_good invariant-loop decreases-loop → tie.At-loop-row invariant-loop decreases-loop
 turn c = c.before.before.before.before.before.before.before.before
 
-abbrev rows : tie.At-loop invariant-loop decreases-loop → Tables
+abbrev rows : tie.At-loop-row invariant-loop decreases-loop → Tables
 rows i =
     let a = i.before.before.before.before.before.before.args in
     number_rows a.kinds.now a.params.now a.firsts.now a.counts.now a.coefs.now
 
-row-good : (c : tie.After-param-good invariant-loop decreases-loop)
-    → let i = turn c in (c.before.before.coefs-good2.result && c.param-good.result) ≡ number_good (rows i) i.loop.row
+row-good : (c : tie.After-param_good invariant-loop decreases-loop)
+    → let i = turn c in (c.before.before.coefs_good.result && c.param_good.result) ≡ number_good (rows i) i.loop-row.row
 row-good c =
-    let i = turn c in let t = rows i in let r = i.loop.row in let kind = nat t.kinds r in
-    let fits : SFits w32 (get_or t.params r (pos 0)) = sfits_of c.before.param-good-arg.given in
+    let i = turn c in let t = rows i in let r = i.loop-row.row in let kind = nat t.kinds r in
+    let fits : SFits w32 (get_or t.params r (pos 0)) = sfits_of c.before.param_good-arg-1.given in
     let known =
-    coefs-known kind (nat t.firsts r) (nat t.counts r) t.coefs _ _ _ i.before.before.all_one.ensures i.before.coefs-good.ensures
-    c.before.before.before.part_of.ensures in
-    ap₂ ◌&&◌ (c.before.before.coefs-good2.ensures ∙ known) (c.param-good.ensures ∙ ap (param_good kind) (to_z-of_z fits))
+    coefs-known kind (nat t.firsts r) (nat t.counts r) t.coefs _ _ _ i.before.before.all_one-ones.ensures i.before.coefs_good-linear.ensures
+    c.before.before.before.part_of-part.ensures in
+    ap₂ ◌&&◌ (c.before.before.coefs_good.ensures ∙ known) (c.param_good.ensures ∙ ap (param_good kind) (to_z-of_z fits))
 
-returns : tie.Need-returns invariant-loop decreases-loop
-returns c = scan-found _ _ _ (turn c.before).loop.inv (omega arith) (sym (row-good c.before) ∙ not-true _ c.if1.true)
+returns : tie.Need-returns-then-not-good invariant-loop decreases-loop
+returns c = scan-found _ _ _ (turn c.before).loop-row.invariant (omega arith) (sym (row-good c.before) ∙ not-true _ c.if-not-good.true-raw)
 
-add_row : tie.Need-overflow-add-row invariant-loop decreases-loop
+add_row : tie.Need-overflow_step-row invariant-loop decreases-loop
 add_row c = search rules
 
-loop-less : tie.Need-loop-smaller invariant-loop decreases-loop
+loop-less : tie.Need-loop-row-smaller invariant-loop decreases-loop
 loop-less c = search rules
 
-loop-again : tie.Need-loop-preserved invariant-loop decreases-loop
-loop-again c = scan-next _ _ _ (turn c.before).loop.inv (omega arith) (sym (row-good c.before) ∙ not-false _ c.if1.false)
+loop-again : tie.Need-loop-row-preserved invariant-loop decreases-loop
+loop-again c = scan-next _ _ _ (turn c.before).loop-row.invariant (omega arith) (sym (row-good c.before) ∙ not-false _ c.if-not-good.false-raw)
 
-returns-2 : tie.Need-returns-2 invariant-loop decreases-loop
-returns-2 c = scan-all _ _ _ c.before.loop.invariant (omega arith)
+returns-2 : tie.Need-returns invariant-loop decreases-loop
+returns-2 c = scan-all _ _ _ c.before.loop-row.invariant (omega arith)
 
-pub bad-number-by-row-spec : {M : Type 1} → statement M
-bad-number-by-row-spec =
+pub bad_number_by_row_spec : {M : Type 1} → statement M
+bad_number_by_row_spec =
     tie.close
     (tie.spec
     invariant-loop

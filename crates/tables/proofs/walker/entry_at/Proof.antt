@@ -12,37 +12,37 @@ use Rattle.paper.proofs.Lists.{and_left, and_right}
 use Rattle.tables.proofs.walker.entry_at.Statement.{statement}
 use Rattle.tables.proofs.walker.entry_at.Tie as tie
 
-inside : (c : tie.Then1) → let a = c.before.args in (a.at < length a.vars.now) × (a.at < length a.coefs.now)
+inside : (c : tie.Then-at-vars) → let a = c.before.args in (a.at < length a.vars.now) × (a.at < length a.coefs.now)
 inside c =
     let a = c.before.args in let v = ltb a.at (length a.vars.now) in let k = ltb a.at (length a.coefs.now) in
-    (ltb-true _ _ (and_left v k c.if1.true), ltb-true _ _ (and_right v k c.if1.true))
+    (ltb-true _ _ (and_left v k c.if-at-vars.true), ltb-true _ _ (and_right v k c.if-at-vars.true))
 
-mul-t9 : tie.Need-overflow-mul-t9
+mul-t9 : tie.Need-offset_bounds-vars-at
 mul-t9 c = let h = inside c in search rules
 
-shared-slice-read-t11 : tie.Need-shared-slice-read-t11
+shared-slice-read-t11 : tie.Need-bounds-vars-at
 shared-slice-read-t11 c = (inside c.before).0
 
-mul-t12 : tie.Need-overflow-mul-t12
+mul-t12 : tie.Need-offset_bounds-coefs-at
 mul-t12 c = let h = inside c.before in search rules
 
-shared-slice-copy-out-t14 : tie.Need-shared-slice-copy-out-t14
+shared-slice-copy-out-t14 : tie.Need-bounds-coefs-at
 shared-slice-copy-out-t14 c = (inside c.before).1
 
-add-t16 : tie.Need-overflow-add-t16
+add-t16 : tie.Need-overflow_add-result
 add-t16 c = let h = inside c.before.before in search rules
 
-returns : tie.Need-returns
+returns : tie.Need-returns-then-at-vars
 returns c =
     let a = c.before.before.before.args in
-    let fits : SFits w16 (get_or a.coefs.now a.at (pos 0)) = sfits_of c.t14.given in
-    simp (c.before.before.if1.true, to_z-of_z fits)
+    let fits : SFits w16 (get_or a.coefs.now a.at (pos 0)) = sfits_of c.result-1.given in
+    simp (c.before.before.if-at-vars.true, to_z-of_z fits)
 
-returns-2 : tie.Need-returns-2
-returns-2 c = simp c.if1.false
+returns-2 : tie.Need-returns
+returns-2 c = simp c.if-at-vars.false
 
-pub entry-at-spec : {M : Type 1} → statement M
-entry-at-spec =
+pub entry_at_spec : {M : Type 1} → statement M
+entry_at_spec =
     tie.close
     (tie.spec
     mul-t9
