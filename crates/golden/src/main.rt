@@ -3,8 +3,8 @@
 
 ghost use Rattle.io.specs.Counts.{IsPrefixLen};
 
-use libc::STDOUT_FILENO;
-use report::build_file;
+use report::{build_file, read_full};
+use std::fs::Files;
 use tables::Answer;
 
 // The text for a file, with reasons or without, in front of the buffer, and how many bytes it has.
@@ -23,47 +23,27 @@ fn put_text(reasons: bool, file: &[u8], out: &mut [u8; 98304]) -> usize
 }
 
 // Prints the text for a file, with reasons or without.
-fn show_text(reasons: bool, file: &[u8]) {
+fn show_text<R: Print>(rt: &R, reasons: bool, file: &[u8]) -> std::io::Result<()> {
     let mut out = [0u8; 98304];
     let k = put_text(reasons, file, &mut out);
-    io::write_all(STDOUT_FILENO, &out[..k]);
-}
-
-// Prints both texts for the file behind a descriptor.
-fn show(fd: i32) {
-    let mut file = [0u8; 65537];
-    let got = io::read_full(fd, &mut file);
-    show_text(false, &file[..got]);
-    show_text(true, &file[..got]);
+    rt.write_all(&out[..k])
 }
 
 // Prints a file's name, and both texts for it.
-fn show_named(name: &[u8]) {
-    io::write_all(STDOUT_FILENO, b"# ");
-    io::write_all(STDOUT_FILENO, name);
-    io::write_all(STDOUT_FILENO, b"\n");
-    let fd = os::open_read(name);
-    if fd < 0 {
-        os::fail(name);
-        return;
-    }
-    show(fd);
-    libc::close(fd);
+fn show_named<R: Print + Files>(rt: &R, name: &str) -> std::io::Result<()> {
+    rt.write_all(b"# ")?;
+    rt.write_all(name.as_bytes())?;
+    rt.write_all(b"\n")?;
+    let mut input = std::fs::open(rt, name)?;
+    let mut file = [0u8; 65537];
+    let got = read_full(&mut input, &mut file);
+    show_text(rt, false, &file[..got])?;
+    show_text(rt, true, &file[..got])
 }
 
-// The same for the file that argument i names.
-fn show_argument(i: usize) {
-    let mut name = [0u8; 256];
-    let k = os::arg(i, &mut name);
-    if os::errno() != 0 {
-        os::fail(b"argument");
-        return;
+fn main(rt: HostRuntime) -> std::io::Result<()> {
+    for name in std::env::args(&rt)?.skip(1) {
+        show_named(&rt, name?.as_str())?;
     }
-    show_named(&name[..k]);
-}
-
-fn main() {
-    for i in 1..os::arg_count() {
-        show_argument(i);
-    }
+    Ok(())
 }

@@ -1,6 +1,8 @@
 // A model file read and built: what the programs print is what build answers, and what it leaves in the rows that they lend.
 #![tactic(auto)]
 
+mod reading;
+
 ghost use Rattle.std.specs.Prelude.{◌≡◌};
 ghost use Rattle.paper.specs.Tables.{lent};
 ghost use Rattle.report.specs.Printed.{left_by_file, of_tables, of_file};
@@ -10,6 +12,8 @@ use checks::bounds::{HIGHEST, LOWEST};
 use files::headers::Reading;
 use records::Session;
 use tables::Answer;
+
+pub use reading::read_full;
 
 // What building a file comes to: build's answer, or the refusal of a file that is not read, and how many variables the file holds, 0 if it is
 // not read.

@@ -1,50 +1,48 @@
 // What the runs print: text, values and times of the day.
 use formulas::blanks::is_blank;
-use libc::STDOUT_FILENO;
+use std::io;
 
 // Prints text as it is.
-pub fn text(bytes: &[u8]) {
-    io::write_all(STDOUT_FILENO, bytes);
+pub fn text<R: Print>(rt: &R, bytes: &[u8]) -> io::Result<()> {
+    rt.write_all(bytes)
 }
 
 // Prints a number without a sign.
-fn number(n: u64) {
-    io::print_decimal(STDOUT_FILENO, n);
+fn number<R: Print>(rt: &R, n: u64) -> io::Result<()> {
+    rt.print(n)
 }
 
 // Prints a value, or the word blank.
-pub fn value(v: i32) {
+pub fn value<R: Print>(rt: &R, v: i32) -> io::Result<()> {
     if is_blank(v) {
-        text(b"blank");
-        return;
+        return text(rt, b"blank");
     }
     let bits = integers::bits32(v) as u64;
     if v < 0 {
-        text(b"-");
-        number(4294967296 - bits);
+        text(rt, b"-")?;
+        number(rt, 4294967296 - bits)
     } else {
-        number(bits);
+        number(rt, bits)
     }
 }
 
 // Prints a number below 100 in two digits.
-fn two_digits(n: u32) {
+fn two_digits<R: Print>(rt: &R, n: u32) -> io::Result<()> {
     if n < 10 {
-        text(b"0");
+        text(rt, b"0")?;
     }
-    number(n as u64);
+    number(rt, n as u64)
 }
 
 // Prints a time of the day, or a value that is none.
-pub fn clock(time: i32) {
+pub fn clock<R: Print>(rt: &R, time: i32) -> io::Result<()> {
     if time < 0 {
-        value(time);
-        return;
+        return value(rt, time);
     }
     let seconds = integers::bits32(time);
-    two_digits(seconds / 3600);
-    text(b":");
-    two_digits(seconds / 60 % 60);
-    text(b":");
-    two_digits(seconds % 60);
+    two_digits(rt, seconds / 3600)?;
+    text(rt, b":")?;
+    two_digits(rt, seconds / 60 % 60)?;
+    text(rt, b":")?;
+    two_digits(rt, seconds % 60)
 }

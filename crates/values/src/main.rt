@@ -6,8 +6,7 @@ ghost use Rattle.std.specs.Prelude.{false, ◌++◌, ◌≡◌, length, drop};
 ghost use Rattle.io.specs.Counts.{IsPrefixLen};
 ghost use Rattle.report.specs.Printed.{printed};
 
-use libc::{STDIN_FILENO, STDOUT_FILENO};
-use report::build_file;
+use report::{build_file, read_full};
 use tables::Answer;
 
 // Room for every text.
@@ -31,10 +30,10 @@ fn show(file: &[u8], out: &mut [u8; ROOM]) -> usize
     text::refusal(number, place, out)
 }
 
-fn main() {
+fn main(rt: HostRuntime) -> std::io::Result<()> {
     let mut file = [0u8; 65537];
-    let got = io::read_full(STDIN_FILENO, &mut file);
+    let got = read_full(&mut rt.stdin(), &mut file);
     let mut out = [0u8; ROOM];
     let k = show(&file[..got], &mut out);
-    io::write_all(STDOUT_FILENO, &out[..k]);
+    rt.write_all(&out[..k])
 }

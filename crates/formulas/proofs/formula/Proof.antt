@@ -139,4 +139,3 @@ formula_spec =
     returns-9
     returns-10
     returns-11)
-

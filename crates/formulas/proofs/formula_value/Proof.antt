@@ -81,7 +81,7 @@ returns : tie.Need-returns-in_default
 returns c = no-refusal (gave c.before) c.in_default.is
 
 returns-2 : tie.Need-returns
-returns-2 c = told w32 c.in-Value.known_told-1-own.given.0.1 (same-value c.before.in-Value.is (gave c.before))
+returns-2 c = told w32 c.in-Value.known_told-1-own.given.0.1 (same-value c.in-Value.is (gave c.before))
 
 pub formula_value_spec : {M : Type 1} → statement M
 formula_value_spec =
@@ -101,4 +101,3 @@ formula_value_spec =
     enum_told
     returns
     returns-2)
-

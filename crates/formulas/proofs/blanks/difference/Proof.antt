@@ -29,4 +29,3 @@ returns c = simp (cast_is w32 tt c.ranges.a, cast_is w32 tt c.ranges.b) (to_z-of
 
 pub difference_spec : {M : Type 1} → statement M
 difference_spec = tie.close (tie.spec cast-result cast-result-2 sub-result returns)
-

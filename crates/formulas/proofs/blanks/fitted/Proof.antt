@@ -41,4 +41,3 @@ returns-3 c = let s = c.before.before in simp (rest c.before ∙ le_read w64 s.a
 
 pub fitted_spec : {M : Type 1} → statement M
 fitted_spec = tie.close (tie.spec returns cast-result returns-2 returns-3)
-

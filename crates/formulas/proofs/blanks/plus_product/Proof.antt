@@ -26,4 +26,3 @@ returns c = simp (to_z-of_z c.ranges.sum, to_z-of_z c.ranges.a, to_z-of_z c.rang
 
 pub plus_product_spec : {M : Type 1} → statement M
 plus_product_spec = tie.close (tie.spec mul-result add-result returns)
-

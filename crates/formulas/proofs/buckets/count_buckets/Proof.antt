@@ -1,4 +1,5 @@
 -- The values before i are counted (`Counting`), and this one is counted where it falls. Assumes nothing.
+use mir.Syntax.{w32}
 use Prim.Native.Nat.{ℕ, ◌-◌, ◌≤◌}
 use native.Mathlib.Omega.{arith}
 use mathlib.Core.Bool.{not}
@@ -66,7 +67,7 @@ loop-less c = search rules
 loop-again : tie.Need-loop-i-preserved invariant-loop decreases-loop
 loop-again c =
     let l = c.before.before.before.before.before.loop-i in let b = c.before.before.bucket-k in
-    (omega arith, omega (arith, one c, l.invariant.1), counting-next l.invariant.2 c.before.before.before.before.loop-i-test.true (b.ensures.0 ∙ ap bucket_of (to_z-of_z (sfits_of c.before.before.before.bucket-arg-1.given))) b.ensures.1)
+    (omega arith, omega (arith, one c, l.invariant.1), counting-next l.invariant.2 c.before.before.before.before.loop-i-test.true (b.ensures.0 ∙ ap bucket_of (to_z-of_z {w = w32} (sfits_of c.before.before.before.bucket-arg-1.given))) b.ensures.1)
 
 same_length : tie.Need-shape_of-counts invariant-loop decreases-loop
 same_length c = c.before.loop-i.invariant.2.long ∙ sym c.before.before.before.requires.1.long
@@ -96,4 +97,3 @@ count_buckets_spec =
     loop-again
     same_length
     returns)
-

@@ -49,8 +49,8 @@ loop-again c =
     let l = c.before.before.before.loop-i in let h = c.before.before.loop-i-test.true in (
       omega arith,
       ⊎_elim
-          (λ w. rw w.n-is (passed-one (pos 0) l.invariant.1 h (here c ∙ w.if-same.true)))
-          (λ w. rw w.n-is (passed_over (pos 0) l.invariant.1 h (here c ∙ w.if-same.false)))
+          (λ w. rw w.n-is (passed-one (pos 0) l.invariant.1 h (here c ∙ w.if-same.true-raw)))
+          (λ w. rw w.n-is (passed_over (pos 0) l.invariant.1 h (here c ∙ w.if-same.false-raw)))
           c.if-same.branch-raw,
     )
 
@@ -71,4 +71,3 @@ holding_spec =
     loop-less
     loop-again
     returns)
-

@@ -1,4 +1,5 @@
 -- The places before i that share their value, and those from i on, are all that do. Assumes nothing.
+use mir.Syntax.{w32}
 use Prim.Native.Nat.{◌-◌, ◌≤◌}
 use native.Mathlib.Omega.{arith}
 use mathlib.Core.Bool.{cond}
@@ -37,7 +38,7 @@ one-if-requires c κs = tt
 loop-again : tie.Need-loop-i-preserved invariant-loop decreases-loop
 loop-again c =
     let held = c.before.before.before.before.before.before.args.held.now in
-    (omega arith, passed-next (pos 0) c.before.before.before.before.loop-i.invariant.1 c.before.before.before.loop-i-test.true (c.one_if-n.ensures ∙ ap (λ t. cond t 1 0) (c.before.held_twice.ensures ∙ ap (λ x. leb 2 (places x held)) (to_z-of_z (sfits_of c.before.before.held_twice-arg-1.given)))))
+    (omega arith, passed-next (pos 0) c.before.before.before.before.loop-i.invariant.1 c.before.before.before.loop-i-test.true (c.one_if-n.ensures ∙ ap (λ t. cond t 1 0) (c.before.held_twice.ensures ∙ ap (λ x. leb 2 (places x held)) (to_z-of_z {w = w32} (sfits_of c.before.before.held_twice-arg-1.given)))))
 
 add-n : tie.Need-overflow_add-n invariant-loop decreases-loop
 add-n c = omega (arith, passed-most (loop-again c).1, c.before.before.before.before.before.before.requires.0)
@@ -67,4 +68,3 @@ sharing_buckets_spec =
     loop-less
     loop-again
     returns)
-

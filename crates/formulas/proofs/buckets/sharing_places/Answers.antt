@@ -11,7 +11,7 @@ pub returns-then-held-lt48 : goal.returns-then-held-lt48
 returns-then-held-lt48 c = c.sharing_pairs.ensures
 
 pub count_buckets-later-requires : goal.count_buckets-later-requires
-count_buckets-later-requires c = record { held_len_bound = c.requires; bucketed = counted_none; }
+count_buckets-later-requires c = record { held_len_bound = c.requires; bucketed = counted_none }
 
 pub overflow_mul-later : goal.overflow_mul-later
 overflow_mul-later c = omega (arith, c.count_buckets-later.ensures.0, c.requires)
@@ -23,7 +23,7 @@ pub returns-then-held-later : goal.returns-then-held-later
 returns-then-held-later c = c.sharing_pairs-then-held-later.ensures
 
 pub sharing_buckets-requires : goal.sharing_buckets-requires
-sharing_buckets-requires c = record { held_len_bound = c.requires; bucketed = c.count_buckets-later.ensures.1; }
+sharing_buckets-requires c = record { held_len_bound = c.requires; bucketed = c.count_buckets-later.ensures.1 }
 
 pub returns : goal.returns
 returns c = c.sharing_buckets.ensures

@@ -83,4 +83,3 @@ pub element_spec : {M : Type 1} → statement M
 element_spec =
     tie.close
     (tie.spec input-requires returns cast-place add-place input-requires-2 returns-2 returns-3)
-

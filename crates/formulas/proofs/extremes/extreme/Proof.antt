@@ -76,4 +76,3 @@ extreme_spec =
     loop-again
     stood-for-requires
     returns)
-

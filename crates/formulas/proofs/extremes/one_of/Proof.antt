@@ -26,4 +26,3 @@ returns-4 c = let s = c.before.before in simp (to_z-of_z s.ranges.b, c.if-max-2.
 
 pub one_of_spec : {M : Type 1} → statement M
 one_of_spec = tie.close (tie.spec returns returns-2 returns-3 returns-4)
-

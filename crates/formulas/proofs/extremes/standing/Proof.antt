@@ -41,4 +41,3 @@ returns-3 c =
 
 pub standing_spec : {M : Type 1} → statement M
 standing_spec = tie.close (tie.spec returns is-blank-requires sub-result returns-2 returns-3)
-

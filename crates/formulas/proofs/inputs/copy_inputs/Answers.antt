@@ -14,7 +14,7 @@ pub loop-i-init : goal.loop-i-init
 loop-i-init c = (omega arith, filled-start _ _)
 
 pub input-requires : goal.input-requires
-input-requires c = record { i_in_bounds = c.loop-i-test.true; within = c.requires.within; }
+input-requires c = record { i_in_bounds = c.loop-i-test.true; within = c.requires.within }
 
 pub bounds-held-i : goal.bounds-held-i
 bounds-held-i c = omega (arith, c.loop-i.invariant.1.long, c.requires.vars_in_bounds)

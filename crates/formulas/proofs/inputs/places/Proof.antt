@@ -70,4 +70,3 @@ places_spec =
     loop-less
     loop-again
     returns)
-

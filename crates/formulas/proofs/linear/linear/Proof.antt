@@ -118,4 +118,3 @@ linear_spec =
     returns
     fitted-requires
     returns-2)
-

@@ -54,4 +54,3 @@ over_spec =
     returns
     excess-requires
     returns-2)
-

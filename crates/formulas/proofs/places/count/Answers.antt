@@ -10,7 +10,7 @@ use Rattle.formulas.proofs.Counting.{tally-most}
 use Rattle.formulas.proofs.places.count.Goals as goal
 
 pub counted-requires : goal.counted-requires
-counted-requires c = let s = c.before.before.before in record { n_bound = omega (arith, c.places.ensures, tally-most (λ x. eq_z x (to_z w32 (of_z w32 s.args.param))) s.args.vars.now s.args.values.now); within = s.requires.within; }
+counted-requires c = let s = c.before.before.before in record { n_bound = omega (arith, c.places.ensures, tally-most (λ x. eq_z x (to_z w32 (of_z w32 s.args.param))) s.args.vars.now s.args.values.now); within = s.requires.within }
 
 pub returns : goal.returns
 returns c =

@@ -41,7 +41,7 @@ array-share-prefix-held : tie.Need-slice_bounds-held-end
 array-share-prefix-held c = search rules
 
 -- as many as there are places
-many : (c : tie.After-held-4-1) → let vars = c.before.before.before.before.before.before.before.before.args.vars.now in length (take (length vars) c.before.before.before.before.before.copy_inputs.new.1.1.0) ≡ length vars
+many : (c : tie.After-held-4-1) → let vars = c.before.before.before.before.before.before.before.before.args.vars.now in length (take (length vars) c.before.before.before.before.before.copy_inputs.new.held) ≡ length vars
 many c = let a = c.before.before.before.before.before.before.before.before.args in ap (λ (xs : List ℤ). length xs) c.before.before.before.before.before.copy_inputs.ensures ∙ inputs-length a.vars.now a.values.now
 
 slice-aggregate-sharing-places : tie.Need-slice_bounds-sharing_places-end
@@ -79,4 +79,3 @@ shared_spec =
     sharing-places-requires
     cast-result
     returns-2)
-

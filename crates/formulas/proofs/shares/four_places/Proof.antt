@@ -168,4 +168,3 @@ four_places_spec =
     add-result-4
     same_length
     returns)
-

@@ -86,4 +86,3 @@ last_places_spec =
     loop-again
     same_length
     returns)
-

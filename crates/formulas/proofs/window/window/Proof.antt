@@ -66,4 +66,3 @@ window_spec =
     returns
     window-value-requires
     returns-2)
-

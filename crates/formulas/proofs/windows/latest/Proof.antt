@@ -60,4 +60,3 @@ latest_spec =
     time-requires
     cast-result
     returns-2)
-

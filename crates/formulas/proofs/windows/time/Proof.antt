@@ -41,4 +41,3 @@ time_spec =
     cast-plus-product-3
     plus-product-requires
     returns)
-

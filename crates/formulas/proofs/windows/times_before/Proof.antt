@@ -72,4 +72,3 @@ times_before_spec =
     div-result
     returns
     returns-2)
-

@@ -74,4 +74,3 @@ window_value_spec =
     cast-fitted
     fitted-requires
     returns-3)
-

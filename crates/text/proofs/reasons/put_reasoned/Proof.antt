@@ -10,47 +10,43 @@ use Rattle.text.proofs.Tens.{put-reason, put-no-reason}
 use Rattle.text.proofs.reasons.put_reasoned.Statement.{statement}
 use Rattle.text.proofs.reasons.put_reasoned.Tie as tie
 
-is-blank-requires : tie.Need-is-blank-requires
+is-blank-requires : tie.Need-is_blank-requires
 is-blank-requires c κs = search rules
 
-slice-aggregate-put-all : tie.Need-slice-aggregate-put-all
-slice-aggregate-put-all c = search rules
-
-put-all-requires : tie.Need-put-all-requires
+put-all-requires : tie.Need-put_all-next-requires
 put-all-requires c κs = search rules
 
-put-decimal-requires : tie.Need-put-decimal-requires
+put-decimal-requires : tie.Need-put_decimal-requires
 put-decimal-requires c κs = search rules
 
 -- what is tested
-test : (c : tie.After-is-blank) {t : Bool} → c.is-blank.result ≡ t → eq_z c.before.before.args.value blank ≡ t
-test c e = simp (to_z-of_z c.before.before.ranges.value) at (sym c.is-blank.ensures ∙ e)
+test : (c : tie.After-is_blank) {t : Bool} → c.is_blank.result ≡ t → eq_z c.before.before.args.value blank ≡ t
+test c e = simp (to_z-of_z c.before.before.ranges.value) at (sym c.is_blank.ensures ∙ e)
 
-same_length : tie.Need-same-length
+same_length : tie.Need-shape_of-out-then-is_blank
 same_length c = search rules
 
-returns : tie.Need-returns
+returns : tie.Need-returns-then-is_blank
 returns c =
     let s = c.before.before.before.before.before.before.before.before.before.before.before.before in
-    put-reason s.args.value s.args.reason (test c.before.before.before.before.before.before.before.before.before.before c.before.before.before.before.before.before.before.before.before.if1.true) (put_then c.before.before.before.before.before.before.put_all.ensures c.before.before.put-decimal.ensures)
+    put-reason s.args.value s.args.reason (test c.before.before.before.before.before.before.before.before.before.before.before c.before.before.before.before.before.before.before.before.before.if-is_blank.true) (put_then c.before.before.before.before.before.before.put_all-next.ensures c.before.before.put_decimal.ensures)
 
-put-value-requires : tie.Need-put-value-requires
+put-value-requires : tie.Need-put_value-requires
 put-value-requires c κs = search rules
 
-same-length-2 : tie.Need-same-length-2
+same-length-2 : tie.Need-shape_of-out
 same-length-2 c = search rules
 
-returns-2 : tie.Need-returns-2
+returns-2 : tie.Need-returns
 returns-2 c =
     let s = c.before.before.before.before.before.before.before in
-    put-no-reason s.args.value s.args.reason (test c.before.before.before.before.before c.before.before.before.before.if1.false) (simp (to_z-of_z s.ranges.value) at c.before.before.put-value.ensures)
+    put-no-reason s.args.value s.args.reason (test c.before.before.before.before.before c.before.before.before.before.if-is_blank.false) (simp (to_z-of_z s.ranges.value) at c.before.before.put_value.ensures)
 
-pub put-reasoned-spec : {M : Type 1} → statement M
-put-reasoned-spec =
+pub put_reasoned_spec : {M : Type 1} → statement M
+put_reasoned_spec =
     tie.close
     (tie.spec
     is-blank-requires
-    slice-aggregate-put-all
     put-all-requires
     put-decimal-requires
     same_length
