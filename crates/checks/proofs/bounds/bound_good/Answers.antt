@@ -7,19 +7,15 @@ use Rattle.integers.proofs.Bits.{eqb-bits}
 use Rattle.paper.specs.Checks.{lowest, highest}
 use Rattle.tables.proofs.Tests.{joined-every}
 use Rattle.checks.proofs.Range.{lowest-range}
-use Rattle.checks.proofs.bounds.bound_good.Statement.{statement}
-use Rattle.checks.proofs.bounds.bound_good.Tie as tie
+use Rattle.checks.proofs.bounds.bound_good.Goals as goal
 
-returns : tie.Need-returns
-returns c =
+pub returns-then-made : goal.returns-then-made
+returns-then-made c =
     let s = c.before in
-    rw c.if1.true
+    rw c.if-made.true
     (ap₂ ◌&&◌ (eqb-bits w32 s.args.low lowest s.ranges.low (sfits_lit tt)) (eqb-bits w32 s.args.high highest s.ranges.high (sfits_lit tt)))
 
-returns-2 : tie.Need-returns-2
-returns-2 c =
+pub returns : goal.returns
+returns c =
     let s = c.before in let low = s.args.low in let high = s.args.high in
-    rw c.if1.false (simp (to_z-of_z s.ranges.low, to_z-of_z s.ranges.high, lowest-range low s.ranges.low, lowest-range high s.ranges.high) (joined-every _ _))
-
-pub bound-good-spec : {M : Type 1} → statement M
-bound-good-spec = tie.close (tie.spec returns returns-2)
+    rw c.if-made.false (simp (to_z-of_z s.ranges.low, to_z-of_z s.ranges.high, lowest-range low s.ranges.low, lowest-range high s.ranges.high) (joined-every _ _))
