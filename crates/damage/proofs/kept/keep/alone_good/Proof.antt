@@ -46,145 +46,145 @@ in_rows s =
     }
 
 -- ── and where its part stands among the entries ──
-end_fits : (w : tie.After-wide2) → Fits w64 (w.before.before.wide.result + w.wide2.result)
-end_fits w = omega (arith, w.before.before.wide.ensures.1, w.wide2.ensures.1)
+end_fits : (w : tie.After-wide-count) → Fits w64 (w.before.before.wide-first.result + w.wide-count.result)
+end_fits w = omega (arith, w.before.before.wide-first.ensures.1, w.wide-count.ensures.1)
 
-first_fits : (w : tie.After-wide2) → Fits w64 (w.before.before.wide.result * 2)
-first_fits w = omega (arith, w.before.before.wide.ensures.1)
+first_fits : (w : tie.After-wide-count) → Fits w64 (w.before.before.wide-first.result * 2)
+first_fits w = omega (arith, w.before.before.wide-first.ensures.1)
 
-to_end : (w : tie.After-wide2) → w.before.before.wide.result ≤ w.before.before.wide.result + w.wide2.result
+to_end : (w : tie.After-wide-count) → w.before.before.wide-first.result ≤ w.before.before.wide-first.result + w.wide-count.result
 to_end w = omega arith
 
-in-entries : (w : tie.After-wide2) → let a = w.before.before.before.before.before.before.before.before.before.args in let end = w.before.before.wide.result + w.wide2.result in
+in-entries : (w : tie.After-wide-count) → let a = w.before.before.before.before.before.before.before.before.before.args in let end = w.before.before.wide-first.result + w.wide-count.result in
     (end ≤ length a.vars.now) × (end ≤ length a.coefs.now)
 in-entries w =
-    let s = w.before.before.before.before.before.before.before.before.before in let h = s.requires.0 in let l = s.requires.1.1 in let f = w.before.before.wide.ensures.0 in let k = w.wide2.ensures.0 in
+    let s = w.before.before.before.before.before.before.before.before.before in let h = s.requires.0 in let l = s.requires.1.1 in let f = w.before.before.wide-first.ensures.0 in let k = w.wide-count.ensures.0 in
     (omega (arith, h.vars), omega (arith, h.coefs))
 
-add-next : tie.Need-overflow-add-next
+add-next : tie.Need-overflow_add-next
 add-next c = next_fits c.before.before.before.before.before
 
-mul_wide : tie.Need-overflow-mul-wide
+mul_wide : tie.Need-offset_bounds-firsts-row
 mul_wide c = (row_fits c.before.before.before.before.before).0
 
-shared-slice-read-wide : tie.Need-shared-slice-read-wide
+shared-slice-read-wide : tie.Need-bounds-firsts-row
 shared-slice-read-wide c = (in_rows c.before.before.before.before.before.before).firsts
 
-wide-requires : tie.Need-wide-requires
+wide-requires : tie.Need-wide-first-requires
 wide-requires c κs = tt
 
-mul-wide-2 : tie.Need-overflow-mul-wide-2
+mul-wide-2 : tie.Need-offset_bounds-counts-row
 mul-wide-2 c = (row_fits c.before.before.before.before.before.before.before).0
 
-shared-slice-read-wide-2 : tie.Need-shared-slice-read-wide-2
+shared-slice-read-wide-2 : tie.Need-bounds-counts-row
 shared-slice-read-wide-2 c = (in_rows c.before.before.before.before.before.before.before.before).count
 
-wide-requires-2 : tie.Need-wide-requires-2
+wide-requires-2 : tie.Need-wide-count-requires
 wide-requires-2 c κs = tt
 
-add-end : tie.Need-overflow-add-end
+add-end : tie.Need-overflow_add-end
 add-end c = end_fits c
 
-mul-row-checks : tie.Need-overflow-mul-row-checks
+mul-row-checks : tie.Need-offset_bounds-kinds-row
 mul-row-checks c = (row_fits c.before.before.before.before.before.before.before.before.before).0
 
-sub-row-checks : tie.Need-overflow-sub-row-checks
+sub-row-checks : tie.Need-slice_bounds-row_checks-count
 sub-row-checks c = to-next c.before.before.before.before.before.before.before.before.before
 
-part-row-checks-start : tie.Need-slice-bounds-row-checks-start
+part-row-checks-start : tie.Need-slice_bounds-row_checks-start
 part-row-checks-start c = to-next c.before.before.before.before.before.before.before.before.before
 
-part-row-checks-end : tie.Need-slice-bounds-row-checks-end
+part-row-checks-end : tie.Need-slice_bounds-row_checks-end
 part-row-checks-end c = (in_rows c.before.before.before.before.before.before.before.before.before).kinds
 
-mul-row-checks-2 : tie.Need-overflow-mul-row-checks-2
+mul-row-checks-2 : tie.Need-offset_bounds-makes-row
 mul-row-checks-2 c = (row_fits c.before.before.before.before.before.before.before.before.before.before).0
 
-sub-row-checks-2 : tie.Need-overflow-sub-row-checks-2
+sub-row-checks-2 : tie.Need-slice_bounds-row_checks-count-2
 sub-row-checks-2 c = to-next c.before.before.before.before.before.before.before.before.before.before
 
-part-row-checks-start-2 : tie.Need-slice-bounds-row-checks-start-2
+part-row-checks-start-2 : tie.Need-slice_bounds-row_checks-start-2
 part-row-checks-start-2 c = to-next c.before.before.before.before.before.before.before.before.before.before
 
-part-row-checks-end-2 : tie.Need-slice-bounds-row-checks-end-2
+part-row-checks-end-2 : tie.Need-slice_bounds-row_checks-end-2
 part-row-checks-end-2 c = (in_rows c.before.before.before.before.before.before.before.before.before.before).makes
 
-mul-row-checks-3 : tie.Need-overflow-mul-row-checks-3
+mul-row-checks-3 : tie.Need-offset_bounds-params-row
 mul-row-checks-3 c = (row_fits c.before.before.before.before.before.before.before.before.before.before.before).1
 
-sub-row-checks-3 : tie.Need-overflow-sub-row-checks-3
+sub-row-checks-3 : tie.Need-slice_bounds-row_checks-count-3
 sub-row-checks-3 c = to-next c.before.before.before.before.before.before.before.before.before.before.before
 
-part-row-checks-start-3 : tie.Need-slice-bounds-row-checks-start-3
+part-row-checks-start-3 : tie.Need-slice_bounds-row_checks-start-3
 part-row-checks-start-3 c = to-next c.before.before.before.before.before.before.before.before.before.before.before
 
-part-row-checks-end-3 : tie.Need-slice-bounds-row-checks-end-3
+part-row-checks-end-3 : tie.Need-slice_bounds-row_checks-end-3
 part-row-checks-end-3 c = (in_rows c.before.before.before.before.before.before.before.before.before.before.before).params
 
-slice-aggregate-row-checks : tie.Need-slice-aggregate-row-checks
+slice-aggregate-row-checks : tie.Need-slice_bounds-row_checks-end-4
 slice-aggregate-row-checks c = refl
 
-mul-row-checks-4 : tie.Need-overflow-mul-row-checks-4
+mul-row-checks-4 : tie.Need-offset_bounds-counts-row-2
 mul-row-checks-4 c = (row_fits c.before.before.before.before.before.before.before.before.before.before.before.before.before).0
 
-sub-row-checks-4 : tie.Need-overflow-sub-row-checks-4
+sub-row-checks-4 : tie.Need-slice_bounds-row_checks-count-4
 sub-row-checks-4 c = to-next c.before.before.before.before.before.before.before.before.before.before.before.before.before
 
-part-row-checks-start-4 : tie.Need-slice-bounds-row-checks-start-4
+part-row-checks-start-4 : tie.Need-slice_bounds-row_checks-start-4
 part-row-checks-start-4 c = to-next c.before.before.before.before.before.before.before.before.before.before.before.before.before
 
-part-row-checks-end-4 : tie.Need-slice-bounds-row-checks-end-4
+part-row-checks-end-4 : tie.Need-slice_bounds-row_checks-end-5
 part-row-checks-end-4 c = (in_rows c.before.before.before.before.before.before.before.before.before.before.before.before.before).counts
 
-mul-row-checks-5 : tie.Need-overflow-mul-row-checks-5
+mul-row-checks-5 : tie.Need-offset_bounds-vars-first
 mul-row-checks-5 c = first_fits c.before.before.before.before.before
 
-sub-row-checks-5 : tie.Need-overflow-sub-row-checks-5
+sub-row-checks-5 : tie.Need-slice_bounds-row_checks-count-5
 sub-row-checks-5 c = to_end c.before.before.before.before.before
 
-part-row-checks-start-5 : tie.Need-slice-bounds-row-checks-start-5
+part-row-checks-start-5 : tie.Need-slice_bounds-row_checks-start-5
 part-row-checks-start-5 c = to_end c.before.before.before.before.before
 
-part-row-checks-end-5 : tie.Need-slice-bounds-row-checks-end-5
+part-row-checks-end-5 : tie.Need-slice_bounds-row_checks-end-6
 part-row-checks-end-5 c = (in-entries c.before.before.before.before.before).0
 
-mul-row-checks-6 : tie.Need-overflow-mul-row-checks-6
+mul-row-checks-6 : tie.Need-offset_bounds-coefs-first
 mul-row-checks-6 c = first_fits c.before.before.before.before.before.before
 
-sub-row-checks-6 : tie.Need-overflow-sub-row-checks-6
+sub-row-checks-6 : tie.Need-slice_bounds-row_checks-count-6
 sub-row-checks-6 c = to_end c.before.before.before.before.before.before
 
-part-row-checks-start-6 : tie.Need-slice-bounds-row-checks-start-6
+part-row-checks-start-6 : tie.Need-slice_bounds-row_checks-start-6
 part-row-checks-start-6 c = to_end c.before.before.before.before.before.before
 
-part-row-checks-end-6 : tie.Need-slice-bounds-row-checks-end-6
+part-row-checks-end-6 : tie.Need-slice_bounds-row_checks-end-7
 part-row-checks-end-6 c = (in-entries c.before.before.before.before.before.before).1
 
-row-checks-requires : tie.Need-row-checks-requires
+row-checks-requires : tie.Need-row_checks-told-requires
 row-checks-requires c κs =
     let w = c.before.before.before.before.before.before.before in let s = w.before.before.before.before.before.before.before.before.before in
-    alone-sized (tables s) s.requires.0 s.args.row s.requires.1.0 w.before.before.wide.result w.wide2.result w.before.before.wide.ensures.0 w.wide2.ensures.0 s.requires.1.1
+    alone-sized (tables s) s.requires.0 s.args.row s.requires.1.0 w.before.before.wide-first.result w.wide-count.result w.before.before.wide-first.ensures.0 w.wide-count.ensures.0 s.requires.1.1
 
-enum_told : tie.Need-enum-told
-enum_told c = c.match.keys1
+enum_told : tie.Need-enum_told-1
+enum_told c = c.in-Accepted.in-Accepted-own.keys1
 
-enum-told-2 : tie.Need-enum-told-2
-enum-told-2 c = c.match.keys2
+enum-told-2 : tie.Need-enum_told-in_default
+enum-told-2 c = c.in_default.in_default-own.keys2
 
-returns : tie.Need-returns
+returns : tie.Need-returns-in_default
 returns c =
-    let w = c.before.before.before.before.before.before.before.before.before.before in let s = w.before.before.before.before.before.before.before.before.before in
-    alone-no (tables s) s.requires.0 s.args.row s.requires.1.0 w.before.before.wide.result w.wide2.result w.before.before.wide.ensures.0 w.wide2.ensures.0
-    _ c.before.before.row-checks.ensures _ _ c.enum-told2.given.1
+    let w = c.before.before.before.before.before.before.before.before.before in let s = w.before.before.before.before.before.before.before.before.before in
+    alone-no (tables s) s.requires.0 s.args.row s.requires.1.0 w.before.before.wide-first.result w.wide-count.result w.before.before.wide-first.ensures.0 w.wide-count.ensures.0
+    _ c.before.row_checks-told.ensures _ _ c.in_default.is
 
-returns-2 : tie.Need-returns-2
+returns-2 : tie.Need-returns
 returns-2 c =
-    let w = c.before.before.before.before.before.before.before.before.before.before in let s = w.before.before.before.before.before.before.before.before.before in
-    alone-yes (tables s) s.requires.0 s.args.row s.requires.1.0 w.before.before.wide.result w.wide2.result w.before.before.wide.ensures.0 w.wide2.ensures.0
-    _ c.before.before.row-checks.ensures _ c.enum_told.given.1
+    let w = c.before.before.before.before.before.before.before.before.before in let s = w.before.before.before.before.before.before.before.before.before in
+    alone-yes (tables s) s.requires.0 s.args.row s.requires.1.0 w.before.before.wide-first.result w.wide-count.result w.before.before.wide-first.ensures.0 w.wide-count.ensures.0
+    _ c.before.row_checks-told.ensures _ c.in-Accepted.is
 
-pub alone-good-spec : {M : Type 1} → statement M
-alone-good-spec =
+pub alone_good_spec : {M : Type 1} → statement M
+alone_good_spec =
     tie.close
     (tie.spec
     add-next
@@ -225,3 +225,4 @@ alone-good-spec =
     enum-told-2
     returns
     returns-2)
+

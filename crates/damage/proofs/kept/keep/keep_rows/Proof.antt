@@ -13,11 +13,11 @@ use Rattle.damage.proofs.Keeping.{gives-sized, taken_start, taken-on, kept-fille
 use Rattle.damage.proofs.kept.keep.keep_rows.Statement.{statement}
 use Rattle.damage.proofs.kept.keep.keep_rows.Tie as tie
 
-abbrev invariant-loop : tie.invariant-loop
+abbrev invariant-loop : tie.invariant-loop-row
 invariant-loop bytes n m e kinds makes params firsts counts vars coefs stands₀ made₀ used₀ row₀ stands made used row =
     (row ≤ m) × Filled (keeps bytes) stands₀ stands row × Taken makes counts (kept_rows bytes row) made used
 
-abbrev decreases-loop : tie.decreases-loop
+abbrev decreases-loop : tie.decreases-loop-row
 decreases-loop bytes n m e kinds makes params firsts counts vars coefs stands₀ made₀ used₀ row₀ stands made used row = m - row
 
 abbrev tables : tie.Start invariant-loop decreases-loop → Tables
@@ -28,58 +28,58 @@ tables s =
 says : (s : tie.Start invariant-loop decreases-loop) → Sized (tables s)
 says s = gives-sized s.requires.0
 
-loop-holds : tie.Need-loop-init invariant-loop decreases-loop
+loop-holds : tie.Need-loop-row-init invariant-loop decreases-loop
 loop-holds c = let a = c.before.before.before.before.before.before.before.args in (omega arith, filled-start _ _, taken_start a.makes.now a.counts.now)
 
-slice-aggregate-can-keep : tie.Need-slice-aggregate-can-keep invariant-loop decreases-loop
-slice-aggregate-can-keep c = sym c.before.before.loop.invariant.2.full
+slice-aggregate-can-keep : tie.Need-slice_bounds-can_keep-end invariant-loop decreases-loop
+slice-aggregate-can-keep c = sym c.before.before.loop-row.invariant.2.full
 
-can-keep-requires : tie.Need-can-keep-requires invariant-loop decreases-loop
-can-keep-requires c κs = (c.before.before.before.before.before.before.before.before.before.before.requires.0, (c.before.loop-test.true, c.before.before.loop.invariant.2))
+can-keep-requires : tie.Need-can_keep-kept-requires invariant-loop decreases-loop
+can-keep-requires c κs = (c.before.before.before.before.before.before.before.before.before.before.requires.0, (c.before.loop-row-test.true, c.before.before.loop-row.invariant.2))
 
-slice-write-stands : tie.Need-slice-write-stands invariant-loop decreases-loop
-slice-write-stands c = let long = c.before.before.before.loop.invariant.1.long in let room = c.before.before.before.before.before.before.before.before.before.before.before.requires.1 in omega arith
+slice-write-stands : tie.Need-bounds-stands-row invariant-loop decreases-loop
+slice-write-stands c = let long = c.before.before.before.loop-row.invariant.1.long in let room = c.before.before.before.before.before.before.before.before.before.before.before.requires.1 in omega arith
 
-mul-take-row : tie.Need-overflow-mul-take-row invariant-loop decreases-loop
+mul-take-row : tie.Need-offset_bounds-makes-row invariant-loop decreases-loop
 mul-take-row c = let h = says c.before.before.before.before.before.before.before.before.before.before.before in search rules
 
-shared-slice-read-take-row : tie.Need-shared-slice-read-take-row invariant-loop decreases-loop
+shared-slice-read-take-row : tie.Need-bounds-makes-row invariant-loop decreases-loop
 shared-slice-read-take-row c = let h = says c.before.before.before.before.before.before.before.before.before.before.before.before in omega arith
 
-mul-take-row-2 : tie.Need-overflow-mul-take-row-2 invariant-loop decreases-loop
+mul-take-row-2 : tie.Need-offset_bounds-counts-row invariant-loop decreases-loop
 mul-take-row-2 c = let h = says c.before.before.before.before.before.before.before.before.before.before.before.before in search rules
 
-shared-slice-read-take-row-2 : tie.Need-shared-slice-read-take-row-2 invariant-loop decreases-loop
+shared-slice-read-take-row-2 : tie.Need-bounds-counts-row invariant-loop decreases-loop
 shared-slice-read-take-row-2 c = let h = says c.before.before.before.before.before.before.before.before.before.before.before.before.before in omega arith
 
-slice-aggregate-take-row : tie.Need-slice-aggregate-take-row invariant-loop decreases-loop
-slice-aggregate-take-row c = sym c.before.before.before.before.before.before.loop.invariant.2.full
+slice-aggregate-take-row : tie.Need-slice_bounds-take_row-end invariant-loop decreases-loop
+slice-aggregate-take-row c = sym c.before.before.before.before.before.before.loop-row.invariant.2.full
 
-take-row-requires : tie.Need-take-row-requires invariant-loop decreases-loop
-take-row-requires c κs = c.before.before.before.before.before.before.loop.invariant.2.few
+take-row-requires : tie.Need-take_row-used-requires invariant-loop decreases-loop
+take-row-requires c κs = c.before.before.before.before.before.before.loop-row.invariant.2.few
 
-add_row : tie.Need-overflow-add-row invariant-loop decreases-loop
+add_row : tie.Need-overflow_step-row invariant-loop decreases-loop
 add_row c = search rules
 
-loop-less : tie.Need-loop-smaller invariant-loop decreases-loop
+loop-less : tie.Need-loop-row-smaller invariant-loop decreases-loop
 loop-less c = search rules
 
-loop-again : tie.Need-loop-preserved invariant-loop decreases-loop
+loop-again : tie.Need-loop-row-preserved invariant-loop decreases-loop
 loop-again c =
     let k = c.before.before.before.before.before in let l = k.before.before.before in let s = l.before.before.before.before.before.before.before.before in let room = s.requires.1 in (
       omega arith,
-      filled_next _ _ _ _ l.loop.invariant.1 (omega arith) k.can-keep.ensures,
-      taken-on {t = tables s} s.requires.0 l.loop.row l.loop.invariant.2 k.can-keep.ensures c.before.take_row.ensures.0 c.before.take_row.ensures.1,
+      filled_next _ _ _ _ l.loop-row.invariant.1 (omega arith) k.can_keep-kept.ensures,
+      taken-on {t = tables s} s.requires.0 l.loop-row.row l.loop-row.invariant.2 k.can_keep-kept.ensures c.before.take_row-used.ensures.0 c.before.take_row-used.ensures.1,
     )
 
-same_length : tie.Need-same-length invariant-loop decreases-loop
+same_length : tie.Need-shape_of-stands invariant-loop decreases-loop
 same_length c = search rules
 
 returns : tie.Need-returns invariant-loop decreases-loop
-returns c = kept-filled c.before.loop.invariant.1 (omega arith)
+returns c = kept-filled c.before.loop-row.invariant.1 (omega arith)
 
-pub keep-rows-spec : {M : Type 1} → statement M
-keep-rows-spec =
+pub keep_rows_spec : {M : Type 1} → statement M
+keep_rows_spec =
     tie.close
     (tie.spec
     invariant-loop
@@ -99,3 +99,4 @@ keep-rows-spec =
     loop-again
     same_length
     returns)
+

@@ -1,0 +1,16 @@
+-- The count stays how many of the numbers passed have the flag wanted. Assumes nothing.
+use Prim.Native.Nat.{◌-◌, ◌≤◌}
+use native.Mathlib.Omega.{arith}
+use mathlib.Core.Bool.{false}
+use mathlib.Core.Path.{◌≡◌}
+use lib.ListN.{length, get_or}
+use borrow.Author.Rules.{rules}
+use Rattle.damage.specs.Flags.{flag_wanted, flagged}
+use Rattle.damage.proofs.Stored.{those-more, those-most}
+use Rattle.damage.proofs.flags.count_flagged.Given as goal
+
+abbrev pub invariant-loop-i : goal.invariant-loop-i
+invariant-loop-i l = (l.i ≤ l.n) × (l.k ≡ length (flagged l.wanted l.flags l.i))
+
+abbrev pub decreases-loop-i : goal.decreases-loop-i
+decreases-loop-i l = l.n - l.i
