@@ -5,11 +5,7 @@ use lib.IntN.{negsuc}
 use mir.Syntax.{w32}
 use mir.Facts.{sfits_lit}
 use Rattle.integers.proofs.Bits.{eqb-bits}
-use Rattle.times.proofs.overlaps.has_value.Statement.{statement}
-use Rattle.times.proofs.overlaps.has_value.Tie as tie
+use Rattle.times.proofs.overlaps.has_value.Goals as goal
 
-returns : tie.Need-returns
+pub returns : goal.returns
 returns c = ap not (eqb-bits w32 c.args.number (negsuc 2147483647) c.ranges.number (sfits_lit tt))
-
-pub has-value-spec : {M : Type 1} → statement M
-has-value-spec = tie.close (tie.spec returns)
