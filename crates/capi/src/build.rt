@@ -9,8 +9,7 @@ use records::Session;
 use records::answers::{Outcome, in_numbers};
 
 // `engine::build` for C. The reason of every variable is given.
-#[unsafe(no_mangle)]
-pub extern "C" fn lukhandro_build(
+pub fn lukhandro_build(
     session: &mut Session,
     n: usize,
     m: usize,

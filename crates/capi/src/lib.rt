@@ -1,4 +1,4 @@
-// The calls for C and Rust. Each states what the call beneath it states.
+// The calls for C and Rust, each under the name by which C calls it. Each states what the call beneath it states. The crate capi_c exports them.
 #![tactic(auto)]
 
 mod batch;
