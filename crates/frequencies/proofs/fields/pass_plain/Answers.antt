@@ -1,0 +1,11 @@
+use native.Mathlib.Omega.{arith}
+use mathlib.Core.Path.{refl, sym, ◌∙◌}
+use Prim.Native.Nat.{◌-◌}
+use lib.ListN.{length}
+use Rattle.frequencies.specs.Scan.{goes_on, PlainPassed}
+use Rattle.frequencies.proofs.Scanning.{there, plain-none, plain-next}
+use Rattle.frequencies.proofs.fields.pass_plain.Goals as goal
+
+pub loop-quote-preserved : goal.loop-quote-preserved
+loop-quote-preserved c =
+    plain-next c.args.bytes.now c.args.at c.loop-quote.invariant (sym c.goes_on.ensures ∙ c.loop-quote-test.true)

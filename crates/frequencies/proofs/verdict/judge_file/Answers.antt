@@ -1,0 +1,12 @@
+-- The rows of a file are those of its bytes without the line ends at its end (`file-judged`). Assumes nothing.
+use mathlib.Core.Path.{refl, sym}
+use lib.Seq.{length-take-le}
+use borrow.Author.Rules.{rules}
+use Rattle.frequencies.proofs.Deciding.{file-long, file-scannable, file-judged}
+use Rattle.frequencies.proofs.verdict.judge_file.Goals as goal
+
+pub returns : goal.returns
+returns c =
+    let a = c.args in
+    file-judged a.bytes.now a.room c.if-bytes-gt2147483647.false c.mark_length-mark.ensures.0 c.body_end-end.ensures
+    c.judge_body.ensures
