@@ -3,6 +3,7 @@ use native.Mathlib.Omega.{arith}
 use mathlib.Core.Bool.{not, ◌&&◌}
 use mathlib.Core.Path.{refl, ap, ap₂, ◌∙◌}
 use lib.Dec.{eqb, leb, ltb}
+use mir.Syntax.{w32}
 use mir.Facts.{to_z-of_z}
 use borrow.Author.Rules.{rules, sfits_of}
 use Rattle.integers.specs.Integers.{eq_z}
@@ -34,9 +35,9 @@ returns c =
       is₃ = ap (λ n. eqb n a.width) s.width;
       is₄ = s.right;
       is₅ = c.both_values.ensures ∙ ap₂ (λ x y. not (eq_z x blank) && not (eq_z y blank))
-          (to_z-of_z (sfits_of c.time_at.type_inv) ∙ c.time_at-start.ensures ∙ ap time s.columns.start.bytes-are)
-          (to_z-of_z (sfits_of c.time_at2.type_inv) ∙ c.time_at-end.ensures ∙ ap time s.columns.end.bytes-are);
-      is₆ = ap not (c.is_blank.ensures ∙ ap (λ z. eq_z z blank) (to_z-of_z (sfits_of c.headway_at.type_inv) ∙ c.headway_at-headway.ensures ∙ ap headway s.columns.headway.bytes-are));
+          (to_z-of_z {w = w32} (sfits_of c.time_at-start.type_inv) ∙ c.time_at-start.ensures ∙ ap time s.columns.start.bytes-are)
+          (to_z-of_z {w = w32} (sfits_of c.time_at-end.type_inv) ∙ c.time_at-end.ensures ∙ ap time s.columns.end.bytes-are);
+      is₆ = ap not (c.is_blank.ensures ∙ ap (λ z. eq_z z blank) (to_z-of_z {w = w32} (sfits_of c.headway_at-headway.type_inv) ∙ c.headway_at-headway.ensures ∙ ap headway s.columns.headway.bytes-are));
       is₇ = ap (λ e. leb e 1) (c.exact_at-exact.ensures ∙ ap exact s.columns.exact.bytes-are);
       is₈ = ap (ltb 0) s.columns.trip.size_is;
     })
