@@ -1,11 +1,6 @@
-use Prim.Native.Nat.{◌-◌}
 use native.Mathlib.Omega.{arith}
-use mathlib.Core.List.{[]}
-use borrow.Author.Rules.{rules}
-use borrow.Author.Tests.{lt-leb, le-leb}
-use Rattle.paper.proofs.Scan.{Scan, scan-start, scan-next, scan-found, scan-all}
-use Rattle.frequencies.specs.Reading.{windows_in}
-use Rattle.frequencies.specs.Writing.{exact_good_at}
+use borrow.Author.Tests.{lt-leb}
+use Rattle.paper.proofs.Scan.{scan-found, scan-all}
 use Rattle.frequencies.proofs.checks.first_bad_exact.Goals as goal
 
 pub returns-then-exacts-i-gt1 : goal.returns-then-exacts-i-gt1

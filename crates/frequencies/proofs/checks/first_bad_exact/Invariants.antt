@@ -1,10 +1,6 @@
 -- The loop has passed every window before this one (`Scan`). Assumes nothing.
-use Prim.Native.Nat.{◌-◌}
-use native.Mathlib.Omega.{arith}
 use mathlib.Core.List.{[]}
-use borrow.Author.Rules.{rules}
-use borrow.Author.Tests.{lt-leb, le-leb}
-use Rattle.paper.proofs.Scan.{Scan, scan-start, scan-next, scan-found, scan-all}
+use Rattle.paper.proofs.Scan.{Scan}
 use Rattle.frequencies.specs.Reading.{windows_in}
 use Rattle.frequencies.specs.Writing.{exact_good_at}
 use Rattle.frequencies.proofs.checks.first_bad_exact.Given as goal

@@ -1,17 +1,12 @@
-use Prim.Native.Nat.{◌-◌}
 use native.Mathlib.Omega.{arith}
-use mathlib.Core.List.{[]}
-use mathlib.Core.Path.{◌≡◌, sym, ◌∙◌}
+use mathlib.Core.Path.{sym, ◌∙◌}
 use lib.IntN.{pos}
 use lib.ListN.{get_or}
-use borrow.Author.Rules.{rules, sfits_of}
-use borrow.Author.Tests.{not-true, not-false}
+use borrow.Author.Rules.{rules}
 use mir.Syntax.{w32}
 use mir.Val.{SFits}
 use mir.Facts.{to_z-of_z}
-use Rattle.paper.proofs.Scan.{Scan, scan-start, scan-next, scan-found, scan-all}
-use Rattle.frequencies.specs.Reading.{windows_in}
-use Rattle.frequencies.specs.Writing.{headway_good_at}
+use Rattle.paper.proofs.Scan.{scan-found, scan-all}
 use Rattle.frequencies.proofs.checks.first_bad_headway.Goals as goal
 
 pub returns-then-not-headway_good : goal.returns-then-not-headway_good

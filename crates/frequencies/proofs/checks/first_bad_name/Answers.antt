@@ -1,13 +1,6 @@
-use Prim.Native.Nat.{◌-◌}
 use native.Mathlib.Omega.{arith}
-use mathlib.Core.List.{[]}
-use mathlib.Core.Path.{◌≡◌, sym, ◌∙◌}
-use borrow.Author.Rules.{rules}
-use borrow.Author.Tests.{not-true, not-false}
-use lib.ListN.{length}
-use Rattle.paper.proofs.Scan.{Scan, scan-start, scan-next, scan-found, scan-all}
-use Rattle.frequencies.specs.Reading.{windows_in}
-use Rattle.frequencies.specs.Writing.{named_at}
+use mathlib.Core.Path.{sym, ◌∙◌}
+use Rattle.paper.proofs.Scan.{scan-found, scan-all}
 use Rattle.frequencies.proofs.checks.first_bad_name.Goals as goal
 
 pub returns-then-not-name_good : goal.returns-then-not-name_good

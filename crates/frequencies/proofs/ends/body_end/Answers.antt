@@ -1,7 +1,5 @@
 use mathlib.Core.Path.{sym, ◌∙◌}
-use borrow.Author.Rules.{rules}
-use borrow.Author.Tests.{not-true, not-false}
-use Rattle.frequencies.proofs.Behind.{Behind, behind-start, behind-next, behind-found, behind-all}
+use Rattle.frequencies.proofs.Behind.{behind-found, behind-all}
 use Rattle.frequencies.proofs.ends.body_end.Goals as goal
 
 pub returns-then-not-ends_line : goal.returns-then-not-ends_line

@@ -1,8 +1,5 @@
 -- Behind the place that the loop has come to stand only line ends (`Behind`). Assumes nothing.
-use mathlib.Core.Path.{sym, ◌∙◌}
-use borrow.Author.Rules.{rules}
-use borrow.Author.Tests.{not-true, not-false}
-use Rattle.frequencies.proofs.Behind.{Behind, behind-start, behind-next, behind-found, behind-all}
+use Rattle.frequencies.proofs.Behind.{Behind}
 use Rattle.frequencies.proofs.ends.body_end.Given as goal
 
 abbrev pub invariant-loop-end : goal.invariant-loop-end

@@ -1,6 +1,5 @@
 -- The mark is there if all of its three bytes are. Assumes nothing.
 use native.Mathlib.Omega.{arith}
-use borrow.Author.Rules.{rules}
 use Rattle.frequencies.proofs.Behind.{mark-first, mark-second, mark-third, mark-short, mark-there}
 use Rattle.frequencies.proofs.ends.mark_length.Goals as goal
 

@@ -1,10 +1,8 @@
 -- What is left begins with a comma, a line feed, or a return and a line feed, or is nothing, and each says what is behind it. Assumes nothing.
 use native.Mathlib.Omega.{arith}
-use lib.Dec.{eqb}
 use borrow.Author.Tests.{eq-eqb, ne_eqb}
 use Rattle.paper.specs.Lists.{nat}
-use Rattle.frequencies.proofs.Scanning.{at_most_one, end-file, end-comma, end_line}
-use borrow.Author.Rules.{rules}
+use Rattle.frequencies.proofs.Scanning.{end-file, end-comma, end_line}
 use Rattle.frequencies.proofs.fields.pass_end.Goals as goal
 
 pub returns-then-bytes-at : goal.returns-then-bytes-at

@@ -1,9 +1,5 @@
-use native.Mathlib.Omega.{arith}
-use mathlib.Core.Path.{refl, sym, ◌∙◌}
-use Prim.Native.Nat.{◌-◌}
-use lib.ListN.{length}
-use Rattle.frequencies.specs.Scan.{goes_on, PlainPassed}
-use Rattle.frequencies.proofs.Scanning.{there, plain-none, plain-next}
+use mathlib.Core.Path.{sym, ◌∙◌}
+use Rattle.frequencies.proofs.Scanning.{plain-next}
 use Rattle.frequencies.proofs.fields.pass_plain.Goals as goal
 
 pub loop-quote-preserved : goal.loop-quote-preserved

@@ -1,10 +1,7 @@
 -- Each byte that goes on belongs to the field (`PlainPassed`), and the first that does not ends it. Assumes nothing.
-use native.Mathlib.Omega.{arith}
-use mathlib.Core.Path.{refl, sym, ◌∙◌}
 use Prim.Native.Nat.{◌-◌}
 use lib.ListN.{length}
-use Rattle.frequencies.specs.Scan.{goes_on, PlainPassed}
-use Rattle.frequencies.proofs.Scanning.{there, plain-none, plain-next}
+use Rattle.frequencies.specs.Scan.{PlainPassed}
 use Rattle.frequencies.proofs.fields.pass_plain.Given as goal
 
 abbrev pub invariant-loop-quote : goal.invariant-loop-quote

@@ -1,11 +1,5 @@
-use native.Mathlib.Omega.{arith}
-use mathlib.Core.Path.{refl, sym, ◌∙◌}
-use Prim.Native.Nat.{◌-◌}
-use lib.Dec.{eqb}
-use lib.ListN.{length}
-use Rattle.paper.specs.Lists.{nat}
-use Rattle.frequencies.specs.Scan.{stays_in, QuotesPassed}
-use Rattle.frequencies.proofs.Scanning.{there, at_most_one, quotes-none, quotes-next}
+use mathlib.Core.Path.{sym, ◌∙◌}
+use Rattle.frequencies.proofs.Scanning.{quotes-next}
 use Rattle.frequencies.proofs.fields.pass_quotes.Goals as goal
 
 pub loop-b-preserved : goal.loop-b-preserved

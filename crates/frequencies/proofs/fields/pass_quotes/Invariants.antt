@@ -1,12 +1,7 @@
 -- Each byte that stays in belongs to the field (`QuotesPassed`), and a line feed among them begins a line. Assumes nothing.
-use native.Mathlib.Omega.{arith}
-use mathlib.Core.Path.{refl, sym, ◌∙◌}
 use Prim.Native.Nat.{◌-◌}
-use lib.Dec.{eqb}
 use lib.ListN.{length}
-use Rattle.paper.specs.Lists.{nat}
-use Rattle.frequencies.specs.Scan.{stays_in, QuotesPassed}
-use Rattle.frequencies.proofs.Scanning.{there, at_most_one, quotes-none, quotes-next}
+use Rattle.frequencies.specs.Scan.{QuotesPassed}
 use Rattle.frequencies.proofs.fields.pass_quotes.Given as goal
 
 abbrev pub invariant-loop-b : goal.invariant-loop-b

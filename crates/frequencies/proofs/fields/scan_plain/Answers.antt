@@ -1,6 +1,5 @@
 -- The bytes to the end are those of the field, whose quotes are right if it has none. Assumes nothing.
 use Rattle.frequencies.proofs.Scanning.{plain-scanned}
-use borrow.Author.Rules.{rules}
 use Rattle.frequencies.proofs.fields.scan_plain.Goals as goal
 
 pub returns : goal.returns

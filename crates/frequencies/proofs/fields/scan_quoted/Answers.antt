@@ -1,9 +1,5 @@
 -- Behind the first quote come the bytes to the quote that closes the field, and any behind it are wrong. Assumes nothing.
-use native.Mathlib.Omega.{arith}
-use mathlib.Core.Path.{refl}
-use Rattle.frequencies.specs.Scan.{headed_by}
-use Rattle.frequencies.proofs.Scanning.{there, quoted-scanned}
-use borrow.Author.Rules.{rules}
+use Rattle.frequencies.proofs.Scanning.{quoted-scanned}
 use Rattle.frequencies.proofs.fields.scan_quoted.Goals as goal
 
 pub returns : goal.returns

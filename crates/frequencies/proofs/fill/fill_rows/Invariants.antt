@@ -1,8 +1,6 @@
 -- The windows of the rows passed stand in the first places (`Filled`), and behind the last row none is left. Assumes nothing.
-use native.Mathlib.Omega.{arith}
 use Rattle.frequencies.specs.Reading.{windows_in}
 use Rattle.frequencies.specs.Filling.{rows_from, Filled, still_to_fill}
-use Rattle.frequencies.proofs.Filling.{row-held, filled_none, filled-room, filled_next, filled-less, filled-all}
 use Rattle.frequencies.proofs.fill.fill_rows.Given as goal
 
 abbrev pub invariant-loop-left : goal.invariant-loop-left

@@ -1,13 +1,10 @@
 -- What was found goes on to the bytes that are left. Assumes nothing.
-use Prim.Native.Nat.{◌+◌, ◌-◌}
-use native.Mathlib.Omega.{arith}
+use Prim.Native.Nat.{◌-◌}
 use mathlib.Core.Bool.{◌||◌}
-use mathlib.Core.Path.{◌≡◌, refl, ap, sym, ◌∙◌}
-use lib.Dec.{eqb}
+use mathlib.Core.Path.{◌≡◌}
 use lib.ListN.{length, drop}
-use Rattle.paper.specs.Lists.{any, nat}
+use Rattle.paper.specs.Lists.{any}
 use Rattle.frequencies.specs.Csv.{is_quote}
-use Rattle.frequencies.proofs.Scanning.{past_end, next-byte, or-on, or-none}
 use Rattle.frequencies.proofs.fill.has_quote.Given as goal
 
 abbrev pub invariant-loop-i : goal.invariant-loop-i

@@ -1,5 +1,4 @@
-use Rattle.frequencies.specs.Heading.{still_to_seek}
-use Rattle.frequencies.proofs.Naming.{Seeking, seeking-start, seeking-next, seeking-end}
+use Rattle.frequencies.proofs.Naming.{seeking-next}
 use Rattle.frequencies.proofs.header.find.Goals as goal
 
 pub loop-sought-preserved : goal.loop-sought-preserved

@@ -1,6 +1,6 @@
 -- What was found and what is left say what all fields do (`Seeking`). Assumes nothing.
 use Rattle.frequencies.specs.Heading.{still_to_seek}
-use Rattle.frequencies.proofs.Naming.{Seeking, seeking-start, seeking-next, seeking-end}
+use Rattle.frequencies.proofs.Naming.{Seeking}
 use Rattle.frequencies.proofs.header.find.Given as goal
 
 abbrev pub invariant-loop-sought : goal.invariant-loop-sought

@@ -1,15 +1,11 @@
 -- What stands in the field is compared, and what is left is what was left without it (`sought-next`). Assumes nothing.
-use native.Mathlib.Omega.{arith}
 use mathlib.Core.Bool.{cond}
 use mathlib.Core.Path.{ap, ap₂, ◌∙◌}
 use lib.ListN.{take, drop}
 use Prim.Native.Nat.{◌+◌}
-use borrow.Author.Rules.{rules}
 use Rattle.frequencies.specs.Values.{same}
-use Rattle.frequencies.proofs.Scanning.{at_most_one}
 use Rattle.frequencies.proofs.ByField.{field-stands}
 use Rattle.frequencies.proofs.Naming.{sought-next}
-use Rattle.frequencies.proofs.Scanning.{at_most_one}
 use Rattle.frequencies.proofs.ByField.{field-stands}
 use Rattle.frequencies.proofs.Naming.{sought-next}
 use Rattle.frequencies.proofs.header.find_next.Goals as goal

@@ -1,5 +1,4 @@
 -- Five names found, and the row scanned with their columns (`headed`). Assumes nothing.
-use borrow.Author.Rules.{rules}
 use Rattle.frequencies.proofs.Naming.{headed}
 use Rattle.frequencies.proofs.header.read_header.Goals as goal
 

@@ -1,11 +1,10 @@
 -- Each check sees what stands in its column (`row-judged`). Assumes nothing.
-use native.Mathlib.Omega.{arith}
 use mathlib.Core.Bool.{not, ◌&&◌}
 use mathlib.Core.Path.{refl, ap, ap₂, ◌∙◌}
 use lib.Dec.{eqb, leb, ltb}
 use mir.Syntax.{w32}
 use mir.Facts.{to_z-of_z}
-use borrow.Author.Rules.{rules, sfits_of}
+use borrow.Author.Rules.{sfits_of}
 use Rattle.integers.specs.Integers.{eq_z}
 use Rattle.paper.specs.Formula.{blank}
 use Rattle.frequencies.specs.Values.{time, headway, exact}

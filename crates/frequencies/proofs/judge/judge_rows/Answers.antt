@@ -1,5 +1,4 @@
-use Rattle.frequencies.specs.Judging.{still_to_judge, JudgedSince}
-use Rattle.frequencies.proofs.Checking.{since-start, since-next, since-end}
+use Rattle.frequencies.proofs.Checking.{since-next, since-end}
 use Rattle.frequencies.proofs.judge.judge_rows.Goals as goal
 
 pub loop-j-preserved : goal.loop-j-preserved

@@ -1,6 +1,5 @@
 -- What was found and the rows that are left say what all rows do (`JudgedSince`). Assumes nothing.
 use Rattle.frequencies.specs.Judging.{still_to_judge, JudgedSince}
-use Rattle.frequencies.proofs.Checking.{since-start, since-next, since-end}
 use Rattle.frequencies.proofs.judge.judge_rows.Given as goal
 
 abbrev pub invariant-loop-j : goal.invariant-loop-j

@@ -1,8 +1,5 @@
 -- The sizes of the parts, with three commas and the three bytes at the end (`line-long`). Assumes nothing.
-use Prim.Native.Nat.{◌+◌, ◌≤◌}
 use native.Mathlib.Omega.{arith}
-use mathlib.Core.Path.{sym}
-use borrow.Author.Rules.{rules}
 use Rattle.frequencies.specs.Writing.{name_of}
 use Rattle.frequencies.proofs.Saying.{line-long}
 use Rattle.frequencies.proofs.lines.line_size.Goals as goal

@@ -1,5 +1,4 @@
 -- The eight parts of a line are put one behind the other (`puts_then`). Assumes nothing.
-use borrow.Author.Rules.{rules}
 use Rattle.frequencies.proofs.Putting.{puts_then}
 use Rattle.frequencies.proofs.lines.put_line.Goals as goal
 

@@ -1,12 +1,8 @@
 -- The name is a part of the text, and the line is as long as its parts are. Assumes nothing.
-use Prim.Native.Nat.{◌+◌, ◌-◌, ◌≤◌}
+use Prim.Native.Nat.{◌+◌, ◌-◌}
 use native.Mathlib.Omega.{arith}
 use mathlib.Core.Path.{◌≡◌}
-use borrow.Author.Rules.{rules}
-use lib.ListN.{length, take, drop}
 use mir.Facts.{to_z-of_z}
-use Rattle.paper.proofs.Scan.{part_length}
-use Rattle.frequencies.specs.Puts.{Doubles}
 use Rattle.frequencies.proofs.lines.window_size.Goals as goal
 
 pub returns : goal.returns

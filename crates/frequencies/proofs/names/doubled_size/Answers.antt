@@ -1,10 +1,8 @@
-use Prim.Native.Nat.{◌≤◌, ◌-◌, ◌*◌}
 use native.Mathlib.Omega.{arith}
 use mathlib.Core.List.{[], ◌∷◌}
-use mathlib.Core.Path.{◌≡◌, refl, ap, sym, ◌∙◌}
+use mathlib.Core.Path.{ap}
 use borrow.Author.Rules.{rules}
 use lib.ListN.{length, take, length-append}
-use lib.Seq.{take_all}
 use Rattle.paper.specs.Lists.{nat}
 use Rattle.frequencies.specs.Writing.{doubled}
 use Rattle.frequencies.proofs.Quoting.{doubled-next}

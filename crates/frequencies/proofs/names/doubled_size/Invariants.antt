@@ -1,14 +1,8 @@
 -- The size is that of the bytes passed, and each turn adds the next one's (`doubled-next`). Assumes nothing.
-use Prim.Native.Nat.{◌≤◌, ◌-◌, ◌*◌}
-use native.Mathlib.Omega.{arith}
-use mathlib.Core.List.{[], ◌∷◌}
-use mathlib.Core.Path.{◌≡◌, refl, ap, sym, ◌∙◌}
-use borrow.Author.Rules.{rules}
-use lib.ListN.{length, take, length-append}
-use lib.Seq.{take_all}
-use Rattle.paper.specs.Lists.{nat}
+use Prim.Native.Nat.{◌≤◌, ◌*◌}
+use mathlib.Core.Path.{◌≡◌}
+use lib.ListN.{length, take}
 use Rattle.frequencies.specs.Writing.{doubled}
-use Rattle.frequencies.proofs.Quoting.{doubled-next}
 use Rattle.frequencies.proofs.names.doubled_size.Given as goal
 
 abbrev pub invariant-loop-i : goal.invariant-loop-i

@@ -1,14 +1,8 @@
 -- The answer is that of the bytes passed, and each turn joins the next (`any_next`). Assumes nothing.
-use Prim.Native.Nat.{◌≤◌, ◌-◌}
-use native.Mathlib.Omega.{arith}
-use mathlib.Core.Path.{◌≡◌, refl, ap, ap₂, sym, ◌∙◌}
-use mathlib.Core.Bool.{◌||◌}
-use borrow.Author.Rules.{rules}
+use Prim.Native.Nat.{◌≤◌}
+use mathlib.Core.Path.{◌≡◌}
 use lib.ListN.{length, take}
-use lib.Seq.{take_all}
-use Rattle.paper.proofs.Scan.{any_next}
 use Rattle.frequencies.specs.Writing.{must_quote}
-use Rattle.frequencies.proofs.Quoting.{asks}
 use Rattle.frequencies.proofs.names.must_quote.Given as goal
 
 abbrev pub invariant-loop-i : goal.invariant-loop-i

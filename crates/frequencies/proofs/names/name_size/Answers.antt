@@ -1,7 +1,6 @@
 -- A quoted name has two quotes around it (`name-long`), and another is its bytes. Assumes nothing.
 use native.Mathlib.Omega.{arith}
 use mathlib.Core.Path.{ap, sym, ◌∙◌}
-use borrow.Author.Rules.{rules}
 use lib.ListN.{length}
 use Rattle.frequencies.proofs.Quoting.{name-plain, name-long}
 use Rattle.frequencies.proofs.names.name_size.Goals as goal

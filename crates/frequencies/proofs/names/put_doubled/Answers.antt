@@ -1,12 +1,6 @@
-use Prim.Native.Nat.{◌≤◌, ◌-◌}
 use native.Mathlib.Omega.{arith}
-use mathlib.Core.Path.{◌≡◌}
 use borrow.Author.Rules.{rules}
-use lib.ListN.{length, take}
-use lib.Seq.{take_all}
-use Rattle.frequencies.specs.Puts.{Puts}
-use Rattle.frequencies.specs.Writing.{doubled}
-use Rattle.frequencies.proofs.Putting.{puts-nothing, puts_then}
+use Rattle.frequencies.proofs.Putting.{puts_then}
 use Rattle.frequencies.proofs.Quoting.{doubled-next}
 use Rattle.frequencies.proofs.names.put_doubled.Goals as goal
 

@@ -1,14 +1,9 @@
 -- The bytes passed have been put, and each turn puts the next behind them (`doubled-next`). Assumes nothing.
-use Prim.Native.Nat.{◌≤◌, ◌-◌}
-use native.Mathlib.Omega.{arith}
+use Prim.Native.Nat.{◌≤◌}
 use mathlib.Core.Path.{◌≡◌}
-use borrow.Author.Rules.{rules}
 use lib.ListN.{length, take}
-use lib.Seq.{take_all}
 use Rattle.frequencies.specs.Puts.{Puts}
 use Rattle.frequencies.specs.Writing.{doubled}
-use Rattle.frequencies.proofs.Putting.{puts-nothing, puts_then}
-use Rattle.frequencies.proofs.Quoting.{doubled-next}
 use Rattle.frequencies.proofs.names.put_doubled.Given as goal
 
 abbrev pub invariant-loop-i : goal.invariant-loop-i

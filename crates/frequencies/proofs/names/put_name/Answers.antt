@@ -1,6 +1,5 @@
 -- A name that must be quoted is put between quotes (`name-quoted`), and another as it stands. Assumes nothing.
 use mathlib.Core.Path.{sym, ◌∙◌}
-use borrow.Author.Rules.{rules}
 use Rattle.frequencies.proofs.Putting.{puts_then}
 use Rattle.frequencies.proofs.Quoting.{name-quoted, name-plain}
 use Rattle.frequencies.proofs.names.put_name.Goals as goal

@@ -1,12 +1,9 @@
 -- The quotes passed stood double, but for one that the next byte must follow: what is left decides as the whole does (`double-goes`). Assumes nothing.
-use Prim.Native.Nat.{◌≤◌, ◌-◌}
-use native.Mathlib.Omega.{arith}
+use Prim.Native.Nat.{◌≤◌}
 use mathlib.Core.Bool.{false}
-use mathlib.Core.Path.{◌≡◌, refl}
-use borrow.Author.Rules.{rules}
+use mathlib.Core.Path.{◌≡◌}
 use lib.ListN.{length, drop}
 use Rattle.frequencies.specs.Csv.{doubled_from}
-use Rattle.frequencies.proofs.Quoting.{double-stops, double-goes, double-ends}
 use Rattle.frequencies.proofs.names.quotes_double.Given as goal
 
 abbrev pub invariant-loop-i : goal.invariant-loop-i

@@ -1,12 +1,8 @@
 -- With room for all, the bytes passed stand in their places, and each turn stores the next (`stored_next`). Assumes nothing.
-use Prim.Native.Nat.{◌+◌, ◌-◌, ◌≤◌}
-use native.Mathlib.Omega.{arith}
-use mathlib.Core.Path.{◌≡◌, refl, ap, sym, ◌∙◌}
-use borrow.Author.Rules.{rules}
-use borrow.Author.Tests.{leb-true, not-true, not-false}
+use Prim.Native.Nat.{◌+◌, ◌≤◌}
+use mathlib.Core.Path.{◌≡◌}
 use lib.ListN.{length, take}
-use lib.Seq.{sets, length-sets}
-use Rattle.frequencies.proofs.Putting.{puts-no-room, stored_next, puts-stored}
+use lib.Seq.{sets}
 use Rattle.frequencies.proofs.puts.put_all.Given as goal
 
 abbrev pub invariant-loop-i : goal.invariant-loop-i

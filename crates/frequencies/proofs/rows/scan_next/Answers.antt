@@ -1,12 +1,9 @@
 -- The field at the next place is the row's next one (`OneMore`), so the row's first fields are those before it and it. Assumes nothing.
 use Prim.Native.Nat.{◌+◌}
-use native.Mathlib.Omega.{arith}
 use mathlib.Core.Bool.{cond}
 use mathlib.Core.Path.{refl, ap, ◌∙◌}
 use lib.Dec.{eqb}
-use Rattle.frequencies.proofs.Scanning.{at_most_one}
 use Rattle.frequencies.proofs.ByField.{OneMore, part-next, less-next}
-use borrow.Author.Rules.{rules}
 use Rattle.frequencies.proofs.rows.scan_next.Goals as goal
 
 pub returns : goal.returns

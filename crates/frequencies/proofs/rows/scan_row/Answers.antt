@@ -1,5 +1,4 @@
-use Rattle.frequencies.specs.Scan.{RowPart, still_to_scan}
-use Rattle.frequencies.proofs.ByField.{part_none, part-all}
+use Rattle.frequencies.proofs.ByField.{part-all}
 use Rattle.frequencies.proofs.rows.scan_row.Goals as goal
 
 pub returns : goal.returns

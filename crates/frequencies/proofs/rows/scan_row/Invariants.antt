@@ -1,6 +1,5 @@
 -- The fields that were scanned are the first of the row's (`RowPart`), and behind the last of them is no comma. Assumes nothing.
 use Rattle.frequencies.specs.Scan.{RowPart, still_to_scan}
-use Rattle.frequencies.proofs.ByField.{part_none, part-all}
 use Rattle.frequencies.proofs.rows.scan_row.Given as goal
 
 abbrev pub invariant-loop-row : goal.invariant-loop-row

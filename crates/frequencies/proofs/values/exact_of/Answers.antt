@@ -1,8 +1,5 @@
 -- By how many bytes there are. Assumes nothing.
-use native.Mathlib.Omega.{arith}
-use mathlib.Core.Path.{◌∙◌}
-use borrow.Author.Rules.{rules}
-use Rattle.frequencies.proofs.Times.{exact_none, exact-many, exact_one}
+use Rattle.frequencies.proofs.Times.{exact_none, exact-many}
 use Rattle.frequencies.proofs.values.exact_of.Goals as goal
 
 pub returns-then-size-eq0 : goal.returns-then-size-eq0

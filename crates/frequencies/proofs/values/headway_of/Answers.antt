@@ -3,7 +3,7 @@ use mathlib.Core.Path.{ap, ◌∙◌}
 use lib.Dec.{ltb}
 use mir.Syntax.{w32}
 use mir.Facts.{to_z-of_z}
-use borrow.Author.Rules.{rules, sfits_of}
+use borrow.Author.Rules.{sfits_of}
 use Rattle.paper.specs.Lists.{all}
 use Rattle.frequencies.specs.Values.{is_digit, number, as_value, headway}
 use Rattle.frequencies.proofs.Told.{value-positive}

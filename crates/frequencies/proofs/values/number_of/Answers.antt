@@ -1,12 +1,11 @@
-use Prim.Native.Nat.{◌+◌, ◌-◌, ◌≤◌}
+use Prim.Native.Nat.{◌+◌}
 use native.Mathlib.Omega.{arith}
-use mathlib.Core.Path.{◌≡◌, refl, sym, ap, ◌∙◌}
-use lib.ListN.{length, drop, drop_of_length-le}
-use borrow.Author.Rules.{rules}
+use mathlib.Core.Path.{sym, ap, ◌∙◌}
+use lib.ListN.{drop}
 use Rattle.paper.specs.Lists.{nat}
 use Rattle.paper.proofs.Scan.{next}
-use Rattle.frequencies.proofs.Told.{told_from, told-next, told-end}
-use Rattle.frequencies.proofs.Told.{told_from, told-next, told-end}
+use Rattle.frequencies.proofs.Told.{told_from, told-next}
+use Rattle.frequencies.proofs.Told.{told_from, told-next}
 use Rattle.frequencies.proofs.values.number_of.Goals as goal
 
 pub loop-i-preserved : goal.loop-i-preserved

@@ -1,10 +1,4 @@
-use Prim.Native.Nat.{◌-◌, ◌≤◌}
-use native.Mathlib.Omega.{arith}
-use mathlib.Core.Path.{◌≡◌, refl, ◌∙◌}
-use lib.ListN.{length, drop}
-use borrow.Author.Rules.{rules}
-use Rattle.frequencies.specs.Values.{same}
-use Rattle.frequencies.proofs.Times.{same-short, same_next, same-off, same_end}
+use Rattle.frequencies.proofs.Times.{same-short}
 use Rattle.frequencies.proofs.values.same.Goals as goal
 
 pub returns-then-a-b : goal.returns-then-a-b

@@ -1,11 +1,8 @@
 -- The fields are the same as far as the loop has come, so what is left decides. Assumes nothing.
-use Prim.Native.Nat.{◌-◌, ◌≤◌}
-use native.Mathlib.Omega.{arith}
-use mathlib.Core.Path.{◌≡◌, refl, ◌∙◌}
+use Prim.Native.Nat.{◌≤◌}
+use mathlib.Core.Path.{◌≡◌}
 use lib.ListN.{length, drop}
-use borrow.Author.Rules.{rules}
 use Rattle.frequencies.specs.Values.{same}
-use Rattle.frequencies.proofs.Times.{same-short, same_next, same-off, same_end}
 use Rattle.frequencies.proofs.values.same.Given as goal
 
 abbrev pub invariant-loop-i : goal.invariant-loop-i

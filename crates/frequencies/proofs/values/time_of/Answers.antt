@@ -5,7 +5,7 @@ use mathlib.Core.Path.{refl, ap₂, ◌∙◌}
 use lib.ListN.{length}
 use mir.Syntax.{w32}
 use mir.Facts.{to_z-of_z}
-use borrow.Author.Rules.{rules, sfits_of}
+use borrow.Author.Rules.{sfits_of}
 use Rattle.frequencies.specs.Values.{as_value}
 use Rattle.frequencies.proofs.Times.{time-short, time-long}
 use Rattle.frequencies.proofs.values.time_of.Goals as goal

@@ -1,5 +1,4 @@
 -- The header first, and then the rows behind it, of which nothing has been found yet (`body-judged`). Assumes nothing.
-use borrow.Author.Rules.{rules}
 use Rattle.frequencies.proofs.Deciding.{body-started, body-judged}
 use Rattle.frequencies.proofs.verdict.judge_body.Goals as goal
 

@@ -1,8 +1,5 @@
 -- The rows of a file are those of its bytes without the line ends at its end (`file-judged`). Assumes nothing.
-use mathlib.Core.Path.{refl, sym}
-use lib.Seq.{length-take-le}
-use borrow.Author.Rules.{rules}
-use Rattle.frequencies.proofs.Deciding.{file-long, file-scannable, file-judged}
+use Rattle.frequencies.proofs.Deciding.{file-judged}
 use Rattle.frequencies.proofs.verdict.judge_file.Goals as goal
 
 pub returns : goal.returns

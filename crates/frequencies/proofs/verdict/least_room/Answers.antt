@@ -1,5 +1,4 @@
 -- The least of eight numbers holds what each of them holds (`least-is`). Assumes nothing.
-use borrow.Author.Rules.{rules}
 use Rattle.frequencies.proofs.Deciding.{least-is}
 use Rattle.frequencies.proofs.verdict.least_room.Goals as goal
 

@@ -13,7 +13,7 @@ use Rattle.frequencies.specs.Puts.{AllSayable}
 use Rattle.frequencies.specs.Reading.{Windows, windows_in}
 use Rattle.frequencies.specs.declared.Carried.TheVariants.{Accepted}
 use Rattle.frequencies.proofs.Filed.{same_size}
-use Rattle.frequencies.proofs.Judging.{Lent, lent, file, verdict, Rows, rows_of, fit, double, times, headway, exact, name, room, from_five, from_six, from_seven, from_eight, from_nine, stops-1, past-1, sayable, no_room, has_room, all-counted, answers}
+use Rattle.frequencies.proofs.Judging.{Lent, lent, file, verdict, rows_of, fit, double, times, headway, exact, name, room, from_five, from_six, from_seven, from_eight, from_nine, stops-1, past-1, sayable, no_room, has_room, all-counted, answers}
 use Rattle.frequencies.proofs.write.judge.Goals as goal
 
 -- a check over the windows is passed: the first that fails is none
@@ -64,7 +64,7 @@ refused-requires-then-single-count c = let l = rows_of (lent c.args.count c.args
 pub returns-then-single-count : goal.returns-then-single-count
 returns-then-single-count c =
     let b : Lent = lent c.args.count c.args.text.now (windows_in c.args.name_places.now c.args.name_lengths.now c.args.name_doubled.now c.args.starts.now c.args.ends.now c.args.headways.now c.args.exacts.now []) c.args.bytes.now in
-    answers b _ (refused 4 _) (past-1 b (sym c.rows_lent.ensures ∙ c.if-not-rows_lent.false)  ∙ check-stops 4 b.count (double b) (from_five b) _ c.first_single_quote-single.ensures c.if-single-count.true) c.refused-then-single-count.ensures
+    answers b _ (refused 4 _) (past-1 b (sym c.rows_lent.ensures ∙ c.if-not-rows_lent.false) ∙ check-stops 4 b.count (double b) (from_five b) _ c.first_single_quote-single.ensures c.if-single-count.true) c.refused-then-single-count.ensures
 
 pub first_bad_time-time-requires : goal.first_bad_time-time-requires
 first_bad_time-time-requires c = let l = rows_of (lent c.args.count c.args.text.now (windows_in c.args.name_places.now c.args.name_lengths.now c.args.name_doubled.now c.args.starts.now c.args.ends.now c.args.headways.now c.args.exacts.now []) c.args.bytes.now) (sym c.rows_lent.ensures ∙ c.if-not-rows_lent.false) in (l.starts, l.ends)

@@ -1,19 +1,12 @@
 -- The lines of the windows before this one stand behind the first, and each turn puts one more (`lines_next`). Assumes nothing.
-use Prim.Native.Nat.{ℕ, ◌-◌, ◌≤◌}
-use native.Mathlib.Omega.{arith}
-use mathlib.Core.List.{List, []}
+use Prim.Native.Nat.{◌≤◌}
+use mathlib.Core.List.{[]}
 use mathlib.Core.Path.{◌≡◌}
 use lib.ListN.{length}
-use borrow.Author.Rules.{rules, sfits_of}
-use mir.Syntax.{w32}
-use mir.Val.{SFits}
-use mir.Facts.{to_z-of_z}
 use Rattle.paper.specs.Lists.{joined}
 use Rattle.frequencies.specs.Puts.{Puts}
-use Rattle.frequencies.specs.Reading.{Windows, windows_in}
-use Rattle.frequencies.specs.Writing.{window_bytes, start_at, end_at, headway_given}
-use Rattle.frequencies.proofs.Putting.{puts-nothing}
-use Rattle.frequencies.proofs.Filed.{lines_next, file-put}
+use Rattle.frequencies.specs.Reading.{windows_in}
+use Rattle.frequencies.specs.Writing.{window_bytes}
 use Rattle.frequencies.proofs.write.put_file.Given as goal
 
 abbrev pub invariant-loop-i : goal.invariant-loop-i
