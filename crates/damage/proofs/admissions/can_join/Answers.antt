@@ -4,7 +4,6 @@ use mathlib.Core.Bool.{false, not, ◌&&◌}
 use mathlib.Core.Path.{ap₂}
 use lib.Dec.{leb}
 use lib.ListN.{get_or}
-use borrow.Author.Rules.{rules}
 use Rattle.damage.proofs.admissions.can_join.Goals as goal
 
 pub returns : goal.returns

@@ -1,5 +1,4 @@
 -- Each way out is one side of the test that the part ends within e. Assumes nothing.
-use borrow.Author.Rules.{rules}
 use borrow.Author.Tests.{le-leb, lt-leb}
 use Rattle.damage.proofs.admissions.entries_whole.Goals as goal
 

@@ -1,7 +1,6 @@
 -- The flag decides whether one number is stored or none. Assumes nothing.
 use native.Mathlib.Omega.{arith}
 use mathlib.Core.Path.{refl}
-use borrow.Author.Rules.{rules}
 use borrow.Author.Tests.{not-true, not-false}
 use Rattle.damage.proofs.flags.add_if.Goals as goal
 

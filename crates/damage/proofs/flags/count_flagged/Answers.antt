@@ -1,10 +1,8 @@
-use Prim.Native.Nat.{◌-◌, ◌≤◌}
 use native.Mathlib.Omega.{arith}
 use mathlib.Core.Bool.{false}
 use mathlib.Core.Path.{◌≡◌}
-use lib.ListN.{length, get_or}
-use borrow.Author.Rules.{rules}
-use Rattle.damage.specs.Flags.{flag_wanted, flagged}
+use lib.ListN.{get_or}
+use Rattle.damage.specs.Flags.{flag_wanted}
 use Rattle.damage.proofs.Stored.{those-more, those-most}
 use Rattle.damage.proofs.flags.count_flagged.Goals as goal
 

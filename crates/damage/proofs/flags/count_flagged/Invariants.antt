@@ -1,12 +1,8 @@
 -- The count stays how many of the numbers passed have the flag wanted. Assumes nothing.
 use Prim.Native.Nat.{◌-◌, ◌≤◌}
-use native.Mathlib.Omega.{arith}
-use mathlib.Core.Bool.{false}
 use mathlib.Core.Path.{◌≡◌}
-use lib.ListN.{length, get_or}
-use borrow.Author.Rules.{rules}
-use Rattle.damage.specs.Flags.{flag_wanted, flagged}
-use Rattle.damage.proofs.Stored.{those-more, those-most}
+use lib.ListN.{length}
+use Rattle.damage.specs.Flags.{flagged}
 use Rattle.damage.proofs.flags.count_flagged.Given as goal
 
 abbrev pub invariant-loop-i : goal.invariant-loop-i

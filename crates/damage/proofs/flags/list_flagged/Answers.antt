@@ -1,11 +1,8 @@
-use Prim.Native.Nat.{◌-◌, ◌≤◌}
 use native.Mathlib.Omega.{arith}
-use mathlib.Core.Bool.{cond, false}
-use mathlib.Core.List.{[], ◌∷◌}
+use mathlib.Core.Bool.{false}
 use lib.ListN.{get_or}
-use borrow.Author.Rules.{rules}
 use Rattle.damage.specs.Flags.{flag_wanted}
-use Rattle.damage.proofs.Stored.{those-joined, Placed, placed-room, placed-next, placed_end}
+use Rattle.damage.proofs.Stored.{those-joined, placed-room, placed-next, placed_end}
 use Rattle.damage.proofs.flags.list_flagged.Goals as goal
 
 pub add_if-to-requires : goal.add_if-to-requires

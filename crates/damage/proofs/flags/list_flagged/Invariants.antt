@@ -1,12 +1,10 @@
 -- What is stored stays the numbers passed whose flag is the one wanted (`Placed`); each turn adds one or none. Assumes nothing.
 use Prim.Native.Nat.{◌-◌, ◌≤◌}
-use native.Mathlib.Omega.{arith}
 use mathlib.Core.Bool.{cond, false}
 use mathlib.Core.List.{[], ◌∷◌}
 use lib.ListN.{get_or}
-use borrow.Author.Rules.{rules}
 use Rattle.damage.specs.Flags.{flag_wanted}
-use Rattle.damage.proofs.Stored.{those-joined, Placed, placed-room, placed-next, placed_end}
+use Rattle.damage.proofs.Stored.{Placed}
 use Rattle.damage.proofs.flags.list_flagged.Given as goal
 
 abbrev pub invariant-loop-i : goal.invariant-loop-i

@@ -1,6 +1,5 @@
 -- The flag decides. Assumes nothing.
 use native.Mathlib.Omega.{arith}
-use borrow.Author.Rules.{rules}
 use Rattle.damage.proofs.flags.more_if.Goals as goal
 
 pub returns-then-flag : goal.returns-then-flag

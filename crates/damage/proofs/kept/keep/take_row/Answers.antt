@@ -1,6 +1,5 @@
 -- Each way out is one side of the choice. Assumes nothing.
 use mathlib.Core.Path.{refl}
-use borrow.Author.Rules.{rules}
 use borrow.Author.Tests.{not-true, not-false}
 use Rattle.damage.proofs.kept.keep.take_row.Goals as goal
 

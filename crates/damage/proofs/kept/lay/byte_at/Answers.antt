@@ -1,7 +1,6 @@
 -- A place beyond the end holds nothing, which counts as 0. Assumes nothing.
 use mathlib.Core.Path.{sym}
 use lib.ListN.{get_or-eq_default}
-use borrow.Author.Rules.{rules}
 use Rattle.damage.proofs.kept.lay.byte_at.Goals as goal
 
 pub returns-then-bytes-i : goal.returns-then-bytes-i

@@ -1,10 +1,5 @@
-use Prim.Native.Nat.{◌-◌, ◌≤◌}
 use native.Mathlib.Omega.{arith}
-use mathlib.Core.Path.{◌≡◌}
-use lib.ListN.{length}
-use borrow.Author.Rules.{rules}
-use Rattle.paper.specs.Lists.{nat}
-use Rattle.paper.proofs.Buffers.{Filled, filled_next}
+use Rattle.paper.proofs.Buffers.{filled_next}
 use Rattle.damage.proofs.Padded.{filled-whole}
 use Rattle.damage.proofs.kept.lay.fill.Goals as goal
 

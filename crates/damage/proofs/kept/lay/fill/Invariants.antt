@@ -1,12 +1,9 @@
 -- The places passed hold the bytes of the file (`Filled`), and in the end all do. Assumes nothing.
 use Prim.Native.Nat.{◌-◌, ◌≤◌}
-use native.Mathlib.Omega.{arith}
 use mathlib.Core.Path.{◌≡◌}
 use lib.ListN.{length}
-use borrow.Author.Rules.{rules}
 use Rattle.paper.specs.Lists.{nat}
-use Rattle.paper.proofs.Buffers.{Filled, filled_next}
-use Rattle.damage.proofs.Padded.{filled-whole}
+use Rattle.paper.proofs.Buffers.{Filled}
 use Rattle.damage.proofs.kept.lay.fill.Given as goal
 
 abbrev pub invariant-loop-i : goal.invariant-loop-i
