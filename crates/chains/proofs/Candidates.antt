@@ -43,10 +43,10 @@ behind-first (x ∷ xs) (suc a) k =
 module _ (t : Tables) (F : Formed t) (r : ℕ) (l : r < t.m) where
   -- what r makes is made by r
   row-inputs : inputs_of t (nat t.makes r) ≡ part t r t.vars
-  row-inputs = ap₂ (λ b k. cond b (part t k t.vars) []) (ap (λ k. ltb k t.m) (F.row_of r l) ∙ lt-ltb r t.m l) (F.row_of r l)
+  row-inputs = ap₂ (λ b k. cond b (part t k t.vars) []) (ap (λ k. ltb k t.m) (F.row-of r l) ∙ lt-ltb r t.m l) (F.row-of r l)
 
   row-candidates : candidates t (nat t.makes r) ≡ cond (eqb (nat t.kinds r) 4) (drop 1 (part t r t.vars)) []
-  row-candidates = ap₂ (λ k xs. cond (eqb (nat t.kinds k) 4) (drop 1 xs) []) (F.row_of r l) row-inputs
+  row-candidates = ap₂ (λ k xs. cond (eqb (nat t.kinds k) 4) (drop 1 xs) []) (F.row-of r l) row-inputs
 
   -- it is not ELEMENT
   pub candidates-none : eqb (nat t.kinds r) 4 ≡ false → candidates t (nat t.makes r) ≡ []

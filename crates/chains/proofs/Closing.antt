@@ -80,6 +80,7 @@ module _ (t : Tables) (F : Formed t) where
         go false xs h = inl h
         go true (x ∷ xs) (Memᴰ.head q) = inr (inl (Memᴰ.head q))
         go true (x ∷ xs) (Memᴰ.tail h) = inr (inr h)
+        go true [] h = elim h [ ]
 
     -- so each goes to an input that no choice decides
     link-plain : (w : ℕ) → w < t.n → {v i : ℕ} → Reaches w v → Memᴰ i (inputs_of t v) → Reaches i w → Memᴰ i (plain_inputs t v)

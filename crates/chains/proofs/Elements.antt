@@ -32,7 +32,7 @@ module _ (t : Tables) (F : Formed t) (numbers : List ℕ) where
     no-element h = rows-open (λ r l. row-level r l (not-true (eqb (nat t.kinds r) 4) (all_below-at (λ q. not (eqb (nat t.kinds q) 4)) t.m h r l)))
 
     pub row_closes : (r : ℕ) → r < t.m → level_candidate t numbers (nat t.makes r) ≡ true → true ≡ closes t
-    row_closes r l e = some-closes t F numbers G (nat t.makes r) (F.row_Makes r l) e
+    row_closes r l e = some-closes t F numbers G (nat t.makes r) (F.row_makes r l) e
 
 -- joined tests, negated
 pub not-or : (a b : Bool) → not (a || b) ≡ not a && not b

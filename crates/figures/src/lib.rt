@@ -10,7 +10,7 @@ pub use add::one_of;
 pub use batch::figures;
 
 // The figures of the moves together: blank results; least, greatest and sum of those that have a value; evaluations by each route.
-#[derive(Drop)]
+#[derive(Clone, Copy)]
 pub struct Totals {
     pub blank: u32,
     pub least: i32,

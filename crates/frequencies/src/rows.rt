@@ -6,7 +6,7 @@ use crate::fields::scan_field;
 use formulas::inputs::one_if;
 
 // The columns of the fields that are read, as the header has them; a number past the last one, if it has none.
-#[derive(Drop)]
+#[derive(Clone, Copy)]
 pub struct Columns {
     pub trip: usize,
     pub start: usize,
@@ -17,7 +17,7 @@ pub struct Columns {
 
 // A row, or its first fields: how many there are and whether their quotes are right; of each column, where what it holds begins and how many bytes it has;
 // where the next field or row begins and on which line, whether it is a field, and whether there is either.
-#[derive(Drop)]
+#[derive(Clone, Copy)]
 pub struct RowScan {
     pub width: usize,
     pub right: bool,

@@ -45,6 +45,7 @@ module _ (n : ℕ) (f : ℕ → ℕ) (all left : List ℕ) where
 pub greatest-in : (f : ℕ → ℕ) (xs : List ℕ) {i : ℕ} → Memᴰ i xs → f i ≤ greatest (map f xs)
 greatest-in f (x ∷ xs) (Memᴰ.head q) = rw q (omega arith)
 greatest-in f (x ∷ xs) (Memᴰ.tail m) = let h = greatest-in f xs m in omega arith
+greatest-in f [] {i = i} x' = elim x' [ ]
 
 pub greatest-hit : (f : ℕ → ℕ) (xs : List ℕ) → 0 < greatest (map f xs) → (i : ℕ) × Memᴰ i xs × (greatest (map f xs) ≡ f i)
 greatest-hit f [] h = absurd (lt_irrefl 0 h)

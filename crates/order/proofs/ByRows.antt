@@ -26,7 +26,7 @@ iff false false p q = refl
 
 -- the inputs of what a row makes are the row's part
 row-inputs : (t : Tables) → Formed t → (r : ℕ) → r < t.m → inputs_of t (nat t.makes r) ≡ part t r t.vars
-row-inputs t F r l = ap₂ (λ b q. cond b (part t q t.vars) []) (ap (λ k. ltb k t.m) (F.row_of r l) ∙ lt-ltb r t.m l) (F.row_of r l)
+row-inputs t F r l = ap₂ (λ b q. cond b (part t q t.vars) []) (ap (λ k. ltb k t.m) (F.row-of r l) ∙ lt-ltb r t.m l) (F.row-of r l)
 
 module _ (t : Tables) (F : Formed t) (by nums : List ℕ) (M : Makers t by) where
   pub at_all : all_below (searched_right by nums) t.n ≡ true → all_below (made_right t nums) t.m ≡ true → (v : ℕ) → v < t.n → right_at (inputs_of t) nums v ≡ true
@@ -38,7 +38,7 @@ module _ (t : Tables) (F : Formed t) (by nums : List ℕ) (M : Makers t by) wher
 
   module _ (h : (v : ℕ) → v < t.n → right_at (inputs_of t) nums v ≡ true) where
     pub made_of : all_below (made_right t nums) t.m ≡ true
-    made_of = below_all (made_right t nums) t.m (λ r l. rw (row-inputs t F r l) at (h (nat t.makes r) (F.row_Makes r l)))
+    made_of = below_all (made_right t nums) t.m (λ r l. rw (row-inputs t F r l) at (h (nat t.makes r) (F.row_makes r l)))
 
     pub searched-of : all_below (searched_right by nums) t.n ≡ true
     searched-of = below_all (searched_right by nums) t.n free

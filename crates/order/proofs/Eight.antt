@@ -49,6 +49,7 @@ module _ (f : ℕ → ℕ) (inputs : List ℕ) where
 index_of : {w : ℕ} (l : List ℕ) → Memᴰ w l → (j : ℕ) × (j < length l) × (w ≡ nat l j)
 index_of (x ∷ xs) (Memᴰ.head q) = (0, omega arith, q)
 index_of (x ∷ xs) (Memᴰ.tail m) = let (j, l, e) = index_of xs m in (suc j, omega arith, e)
+index_of {w = w} [] x' = elim x' [ ]
 
 module _ (d : ℕ → ℕ) where
   rising-of : (x : ℕ) (xs : List ℕ) → ((i : ℕ) → i < length xs → Prec d (nat (x ∷ xs) i) (nat xs i)) → Rising d x xs
@@ -108,7 +109,7 @@ module _ (t : Tables) (F : Formed t) (nums ord : List ℕ) (long : t.n ≤ lengt
   -- ── the order ──
   module _ (is : Numbered) where
     stands-is : (r : ℕ) → r < t.m → rank_of t.makes nums r ≡ rank t r * 65536 + r
-    stands-is r l = ap (λ z. z * 65536 + r) (is (nat t.makes r) (F.row_Makes r l))
+    stands-is r l = ap (λ z. z * 65536 + r) (is (nat t.makes r) (F.row_makes r l))
 
     few : t.m ≤ 65536
     few = let a = F.rows in let b = F.few in omega arith

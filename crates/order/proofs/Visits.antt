@@ -1,20 +1,19 @@
 -- One visit, step by step: a variable that has begun keeps its state until all its inputs have ended, and then its number is the least above theirs;
 -- one that meets an input that waits is left waiting on it. Assumes nothing.
-use Prim.Native.Nat.{ℕ, zero, suc, max, ◌+◌, ◌-◌, ◌≤◌, ◌<◌}
-use native.Mathlib.Nat.{le_refl, lt_irrefl}
+use Prim.Native.Nat.{ℕ, suc, max, ◌+◌, ◌-◌, ◌≤◌, ◌<◌}
+use native.Mathlib.Nat.{lt_irrefl}
 use native.Mathlib.Numerals.{add-one}
 use native.Mathlib.Omega.{arith}
-use mathlib.Core.Bool.{Bool, true, false, cond}
+use mathlib.Core.Bool.{true}
 use mathlib.Core.List.Memᴰ
 use mathlib.Core.List.{List, [], ◌∷◌, Memᴰ}
 use mathlib.Core.Logic.{◌⊎◌, inl, inr, ⊎_elim, ◌≢◌}
 use mathlib.Core.Path.{◌≡◌, refl, ap, ap₂, sym, ◌∙◌, subst}
-use lib.Dec.{eqb}
 use lib.ListN.{length, take, set, length-set, length-take, drop_of_length-le}
 use lib.Seq.{slice, slice-cons, get_or-set_same, get_or-set_other}
-use borrow.Author.Tests.{leb-true, le-leb, lt-leb, eqb-true, eqb-false, eq-eqb, ne_eqb}
+use borrow.Author.Tests.{leb-true, le-leb, lt-leb, eqb-true, eq-eqb, ne_eqb}
 use Rattle.paper.specs.Lists.{nat, size}
-use Rattle.paper.proofs.Lists.{clash, same_or}
+use Rattle.paper.proofs.Lists.{same_or}
 use Rattle.paper.proofs.Count.{size-le, size-add, size_mono}
 use Rattle.order.specs.Numbering.{above, unvisited, ended, number_in, NumbersRight, InputBegun, NumberVisit}
 
@@ -30,6 +29,7 @@ above-le f (x ∷ xs) b h = let a = h x (Memᴰ.head refl) in let r = above-le f
 above_in : {i : ℕ} (f : ℕ → ℕ) (xs : List ℕ) → Memᴰ i xs → f i < above f xs
 above_in f (x ∷ xs) (Memᴰ.head q) = rw q (omega arith)
 above_in f (x ∷ xs) (Memᴰ.tail m) = let h = above_in f xs m in omega arith
+above_in {i = i} f [] x' = elim x' [ ]
 
 above-is : (f : ℕ → ℕ) (xs : List ℕ) (b : ℕ) → ((i : ℕ) → Memᴰ i xs → f i < b) → (b ≡ 0) ⊎ ((i : ℕ) × Memᴰ i xs × (suc (f i) ≡ b)) → above f xs ≡ b
 above-is f xs b h (inl e) = let r = above-le f xs b h in omega arith

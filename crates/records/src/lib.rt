@@ -7,7 +7,7 @@ use tables::Answer;
 
 // The session record: moves kept, evaluations of the last accepted call, and how many stored values are blank.
 #[repr(C)]
-#[derive(Drop)]
+#[derive(Clone, Copy)]
 pub struct Session {
     pub kept: u32,
     pub evaluations: u32,

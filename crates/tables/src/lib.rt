@@ -19,7 +19,7 @@ pub use shape::{first_bad_shape, first_unknown, total_of};
 pub use size::sizes;
 
 // What a call answers.
-#[derive(Drop)]
+#[derive(Clone, Copy)]
 pub enum Answer {
     Accepted { evaluations: u32 },
     Refused { number: u32, place: u32 },

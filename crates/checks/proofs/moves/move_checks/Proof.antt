@@ -28,77 +28,77 @@ told : (s : tie.Start) {v : Verdict} {r : Answer} → r ≡ answer_of 0 v → Co
     → OfMakers s.args.n s.args.by.now (λ t. r ≡ answer_of 0 (pair_checks (move s) (limits s) t accepted))
 told s e p = record { of = λ t q k. e ∙ ap (answer_of 0) (sym (p.of t q k)) }
 
-first-unmovable-requires : tie.Need-first-unmovable-requires
+first-unmovable-requires : tie.Need-first_unmovable-fixed-requires
 first-unmovable-requires c κs = search rules
 
 refused-requires : tie.Need-refused-requires
 refused-requires c κs = search rules
 
-returns : tie.Need-returns
+returns : tie.Need-returns-then-fixed-pairs
 returns c =
-    let s = c.before.before.before.before.before in let mv = move s in let bs = limits s in let found = c.before.before.first-unmovable.ensures in
-    told s c.refused.ensures (record { of = λ t q k. check-stops 10 mv.pairs (movable mv t) (from_eleven mv bs accepted) _ (found.of t q k) c.before.if1.true })
+    let s = c.before.before.before.before.before in let mv = move s in let bs = limits s in let found = c.before.before.first_unmovable-fixed.ensures in
+    told s c.refused.ensures (record { of = λ t q k. check-stops 10 mv.pairs (movable mv t) (from_eleven mv bs accepted) _ (found.of t q k) c.before.if-fixed-pairs.true })
 
 -- ── past check 10 ──
-past₁₀ : (c : tie.Else1) → let s = c.before.before.before.before in Comes s (from_eleven (move s) (limits s) accepted)
+past₁₀ : (c : tie.Else-fixed-pairs) → let s = c.before.before.before.before in Comes s (from_eleven (move s) (limits s) accepted)
 past₁₀ c =
-    let s = c.before.before.before.before in let mv = move s in let bs = limits s in let found = c.before.first-unmovable.ensures in
-    record { of = λ t q k. check-passes 10 mv.pairs (movable mv t) (from_eleven mv bs accepted) _ (found.of t q k, c.if1.false) }
+    let s = c.before.before.before.before in let mv = move s in let bs = limits s in let found = c.before.first_unmovable-fixed.ensures in
+    record { of = λ t q k. check-passes 10 mv.pairs (movable mv t) (from_eleven mv bs accepted) _ (found.of t q k, c.if-fixed-pairs.false) }
 
-first-again-requires : tie.Need-first-again-requires
+first-again-requires : tie.Need-first_again-again-requires
 first-again-requires c κs = search rules
 
-refused-requires-2 : tie.Need-refused-requires-2
+refused-requires-2 : tie.Need-refused-requires-then-again-pairs
 refused-requires-2 c κs = search rules
 
-returns-2 : tie.Need-returns-2
+returns-2 : tie.Need-returns-then-again-pairs
 returns-2 c =
     let b = c.before.before.before in let s = b.before.before.before.before in let mv = move s in let bs = limits s in
-    told s c.refused2.ensures
-    (go_on s (past₁₀ b) (check-stops 11 mv.pairs (named_once mv) (from_twelve mv bs accepted) _ c.before.before.first-again.ensures c.before.if2.true))
+    told s c.refused-then-again-pairs.ensures
+    (go_on s (past₁₀ b) (check-stops 11 mv.pairs (named_once mv) (from_twelve mv bs accepted) _ c.before.before.first_again-again.ensures c.before.if-again-pairs.true))
 
 -- ── past check 11 ──
-past₁₁ : (c : tie.Else2) → let s = c.before.before.before.before.before.before in Comes s (from_twelve (move s) (limits s) accepted)
+past₁₁ : (c : tie.Else-again-pairs) → let s = c.before.before.before.before.before.before in Comes s (from_twelve (move s) (limits s) accepted)
 past₁₁ c =
     let s = c.before.before.before.before.before.before in let mv = move s in let bs = limits s in
-    go_on s (past₁₀ c.before.before) (check-passes 11 mv.pairs (named_once mv) (from_twelve mv bs accepted) _ (c.before.first-again.ensures, c.if2.false))
+    go_on s (past₁₀ c.before.before) (check-passes 11 mv.pairs (named_once mv) (from_twelve mv bs accepted) _ (c.before.first_again-again.ensures, c.if-again-pairs.false))
 
-first-blank-requires : tie.Need-first-blank-requires
+first-blank-requires : tie.Need-first_blank-empty-requires
 first-blank-requires c κs = search rules
 
-refused-requires-3 : tie.Need-refused-requires-3
+refused-requires-3 : tie.Need-refused-requires-then-empty-pairs
 refused-requires-3 c κs = search rules
 
-returns-3 : tie.Need-returns-3
+returns-3 : tie.Need-returns-then-empty-pairs
 returns-3 c =
     let b = c.before.before.before in let s = b.before.before.before.before.before.before in let mv = move s in let bs = limits s in
-    told s c.refused3.ensures
-    (go_on s (past₁₁ b) (check-stops 12 mv.pairs (has_value mv) (from_seventeen mv bs accepted) _ c.before.before.first-blank.ensures c.before.if3.true))
+    told s c.refused-then-empty-pairs.ensures
+    (go_on s (past₁₁ b) (check-stops 12 mv.pairs (has_value mv) (from_seventeen mv bs accepted) _ c.before.before.first_blank-empty.ensures c.before.if-empty-pairs.true))
 
 -- ── past check 12 ──
-past₁₂ : (c : tie.Else3) → let s = c.before.before.before.before.before.before.before.before in Comes s (from_seventeen (move s) (limits s) accepted)
+past₁₂ : (c : tie.Else-empty-pairs) → let s = c.before.before.before.before.before.before.before.before in Comes s (from_seventeen (move s) (limits s) accepted)
 past₁₂ c =
     let s = c.before.before.before.before.before.before.before.before in let mv = move s in let bs = limits s in
-    go_on s (past₁₁ c.before.before) (check-passes 12 mv.pairs (has_value mv) (from_seventeen mv bs accepted) _ (c.before.first-blank.ensures, c.if3.false))
+    go_on s (past₁₁ c.before.before) (check-passes 12 mv.pairs (has_value mv) (from_seventeen mv bs accepted) _ (c.before.first_blank-empty.ensures, c.if-empty-pairs.false))
 
-first-outside-requires : tie.Need-first-outside-requires
+first-outside-requires : tie.Need-first_outside-outside-requires
 first-outside-requires c κs = search rules
 
-refused-requires-4 : tie.Need-refused-requires-4
+refused-requires-4 : tie.Need-refused-requires-then-outside-pairs
 refused-requires-4 c κs = search rules
 
-returns-4 : tie.Need-returns-4
+returns-4 : tie.Need-returns-then-outside-pairs
 returns-4 c =
     let b = c.before.before.before in let s = b.before.before.before.before.before.before.before.before in let mv = move s in let bs = limits s in
-    told s c.refused4.ensures (go_on s (past₁₂ b) (check-stops 17 mv.pairs (pair_within mv bs) accepted _ c.before.before.first-outside.ensures c.before.if4.true))
+    told s c.refused-then-outside-pairs.ensures (go_on s (past₁₂ b) (check-stops 17 mv.pairs (pair_within mv bs) accepted _ c.before.before.first_outside-outside.ensures c.before.if-outside-pairs.true))
 
-returns-5 : tie.Need-returns-5
+returns-5 : tie.Need-returns
 returns-5 c =
     let b = c.before.before in let s = b.before.before.before.before.before.before.before.before in let mv = move s in let bs = limits s in
-    told s refl (go_on s (past₁₂ b) (check-passes 17 mv.pairs (pair_within mv bs) accepted _ (c.before.first-outside.ensures, c.if4.false)))
+    told s refl (go_on s (past₁₂ b) (check-passes 17 mv.pairs (pair_within mv bs) accepted _ (c.before.first_outside-outside.ensures, c.if-outside-pairs.false)))
 
-pub move-checks-spec : {M : Type 1} → statement M
-move-checks-spec =
+pub move_checks_spec : {M : Type 1} → statement M
+move_checks_spec =
     tie.close
     (tie.spec
     first-unmovable-requires

@@ -2,32 +2,30 @@
 use borrow.Author.Rules.{rules}
 use borrow.Author.Tests.{not-true, not-false}
 use native.Mathlib.Omega.{arith}
-use mathlib.Core.Path.{◌≡◌, refl}
-use mathlib.Core.Bool.{true}
 use Prim.Native.Nat.{◌≤◌}
 use lib.ListN.{length}
 use Rattle.files.proofs.headers.bounds_right.Statement.{statement}
 use Rattle.files.proofs.headers.bounds_right.Tie as tie
 
-long : (c : tie.Else1) → 28 ≤ length c.before.before.args.bytes.now
-long c = let h = c.before.before.requires.1.3 in rw (not-false c.before.before.args.bounds c.if1.false) at h
+long : (c : tie.Else-not-bounds) → 28 ≤ length c.before.before.args.bytes.now
+long c = let h = c.before.before.requires.1.3 in rw (not-false c.before.before.args.bounds c.if-not-bounds.false-raw) at h
 
-returns : tie.Need-returns
-returns c = rw (not-true c.before.before.args.bounds c.if1.true)
+returns : tie.Need-returns-then-not-bounds
+returns c = rw (not-true c.before.before.args.bounds c.if-not-bounds.true-raw)
 
 get-requires : tie.Need-get-requires
 get-requires c κs = let h = long c in omega arith
 
-bounds-at-requires : tie.Need-bounds-at-requires
+bounds-at-requires : tie.Need-bounds_at-requires
 bounds-at-requires c κs = search rules
 
-returns-2 : tie.Need-returns-2
+returns-2 : tie.Need-returns
 returns-2 c =
     let s = c.before.before.before.before in
-    simp (not-false s.args.bounds c.before.before.if1.false, c.bounds-at.ensures, c.before.get.ensures.0, s.requires.0.0, s.requires.0.1, s.requires.0.2)
+    simp (not-false s.args.bounds c.before.before.if-not-bounds.false-raw, c.bounds_at.ensures, c.before.get.ensures.0, s.requires.0.0, s.requires.0.1, s.requires.0.2)
 
-pub bounds-right-spec : {M : Type 1} → statement M
-bounds-right-spec =
+pub bounds_right_spec : {M : Type 1} → statement M
+bounds_right_spec =
     tie.close
     (tie.spec
     returns

@@ -15,87 +15,87 @@ use Rattle.chains.proofs.Seeking.{Seeking, seeking-start, seeking-end, seeking-l
 use Rattle.chains.proofs.bars.back.leads_back.Statement.{statement}
 use Rattle.chains.proofs.bars.back.leads_back.Tie as tie
 
-abbrev invariant-loop : tie.invariant-loop
+abbrev invariant-loop : tie.invariant-loop-i
 invariant-loop v n begins stops vars marks mark stop i₀ i = Seeking n (λ j. eqb (nat marks v) (nat marks j)) (part_at begins stops vars v) (slice i stop vars)
 
-abbrev decreases-loop : tie.decreases-loop
+abbrev decreases-loop : tie.decreases-loop-i
 decreases-loop v n begins stops vars marks mark stop i₀ i = stop - i
 
-mul-mark : tie.Need-overflow-mul-mark invariant-loop decreases-loop
+mul-mark : tie.Need-offset_bounds-marks-v invariant-loop decreases-loop
 mul-mark c = search rules
 
-element-copy-out-mark : tie.Need-element-copy-out-mark invariant-loop decreases-loop
+element-copy-out-mark : tie.Need-bounds-marks-v invariant-loop decreases-loop
 element-copy-out-mark c = search rules
 
-mul_wide : tie.Need-overflow-mul-wide invariant-loop decreases-loop
+mul_wide : tie.Need-offset_bounds-stops-v invariant-loop decreases-loop
 mul_wide c = search rules
 
-element-copy-out-wide : tie.Need-element-copy-out-wide invariant-loop decreases-loop
+element-copy-out-wide : tie.Need-bounds-stops-v invariant-loop decreases-loop
 element-copy-out-wide c = search rules
 
-wide-requires : tie.Need-wide-requires invariant-loop decreases-loop
+wide-requires : tie.Need-wide-stop-requires invariant-loop decreases-loop
 wide-requires c κs = search rules
 
-mul-wide-2 : tie.Need-overflow-mul-wide-2 invariant-loop decreases-loop
+mul-wide-2 : tie.Need-offset_bounds-begins-v invariant-loop decreases-loop
 mul-wide-2 c = search rules
 
-element-copy-out-wide-2 : tie.Need-element-copy-out-wide-2 invariant-loop decreases-loop
+element-copy-out-wide-2 : tie.Need-bounds-begins-v invariant-loop decreases-loop
 element-copy-out-wide-2 c = search rules
 
-wide-requires-2 : tie.Need-wide-requires-2 invariant-loop decreases-loop
+wide-requires-2 : tie.Need-wide-i-requires invariant-loop decreases-loop
 wide-requires-2 c κs = search rules
 
-loop-holds : tie.Need-loop-init invariant-loop decreases-loop
+loop-holds : tie.Need-loop-i-init invariant-loop decreases-loop
 loop-holds c =
-    let wide = c.before.before.wide in let s = c.before.before.before.before.before.before in
-    seeking-start _ _ _ _ (ap₂ (λ a b. slice a b s.args.vars.now) c.wide2.ensures.0 wide.ensures.0) (s.requires.0.below _)
+    let wide = c.before.before.wide-stop in let s = c.before.before.before.before.before.before in
+    seeking-start _ _ _ _ (ap₂ (λ a b. slice a b s.args.vars.now) c.wide-i.ensures.0 wide.ensures.0) (s.requires.0.below _)
 
 -- the part stops inside the entries
-inside : (c : tie.At-loop invariant-loop decreases-loop) → c.before.before.before.wide.result ≤ length c.before.before.before.before.before.before.before.args.vars.now
+inside : (c : tie.At-loop-i invariant-loop decreases-loop) → c.before.before.before.wide-stop.result ≤ length c.before.before.before.before.before.before.before.args.vars.now
 inside c = let s = c.before.before.before.before.before.before.before in omega (arith, s.requires.0.inside s.args.v)
 
 -- the next link is the first of those that are left
-next : (c : tie.After-wide3 invariant-loop decreases-loop)
+next : (c : tie.After-wide invariant-loop decreases-loop)
     → let l = c.before.before.before in let vars = l.before.before.before.before.before.before.before.args.vars.now in
-    let stop = l.before.before.before.wide.result in
-    slice l.loop.i stop vars ≡ c.wide3.result ∷ slice (l.loop.i + 1) stop vars
-next c = left-next _ _ _ _ c.before.before.loop-test.true (inside c.before.before.before) c.wide3.ensures.0
+    let stop = l.before.before.before.wide-stop.result in
+    slice l.loop-i.i stop vars ≡ c.wide.result ∷ slice (l.loop-i.i + 1) stop vars
+next c = left-next _ _ _ _ c.before.before.loop-i-test.true (inside c.before.before.before) c.wide.ensures.0
 
-mul-wide-3 : tie.Need-overflow-mul-wide-3 invariant-loop decreases-loop
+mul-wide-3 : tie.Need-offset_bounds-vars-i invariant-loop decreases-loop
 mul-wide-3 c = search rules
 
-shared-slice-read-wide : tie.Need-shared-slice-read-wide invariant-loop decreases-loop
+shared-slice-read-wide : tie.Need-bounds-vars-i invariant-loop decreases-loop
 shared-slice-read-wide c = omega (arith, inside c.before.before)
 
-wide-requires-3 : tie.Need-wide-requires-3 invariant-loop decreases-loop
+wide-requires-3 : tie.Need-wide-requires invariant-loop decreases-loop
 wide-requires-3 c κs = search rules
 
-mul-if1 : tie.Need-overflow-mul-if1 invariant-loop decreases-loop
+mul-if1 : tie.Need-offset_bounds-marks-wide invariant-loop decreases-loop
 mul-if1 c = search rules
 
-element-copy-out-if1 : tie.Need-element-copy-out-if1 invariant-loop decreases-loop
+element-copy-out-if1 : tie.Need-bounds-marks-wide invariant-loop decreases-loop
 element-copy-out-if1 c =
     let s = c.before.before.before.before.before.before.before.before.before.before in
-    let low = seeking-low _ _ _ _ _ _ c.before.before.before.loop.invariant (next c) in
+    let low = seeking-low _ _ _ _ _ _ c.before.before.before.loop-i.invariant (next c.before) in
     omega (arith, low, s.requires.0.few)
 
-returns : tie.Need-returns invariant-loop decreases-loop
-returns c = seeking-found _ _ _ _ _ _ c.before.before.before.before.before.loop.invariant (next c.before.before) (eq-eqb _ _ c.if1.true)
+returns : tie.Need-returns-then-mark-marks invariant-loop decreases-loop
+returns c = seeking-found _ _ _ _ _ _ c.before.before.before.before.before.loop-i.invariant (next c.before.before.before) (eq-eqb _ _ c.if-mark-marks.true)
 
-add-i : tie.Need-overflow-add-i invariant-loop decreases-loop
+add-i : tie.Need-overflow_add-i invariant-loop decreases-loop
 add-i c = search rules
 
-loop-less : tie.Need-loop-smaller invariant-loop decreases-loop
+loop-less : tie.Need-loop-i-smaller invariant-loop decreases-loop
 loop-less c = search rules
 
-loop-again : tie.Need-loop-preserved invariant-loop decreases-loop
-loop-again c = seeking-next _ _ _ _ _ _ c.before.before.before.before.before.loop.invariant (next c.before.before) (ne_eqb _ _ c.if1.false)
+loop-again : tie.Need-loop-i-preserved invariant-loop decreases-loop
+loop-again c = seeking-next _ _ _ _ _ _ c.before.before.before.before.before.loop-i.invariant (next c.before.before.before) (ne_eqb _ _ c.if-mark-marks.false)
 
-returns-2 : tie.Need-returns-2 invariant-loop decreases-loop
-returns-2 c = seeking-end _ _ _ _ c.before.loop.invariant (left-none _ _ _ c.loop-test.false)
+returns-2 : tie.Need-returns invariant-loop decreases-loop
+returns-2 c = seeking-end _ _ _ _ c.before.loop-i.invariant (left-none _ _ _ c.loop-i-test.false)
 
-pub leads-back-spec : {M : Type 1} → statement M
-leads-back-spec =
+pub leads_back_spec : {M : Type 1} → statement M
+leads_back_spec =
     tie.close
     (tie.spec
     invariant-loop

@@ -14,70 +14,70 @@ use Rattle.move_log.proofs.Good.{log-many, log-more, log-bad, log-all}
 use Rattle.move_log.proofs.logs.fit.log_good.Statement.{statement}
 use Rattle.move_log.proofs.logs.fit.log_good.Tie as tie
 
-abbrev invariant-loop : tie.invariant-loop
+abbrev invariant-loop : tie.invariant-loop-k
 invariant-loop n by lows highs kept log-sizes log-vars log-values held k₀ k =
     OfMakers n by (λ t. Scan (λ j. move_good t (bounds_in lows highs) (back (log_in log-sizes log-vars log-values) j)) (nat log-sizes 0) k)
 
-abbrev decreases-loop : tie.decreases-loop
+abbrev decreases-loop : tie.decreases-loop-k
 decreases-loop n by lows highs kept log-sizes log-vars log-values held k₀ k = held - k
 
 -- the log as it is lent
 abbrev log : tie.Start invariant-loop decreases-loop → Log
-log s = let a = s.args in log_in a.log-sizes.now a.log-vars.now a.log-values.now
+log s = let a = s.args in log_in a.log_sizes.now a.log_vars.now a.log_values.now
 
 abbrev limits : tie.Start invariant-loop decreases-loop → Bounds
 limits s = bounds_in s.args.lows.now s.args.highs.now
 
-shared-slice-read-wide : tie.Need-shared-slice-read-wide invariant-loop decreases-loop
+shared-slice-read-wide : tie.Need-bounds-log_sizes-0 invariant-loop decreases-loop
 shared-slice-read-wide c = let s = c.before.before.before.before in omega (arith, (log-long (log s) s.requires.1).0)
 
-wide-requires : tie.Need-wide-requires invariant-loop decreases-loop
+wide-requires : tie.Need-wide-held-requires invariant-loop decreases-loop
 wide-requires c κs = search rules
 
-returns : tie.Need-returns invariant-loop decreases-loop
+returns : tie.Need-returns-then-held-gt64 invariant-loop decreases-loop
 returns c =
-    let s = c.before.before.before.before.before.before in let w = c.before.wide.ensures in
+    let s = c.before.before.before.before.before.before in let w = c.before.wide-held.ensures in
     record { of = λ t e q. log-many (log s) t (limits s) _ (omega (arith, w.0)) }
 
-returns-2 : tie.Need-returns-2 invariant-loop decreases-loop
+returns-2 : tie.Need-returns-then-kept-held invariant-loop decreases-loop
 returns-2 c =
-    let s = c.before.before.before.before.before.before.before in let w = c.before.before.wide.ensures in
+    let s = c.before.before.before.before.before.before.before in let w = c.before.before.wide-held.ensures in
     record { of = λ t e q. log-more (log s) t (limits s) _ (omega (arith, w.0)) (omega (arith, w.0)) }
 
-loop-holds : tie.Need-loop-init invariant-loop decreases-loop
+loop-holds : tie.Need-loop-k-init invariant-loop decreases-loop
 loop-holds c = record { of = λ t e q. scan-start _ _ }
 
-logged-good-requires : tie.Need-logged-good-requires invariant-loop decreases-loop
+logged-good-requires : tie.Need-logged_good-requires invariant-loop decreases-loop
 logged-good-requires c κs = let s = c.before.before.before.before.before.before.before.before.before in ((s.requires.0, omega arith), s.requires.1)
 
 -- what is told of the move that the loop has come to
-here : (c : tie.After-logged-good invariant-loop decreases-loop)
-    → let s = c.before.before.before.before.before.before.before.before.before.before in OfMakers s.args.n s.args.by.now (λ t. move_good t (limits s) (back (log s) c.before.before.loop.k) ≡ c.logged-good.result)
-here c = record { of = λ t e q. sym (c.logged-good.ensures.of t e q) }
+here : (c : tie.After-logged_good invariant-loop decreases-loop)
+    → let s = c.before.before.before.before.before.before.before.before.before.before in OfMakers s.args.n s.args.by.now (λ t. move_good t (limits s) (back (log s) c.before.before.loop-k.k) ≡ c.logged_good.result)
+here c = record { of = λ t e q. sym (c.logged_good.ensures.of t e q) }
 
-returns-3 : tie.Need-returns-3 invariant-loop decreases-loop
+returns-3 : tie.Need-returns-then-not-logged_good invariant-loop decreases-loop
 returns-3 c =
-    let s = c.before.before.before.before.before.before.before.before.before.before.before in let w = c.before.before.before.before.before.before.wide.ensures in let l = c.before.before.before.loop in
-    record { of = λ t e q. log-bad (log s) t (limits s) _ (omega (arith, w.0)) (omega (arith, w.0)) l.k (l.invariant.of t e q) (omega (arith, w.0)) ((here c.before).of t e q ∙ not-true _ c.if3.true) }
+    let s = c.before.before.before.before.before.before.before.before.before.before.before in let w = c.before.before.before.before.before.before.wide-held.ensures in let l = c.before.before.before.loop-k in
+    record { of = λ t e q. log-bad (log s) t (limits s) _ (omega (arith, w.0)) (omega (arith, w.0)) l.k (l.invariant.of t e q) (omega (arith, w.0)) ((here c.before).of t e q ∙ not-true _ c.if-not-logged_good.true-raw) }
 
-add-k : tie.Need-overflow-add-k invariant-loop decreases-loop
+add-k : tie.Need-overflow_step-k invariant-loop decreases-loop
 add-k c = search rules
 
-loop-less : tie.Need-loop-smaller invariant-loop decreases-loop
+loop-less : tie.Need-loop-k-smaller invariant-loop decreases-loop
 loop-less c = search rules
 
-loop-again : tie.Need-loop-preserved invariant-loop decreases-loop
+loop-again : tie.Need-loop-k-preserved invariant-loop decreases-loop
 loop-again c =
-    let w = c.before.before.before.before.before.before.wide.ensures in let l = c.before.before.before.loop in
-    record { of = λ t e q. scan-next _ _ l.k (l.invariant.of t e q) (omega (arith, w.0)) ((here c.before).of t e q ∙ not-false _ c.if3.false) }
+    let w = c.before.before.before.before.before.before.wide-held.ensures in let l = c.before.before.before.loop-k in
+    record { of = λ t e q. scan-next _ _ l.k (l.invariant.of t e q) (omega (arith, w.0)) ((here c.before).of t e q ∙ not-false _ c.if-not-logged_good.false-raw) }
 
-returns-4 : tie.Need-returns-4 invariant-loop decreases-loop
+returns-4 : tie.Need-returns invariant-loop decreases-loop
 returns-4 c =
-    let s = c.before.before.before.before.before.before.before.before.before in let w = c.before.before.before.before.wide.ensures in let l = c.before.loop in
+    let s = c.before.before.before.before.before.before.before.before.before in let w = c.before.before.before.before.wide-held.ensures in let l = c.before.loop-k in
     record { of = λ t e q. log-all (log s) t (limits s) _ (omega (arith, w.0)) (omega (arith, w.0)) l.k (l.invariant.of t e q) (omega (arith, w.0)) }
 
-pub log-good-spec : {M : Type 1} → statement M
-log-good-spec =
+pub log_good_spec : {M : Type 1} → statement M
+log_good_spec =
     tie.close
     (tie.spec
     invariant-loop

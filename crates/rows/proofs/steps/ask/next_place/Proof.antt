@@ -51,52 +51,52 @@ outside (pos k) first last e h = sym (ap (λ b. cond b (first + 1 + k) last) (le
 outside (negsuc k) first last e h = refl
 
 -- ── the code ──
-add-result : tie.Need-overflow-add-result
+add-result : tie.Need-overflow_add-result
 add-result c = search rules
 
-returns : tie.Need-returns
-returns c = let a = c.before.args in other a.kind a.x a.i a.first a.last c.if1.true
+returns : tie.Need-returns-then-kind-ne4
+returns c = let a = c.before.args in other a.kind a.x a.i a.first a.last c.if-kind-ne4.true
 
-returns-2 : tie.Need-returns-2
-returns-2 c = let a = c.before.before.args in candidate a.kind a.x a.i a.first a.last c.before.if1.false c.if2.true
+returns-2 : tie.Need-returns-then-i-first
+returns-2 c = let a = c.before.before.args in candidate a.kind a.x a.i a.first a.last c.before.if-kind-ne4.false c.if-i-first.true
 
 -- the sign of x
 sign : (s : tie.Start) {t : Bool} → lt_z (to_z w32 (of_z w32 s.args.x)) (pos 0) ≡ t → lt_z s.args.x (pos 0) ≡ t
 sign s e = lt-read w32 s.args.x (pos 0) s.ranges.x (sfits_lit tt) e
 
-returns-3 : tie.Need-returns-3
+returns-3 : tie.Need-returns-then-x-lt0
 returns-3 c =
     let a = c.before.before.before.args in
-    below a.x a.first a.last (sign c.before.before.before c.if3.true)
-    ∙ sym (index a.kind a.x a.i a.first a.last c.before.before.if1.false c.before.if2.false)
+    below a.x a.first a.last (sign c.before.before.before c.if-x-lt0.true)
+    ∙ sym (index a.kind a.x a.i a.first a.last c.before.before.if-kind-ne4.false c.before.if-i-first.false)
 
-add-place : tie.Need-overflow-add-place
+add-place : tie.Need-overflow_add-place
 add-place c = search rules
 
-cast-place : tie.Need-overflow-cast-place
+cast-place : tie.Need-overflow_cast-place
 cast-place c =
     let s = c.before.before.before in
-    simp (to_z-of_z s.ranges.x) (nat-of s.args.x (sign s c.if3.false), Fits-nat_abs {w = w32} {w' = w64} tt s.ranges.x)
+    simp (to_z-of_z s.ranges.x) (nat-of s.args.x (sign s c.if-x-lt0.false), Fits-nat_abs {w = w32} {w' = w64} tt s.ranges.x)
 
-add-place-2 : tie.Need-overflow-add-place-2
+add-place-2 : tie.Need-overflow_add-place-2
 add-place-2 c =
     let s = c.before.before.before in
     simp (to_z-of_z s.ranges.x) (omega (arith, nat_abs-away s.args.x, fits-away w32 s.args.x s.ranges.x))
 
-returns-4 : tie.Need-returns-4
+returns-4 : tie.Need-returns-then-place-last
 returns-4 c =
     let s = c.before.before.before.before in let a = s.args in
-    simp (to_z-of_z s.ranges.x) (inside a.x a.first a.last (sign s c.before.if3.false) (simp (to_z-of_z s.ranges.x) at c.if4.true)
-    ∙ sym (index a.kind a.x a.i a.first a.last c.before.before.before.if1.false c.before.before.if2.false))
+    simp (to_z-of_z s.ranges.x) (inside a.x a.first a.last (sign s c.before.if-x-lt0.false) (simp (to_z-of_z s.ranges.x) at c.if-place-last.true)
+    ∙ sym (index a.kind a.x a.i a.first a.last c.before.before.before.if-kind-ne4.false c.before.before.if-i-first.false))
 
-returns-5 : tie.Need-returns-5
+returns-5 : tie.Need-returns
 returns-5 c =
     let s = c.before.before.before.before in let a = s.args in
-    outside a.x a.first a.last (sign s c.before.if3.false) (simp (to_z-of_z s.ranges.x) at c.if4.false)
-    ∙ sym (index a.kind a.x a.i a.first a.last c.before.before.before.if1.false c.before.before.if2.false)
+    outside a.x a.first a.last (sign s c.before.if-x-lt0.false) (simp (to_z-of_z s.ranges.x) at c.if-place-last.false)
+    ∙ sym (index a.kind a.x a.i a.first a.last c.before.before.before.if-kind-ne4.false c.before.before.if-i-first.false)
 
-pub next-place-spec : {M : Type 1} → statement M
-next-place-spec =
+pub next_place_spec : {M : Type 1} → statement M
+next_place_spec =
     tie.close
     (tie.spec
     add-result
