@@ -2,7 +2,7 @@
  *
  * These are the calls over buffers that the caller keeps. lukhandro_model.h has a struct that keeps them, and is where to
  * begin: a model in ten lines. `pkg-config --cflags --libs lukhandro` says how to compile and link where the library is
- * installed; in the repository it is target/staticlib/libcapi.a, which `rt staticlib capi` writes for x86-64. No call
+ * installed; in the repository it is target/staticlib/libcapi.a, which `tools/archive` writes for x86-64. No call
  * allocates, keeps a pointer, or touches anything but the buffers lent to it.
  *
  * THE INTERFACE has a number, LUKHANDRO_INTERFACE, which goes up when a call's parameters, a struct or the meaning of a

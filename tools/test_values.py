@@ -4,6 +4,7 @@ refusal ends with status 1, its line on standard output and a sentence on standa
 crate is said as it is proved, and a run that is killed while it builds leaves no process, no file and nothing that the next run cannot
 use. Wants a checkout that is proved but for the program."""
 import os
+import shutil
 import signal
 import struct
 import subprocess
@@ -80,8 +81,13 @@ def of_this_run(room):
 
 def killed_and_run_again(room):
     program = ROOT / "target/bin/values"
-    for way, after in [(signal.SIGTERM, 2.0), (signal.SIGKILL, 4.0), (signal.SIGINT, 0.2)]:
+
+    def forget():
         program.unlink(missing_ok=True)
+        shutil.rmtree(ROOT / "crates/values/out", ignore_errors=True)
+
+    for way, after in [(signal.SIGTERM, 2.0), (signal.SIGKILL, 4.0), (signal.SIGINT, 0.2)]:
+        forget()
         folder = room / way.name
         folder.mkdir()
         environment = dict(os.environ, TMPDIR=str(folder))
@@ -93,7 +99,7 @@ def killed_and_run_again(room):
         while time.monotonic() < until and (of_this_run(folder) or list(folder.iterdir())):
             time.sleep(0.2)
         assert not of_this_run(folder) and not list(folder.iterdir()), f"{way.name} leaves something behind"
-    program.unlink(missing_ok=True)
+    forget()
     status, shown, said = run(MODEL, room=room)
     assert (status, shown) == (0, LIST), said
     lines = said.split("\n")
@@ -105,7 +111,6 @@ def killed_and_run_again(room):
 def main():
     for test in [killed_and_run_again, lists_a_model, words_of_the_command, refusals]:
         with tempfile.TemporaryDirectory() as room:
-            os.chmod(room, 0o711)  # where rt is root it runs programs as nobody
             test(Path(room))
     print("values: its manners are as they must be")
 

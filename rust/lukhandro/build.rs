@@ -1,5 +1,5 @@
 //! Links the archive of the proved engine: in the folder that the environment variable `LUKHANDRO_STATICLIB` names; else in
-//! `target/staticlib` of the repository, where `rt staticlib capi` writes it; else where `pkg-config` says that the library
+//! `target/staticlib` of the repository, where `tools/archive` writes it; else where `pkg-config` says that the library
 //! is installed. An archive of another interface than the binding's is noticed by the linker, which finds no function with
 //! the binding's number in its name.
 
@@ -25,7 +25,7 @@ fn main() {
     };
     let archive = |name: &str| folder.join(format!("lib{name}.a"));
     let name = NAMES.into_iter().find(|name| archive(name).exists()).unwrap_or_else(|| {
-        println!("cargo::warning={} is missing: `rt staticlib capi` writes it", archive(NAMES[0]).display());
+        println!("cargo::warning={} is missing: `tools/archive` writes it", archive(NAMES[0]).display());
         NAMES[0]
     });
     println!("cargo::rerun-if-changed={}", archive(name).display());

@@ -1,6 +1,6 @@
-//! Compiles the C programs for x86-64 with the Rattle kit and links them with the archive that `rt staticlib capi`
-//! writes: in `target/staticlib` of the repository, or in the folder that `LUKHANDRO_STATICLIB` names. Nothing but the
-//! kit is needed: its compiler, its linker, its C library, and on another processor its emulator.
+//! Compiles the C programs for x86-64 with the Rattle kit and links them with the archive that `tools/archive` writes:
+//! in `target/staticlib` of the repository, or in the folder that `LUKHANDRO_STATICLIB` names. Nothing but the kit is
+//! needed: its compiler, its linker, its C library.
 
 use std::env;
 use std::ffi::OsStr;
@@ -22,12 +22,12 @@ fn main() {
     let folder = env::var_os("LUKHANDRO_STATICLIB").map_or(repository.join("target/staticlib"), PathBuf::from);
     let archive = folder.join("libcapi.a");
     println!("cargo::rerun-if-env-changed=LUKHANDRO_STATICLIB");
-    println!("cargo::rerun-if-env-changed=RATTLE_HOME");
+    println!("cargo::rerun-if-env-changed=PATH");
     for input in [archive.clone(), repository.join("include"), "c".into(), "build.rs".into()] {
         println!("cargo::rerun-if-changed={}", input.display());
     }
     if !archive.exists() {
-        fail(&format!("{} is missing: `rt staticlib capi` writes it", archive.display()));
+        fail(&format!("{} is missing: `tools/archive` writes it", archive.display()));
     }
     let kit = kit();
     let programs = PathBuf::from(env::var_os("OUT_DIR").expect("cargo says where"));
@@ -42,24 +42,21 @@ fn main() {
     println!("cargo::rustc-env=SERVED_PROGRAMS={}", programs.display());
 }
 
-/// The part of the kit that runs on this processor: of the kit that `RATTLE_HOME` names, else of the `rt` on the PATH.
+/// The toolchain of the kit whose `rt` is on the PATH.
 fn kit() -> PathBuf {
-    let named = env::var_os("RATTLE_HOME").filter(|home| !home.is_empty());
-    let home = named.map(PathBuf::from).or_else(|| {
-        let rt = env::split_paths(&env::var_os("PATH")?).map(|folder| folder.join("rt")).find(|rt| rt.is_file())?;
-        Some(rt.canonicalize().ok()?.parent()?.parent()?.to_path_buf())
-    });
-    let Some(home) = home else {
+    let Some(home) = home() else {
         fail("rt is not on the PATH: install the Rattle kit, and put its folder bin/ on the PATH");
     };
-    let kit = home.join("on").join(env::consts::ARCH).join("toolchain");
+    let kit = home.join("toolchain");
     if !kit.join("bin/clang").exists() {
-        fail(&format!(
-            "{} has no compiler: RATTLE_HOME or the rt on the PATH is to be a whole Rattle kit",
-            kit.display()
-        ));
+        fail(&format!("{} has no compiler: the rt on the PATH is to be that of a whole Rattle kit", kit.display()));
     }
     kit
+}
+
+fn home() -> Option<PathBuf> {
+    let rt = env::split_paths(&env::var_os("PATH")?).map(|folder| folder.join("rt")).find(|rt| rt.is_file())?;
+    Some(rt.canonicalize().ok()?.parent()?.parent()?.to_path_buf())
 }
 
 fn compile(kit: &Path, repository: &Path, source: &Path, object: &Path) {

@@ -41,8 +41,7 @@ pub(crate) fn figures_numbers(told: Counted) -> FiguresOutcome
 }
 
 // `figures::figures` for C. The record is only read.
-#[unsafe(no_mangle)]
-pub extern "C" fn lukhandro_figures(
+pub fn lukhandro_figures(
     session: &Session,
     n: usize,
     m: usize,

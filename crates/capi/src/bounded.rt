@@ -10,8 +10,7 @@ use files::{read_bounded, write_bounded};
 use records::answers::Outcome;
 
 // `files::write_bounded` for C.
-#[unsafe(no_mangle)]
-pub extern "C" fn lukhandro_write_bounded(
+pub fn lukhandro_write_bounded(
     n: usize,
     m: usize,
     e: usize,
@@ -39,8 +38,7 @@ pub extern "C" fn lukhandro_write_bounded(
 }
 
 // `files::read_bounded` for C.
-#[unsafe(no_mangle)]
-pub extern "C" fn lukhandro_read_bounded(
+pub fn lukhandro_read_bounded(
     bytes: &[u8],
     starts: &mut [i32],
     kinds: &mut [u16],

@@ -26,8 +26,7 @@ fn list_numbers(told: Listed) -> ListOutcome
 }
 
 // `boards::list_departures` for C.
-#[unsafe(no_mangle)]
-pub extern "C" fn lukhandro_departures(
+pub fn lukhandro_departures(
     windows: usize,
     starts: &[i32],
     ends: &[i32],

@@ -26,8 +26,7 @@ fn carried_numbers(told: Carried) -> ListOutcome
 }
 
 // `frequencies::read_frequencies` for C.
-#[unsafe(no_mangle)]
-pub extern "C" fn lukhandro_frequencies(
+pub fn lukhandro_frequencies(
     bytes: &[u8],
     name_places: &mut [u32],
     name_lengths: &mut [u32],
@@ -55,8 +54,7 @@ pub extern "C" fn lukhandro_frequencies(
 }
 
 // `frequencies::write_frequencies` for C.
-#[unsafe(no_mangle)]
-pub extern "C" fn lukhandro_write_frequencies(
+pub fn lukhandro_write_frequencies(
     windows: usize,
     text: &[u8],
     name_places: &[u32],

@@ -54,8 +54,7 @@ pub(crate) fn read_numbers(told: Reading) -> ReadOutcome
 }
 
 // `files::write` for C.
-#[unsafe(no_mangle)]
-pub extern "C" fn lukhandro_write(
+pub fn lukhandro_write(
     n: usize,
     m: usize,
     e: usize,
@@ -81,8 +80,7 @@ pub extern "C" fn lukhandro_write(
 }
 
 // `files::read` for C.
-#[unsafe(no_mangle)]
-pub extern "C" fn lukhandro_read(
+pub fn lukhandro_read(
     bytes: &[u8],
     starts: &mut [i32],
     kinds: &mut [u16],

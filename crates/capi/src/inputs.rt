@@ -5,8 +5,7 @@ ghost use Rattle.tables.specs.Given.{part_asked, part_named};
 use tables::parts::{Part, part_of_row};
 
 // `tables::parts::inputs_of_row` for C: where the part starts among the lent entries, and how many it has. C can take no slice back.
-#[unsafe(no_mangle)]
-pub extern "C" fn lukhandro_inputs_of_row(
+pub fn lukhandro_inputs_of_row(
     m: usize,
     e: usize,
     firsts: &[u16],

@@ -10,8 +10,7 @@ use records::Session;
 use records::answers::{Outcome, in_numbers};
 
 // `engine::keep` for C. The reason of every variable evaluated is given.
-#[unsafe(no_mangle)]
-pub extern "C" fn lukhandro_keep(
+pub fn lukhandro_keep(
     session: &mut Session,
     n: usize,
     m: usize,

@@ -11,8 +11,7 @@ use records::answers::{Outcome, in_numbers};
 use trials::trials;
 
 // `trials::trials` for C. The record is only read.
-#[unsafe(no_mangle)]
-pub extern "C" fn lukhandro_trials(
+pub fn lukhandro_trials(
     session: &Session,
     n: usize,
     m: usize,

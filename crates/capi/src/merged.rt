@@ -30,8 +30,7 @@ fn refused_figures(number: u32, place: u32) -> FiguresOutcome
 }
 
 // `merging::merge` for C. A refused outcome has no figures: the first of the two that is refused is the answer, and nothing is written.
-#[unsafe(no_mangle)]
-pub extern "C" fn lukhandro_merge(
+pub fn lukhandro_merge(
     first: FiguresOutcome,
     second: FiguresOutcome,
     first_by_number: &[u32],

@@ -34,12 +34,7 @@ fn salvaged_numbers(told: Salvaged) -> SalvageOutcome
 }
 
 // `salvage::salvage` for C.
-#[unsafe(no_mangle)]
-pub extern "C" fn lukhandro_salvage(
-    bytes: &[u8],
-    file: &mut [u8],
-    list: &mut [u16],
-) -> SalvageOutcome
+pub fn lukhandro_salvage(bytes: &[u8], file: &mut [u8], list: &mut [u16]) -> SalvageOutcome
     ensures { (result, (file.new, list.new)) ≡ salvaged_out (Salvage.salvage (lends_to_salvage bytes.now file.old list.old)) }
 {
     let told = salvage(bytes, file, list);

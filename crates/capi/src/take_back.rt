@@ -10,8 +10,7 @@ use records::Session;
 use records::answers::{Outcome, in_numbers};
 
 // `engine::take_back` for C. The reason of every variable evaluated is given.
-#[unsafe(no_mangle)]
-pub extern "C" fn lukhandro_take_back(
+pub fn lukhandro_take_back(
     session: &mut Session,
     n: usize,
     m: usize,

@@ -9,8 +9,7 @@ use records::Session;
 use records::answers::{Outcome, in_numbers};
 
 // `engine::trial` for C. The reason of every variable asked is given.
-#[unsafe(no_mangle)]
-pub extern "C" fn lukhandro_trial(
+pub fn lukhandro_trial(
     session: &mut Session,
     n: usize,
     m: usize,

@@ -25,8 +25,7 @@ fn move_numbers(told: Converted) -> MoveOutcome
 }
 
 // `files::conversions::to_version_2` for C.
-#[unsafe(no_mangle)]
-pub extern "C" fn lukhandro_to_version_2(bytes: &[u8], file: &mut [u8]) -> MoveOutcome
+pub fn lukhandro_to_version_2(bytes: &[u8], file: &mut [u8]) -> MoveOutcome
     ensures { (result, file.new) ≡ moved_out (File.convert File.version1 File.version2 bytes.now file.old) }
 {
     let told = to_version_2(bytes, file);
@@ -34,8 +33,7 @@ pub extern "C" fn lukhandro_to_version_2(bytes: &[u8], file: &mut [u8]) -> MoveO
 }
 
 // `files::conversions::to_version_1` for C.
-#[unsafe(no_mangle)]
-pub extern "C" fn lukhandro_to_version_1(bytes: &[u8], file: &mut [u8]) -> MoveOutcome
+pub fn lukhandro_to_version_1(bytes: &[u8], file: &mut [u8]) -> MoveOutcome
     ensures { (result, file.new) ≡ moved_out (File.convert File.version2 File.version1 bytes.now file.old) }
 {
     let told = to_version_1(bytes, file);

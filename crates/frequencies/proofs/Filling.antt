@@ -1,22 +1,21 @@
 -- Rows filled from the front: what was put stays, and what is left belongs behind it. Assumes nothing.
-use Prim.Native.Nat.{ℕ, suc, ◌+◌, ◌-◌, ◌≤◌, ◌<◌}
+use Prim.Native.Nat.{ℕ, suc, ◌+◌, ◌-◌, ◌<◌}
 use native.Mathlib.Numerals.{add-one}
 use native.Mathlib.Omega.{arith}
 use mathlib.Core.Bool.{Bool, true, false, cond}
-use mathlib.Core.List.{List, [], ◌∷◌, ◌++◌, map, append_assoc}
+use mathlib.Core.List.{List, [], ◌∷◌, ◌++◌, append_assoc}
 use mathlib.Core.Path.{◌≡◌, refl, ap, sym, ◌∙◌}
-use lib.Dec.{leb}
 use lib.IntN.{ℤ}
 use lib.ListN.{length, take, drop, set, length-set, take-append-drop}
-use lib.Seq.{take-suc-set, drop-set-lt, append_snoc}
+use lib.Seq.{take-suc-set, drop-set-lt}
 use borrow.Author.Tests.{leb-true}
-use Rattle.paper.specs.Lists.{any, every}
+use Rattle.paper.specs.Lists.{any}
 use Rattle.paper.proofs.Lists.{each}
-use Rattle.frequencies.specs.Csv.{is_quote, Row, row_of, split, front}
+use Rattle.frequencies.specs.Csv.{is_quote, Row, row_of, front}
 use Rattle.frequencies.specs.Values.{time, headway, exact}
 use Rattle.frequencies.specs.Reading.{Windows, windows_in, windows_of, laid_over, room_for}
 use Rattle.frequencies.specs.Reading as reading
-use Rattle.frequencies.specs.Scan.{Scannable, Stands, RowScanned, scanned_at}
+use Rattle.frequencies.specs.Scan.{Scannable, RowScanned, scanned_at}
 use Rattle.frequencies.specs.Heading.{columns_in}
 use Rattle.frequencies.specs.Filling.{Room, Held, window_put, rows_from, laid_from, windows_from, SameSizes, Filled, still_to_fill}
 use Rattle.frequencies.proofs.Scanning.{split-line}

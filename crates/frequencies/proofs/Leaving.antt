@@ -7,7 +7,7 @@ use mathlib.Core.Path.{◌≡◌, refl, ap, ap₂, sym, ◌∙◌}
 use lib.Dec.{leb}
 use lib.ListN.{length, take}
 use borrow.Author.Tests.{leb-true}
-use Rattle.paper.specs.Checks.{Verdict, accepted, refused, leaves}
+use Rattle.paper.specs.Checks.{accepted, leaves}
 use Rattle.paper.proofs.Lists.{each, and_left, and_right}
 use Rattle.frequencies.specs.Csv.{Row, rows_of}
 use Rattle.frequencies.specs.Reading.{Windows, room_for, windows_of, columns_of, header, window_rows, read_fits, read_verdict, carried_by, left_by_reading, read_frequencies}

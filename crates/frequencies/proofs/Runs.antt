@@ -215,9 +215,9 @@ module _ (x : Raws) (at line : ℕ) (rest : List ℕ) (h : Ahead x at line rest)
   line_row : Row
   line_row = row line (fields_at x at h.a₁ h.a₂ h.a₃ h.a₄)
 
-  line_row : RowOf x line_row
+  line-row : RowOf x line_row
   unfolding line_row
-  line_row = record { at₀ = at; at₁ = h.a₁; at₂ = h.a₂; at₃ = h.a₃; at₄ = h.a₄; is = refl }
+  line-row = record { at₀ = at; at₁ = h.a₁; at₂ = h.a₂; at₃ = h.a₃; at₄ = h.a₄; is = refl }
 
   -- by what the fifth field is
   row-then : (t : Rest) → t.first ≡ field h.a₄ x.exact → t.fields ≡ [] → split h.a₄ h.n₄ front (x.exact ++ rest) ≡ t
@@ -238,7 +238,7 @@ first-row x at line rest l =
     let h = go-ahead x at line (10 ∷ rest) l in let r = (plain-apart x.exact l.exact).run feed rest h.a₄ h.n₄ in
     record {
       first = line_row x at line (10 ∷ rest) h;
-      row = line_row x at line (10 ∷ rest) h;
+      row = line-row x at line (10 ∷ rest) h;
       place = r.place;
       next = r.next;
       rows = row-then x at line (10 ∷ rest) h _ refl refl r.is;
@@ -255,6 +255,6 @@ last_row x at line l =
     let h = go-ahead x at line [] l in
     record {
       last = line_row x at line [] h;
-      row = line_row x at line [] h;
+      row = line-row x at line [] h;
       rows = row-then x at line [] h _ refl refl (ap (split h.a₄ h.n₄ front) (append-nil x.exact) ∙ front-last x.exact h.a₄ h.n₄ l.exact);
     }

@@ -1,5 +1,5 @@
 -- The bytes of a file as rows of fields, by RFC 4180: fields are parted by commas and rows by line ends, but not between the quotes of a field. Assumes nothing.
-use Rattle.std.specs.Prelude.{ℕ, suc, ◌+◌, ◌-◌, Bool, true, false, cond, not, ◌&&◌, List, [], ◌∷◌, eqb, length, take, drop}
+use Rattle.std.specs.Prelude.{ℕ, suc, ◌-◌, Bool, true, false, cond, not, ◌&&◌, List, [], ◌∷◌, eqb, length, take, drop}
 use Rattle.paper.specs.Lists.{any, every, nat}
 
 -- ── bytes ──

@@ -1,5 +1,5 @@
 -- What the bytes of a field say, by the GTFS Schedule Reference: a time, a headway, exact_times, and the fields that a header names. Assumes nothing.
-use Rattle.std.specs.Prelude.{ℕ, zero, suc, ◌+◌, ◌-◌, ◌*◌, Bool, true, false, cond, not, ◌&&◌, ◌||◌, List, [], ◌∷◌, eqb, leb, ltb, ℤ, pos, length, take, drop}
+use Rattle.std.specs.Prelude.{ℕ, zero, suc, ◌+◌, ◌-◌, ◌*◌, Bool, true, false, cond, ◌&&◌, List, [], ◌∷◌, eqb, leb, ltb, ℤ, pos, length, take, drop}
 use Rattle.paper.specs.Lists.{all, every, between, tally, nat}
 use Rattle.paper.specs.Formula.{blank}
 use Rattle.frequencies.specs.Csv.{Field, body, Row}

@@ -14,3 +14,4 @@ at_place (x ∷ xs) (suc j) h = Memᴰ.tail (at_place xs j (omega arith))
 pub mapped : {A B : Type 0} (f : A → B) (xs : List A) {x : A} → Memᴰ x xs → Memᴰ (f x) (map f xs)
 mapped f (y ∷ ys) (Memᴰ.head q) = Memᴰ.head (ap f q)
 mapped f (y ∷ ys) (Memᴰ.tail m) = Memᴰ.tail (mapped f ys m)
+mapped {A = A} {B = B} f [] x3 = elim x3 [ ]

@@ -18,7 +18,6 @@ use Rattle.paper.proofs.Lists.{and_left, all_of}
 use Rattle.paper.proofs.Buffers.{length-below, get_d-below, over-front, over-length, over-same}
 use Rattle.paper.proofs.Fix.{able-suc}
 use Rattle.paper.proofs.Accept.{sound-row, made_row, made-below}
-use Rattle.paper.proofs.Sizes.{sized-facts}
 use Rattle.tables.specs.Makers.{Makers, maker_of}
 use Rattle.routes.specs.Rows.{Ended, values_of}
 use Rattle.routes.specs.Routed.{Begun}

@@ -3,7 +3,7 @@
 use Prim.Native.Nat.{ℕ, suc, ◌≤◌, ◌<◌}
 use native.Mathlib.Omega.{arith}
 use mathlib.Core.Bool.{Bool, true, false}
-use mathlib.Core.List.{List, ◌∷◌, map, Memᴰ}
+use mathlib.Core.List.{List, [], ◌∷◌, map, Memᴰ}
 use mathlib.Core.Path.{◌≡◌, refl, ap, sym, ◌∙◌, subst}
 use lib.Dec.{ltb}
 use lib.IntN.{ℤ, pos}
@@ -21,7 +21,6 @@ use Rattle.paper.proofs.Accept.{sound-row, row-of, made_row, made_by, row-inputs
 use Rattle.paper.proofs.Lawful.{lawful}
 use Rattle.paper.proofs.Numbers.{number-right}
 use Rattle.paper.proofs.Order.{order-in, order-has, order-length, inputs-done}
-use Rattle.formulas.specs.Inputs.{inputs}
 use Rattle.routes.proofs.Members.{at_place}
 use Rattle.routes.specs.Rows.{Along, RowFits, row_gives}
 
@@ -29,6 +28,7 @@ use Rattle.routes.specs.Rows.{Along, RowFits, row_gives}
 pub place_of : (l : List ℕ) {x : ℕ} → Memᴰ x l → (j : ℕ) × (j < length l) × (nat l j ≡ x)
 place_of (y ∷ ys) (Memᴰ.head q) = (0, omega arith, sym q)
 place_of (y ∷ ys) (Memᴰ.tail m) = let (j, h, e) = place_of ys m in (suc j, omega arith, e)
+place_of [] x3 = elim x3 [ ]
 
 module _ (t : Tables) (ord : List ℕ) (a : Along t ord) where
   same : (j : ℕ) → j < t.m → nat ord j ≡ nat (order t) j

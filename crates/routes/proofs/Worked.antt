@@ -46,8 +46,8 @@ module _ (t : Tables) (ord : List ℕ) (a : Along t ord) (start : List ℤ) (roo
     low : made j < t.n
     low = (sound-row t a.sound (nat ord j) (row_at t ord a j h)).makes
 
-    is_made : is_made t (made j) ≡ true
-    is_made = row-is-made t a.sound (nat ord j) (row_at t ord a j h)
+    made-here : is_made t (made j) ≡ true
+    made-here = row-is-made t a.sound (nat ord j) (row_at t ord a j h)
 
     -- the inputs have their values
     input : (i : ℕ) → Memᴰ i (inputs_of t (made j)) → get_or now i (pos 0) ≡ goal i
@@ -63,13 +63,13 @@ module _ (t : Tables) (ord : List ℕ) (a : Along t ord) (start : List ℤ) (roo
         row-form t a.sound (nat ord j) (row_at t ord a j h) now
         ∙ form-same (net t) (lawful t) (made j) (λ v. get_or now v (pos 0)) goal input
         ∙ sym (afresh-equation (net t) (lawful t) t.n a.chains (values_in t start) (made j)
-        ∙ ap (λ b. cond b (form_of t (made j) goal) (values_in t start (made j))) is_made)
+        ∙ ap (λ b. cond b (form_of t (made j) goal) (values_in t start (made j))) made-here)
 
     pub working-next : (x : ℤ) → x ≡ row_gives (nat ord j) t.kinds t.params t.firsts t.counts t.vars t.coefs now → Working t ord start (j + 1) (set now (made j) x)
     working-next x e = rw (e ∙ gives) (record {
       long = length-set now (made j) (goal (made j)) ∙ w.long;
       beyond = drop-set-lt t.n now (made j) (goal (made j)) low ∙ w.beyond;
-      search = λ v l s. get_or-set_other now (made j) v (goal (made j)) (pos 0) (λ q. clash is_made (ap (is_made t) (sym q) ∙ s)) ∙ w.search v l s;
+      search = λ v l s. get_or-set_other now (made j) v (goal (made j)) (pos 0) (λ q. clash made-here (ap (is_made t) (sym q) ∙ s)) ∙ w.search v l s;
       done = λ i l. put i (ltb i j) refl l (eqb (made j) (made i)) refl;
     })
       where

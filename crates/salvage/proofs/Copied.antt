@@ -1,18 +1,17 @@
 -- Lists one after another, and parts copied, as loops store them. Assumes nothing.
-use Prim.Native.Nat.{ℕ, zero, suc, ◌+◌, ◌-◌, ◌≤◌, ◌<◌}
+use Prim.Native.Nat.{ℕ, ◌+◌, ◌-◌, ◌≤◌, ◌<◌}
 use native.Mathlib.Numerals.{add-one}
 use native.Mathlib.Omega.{arith}
-use mathlib.Core.Bool.{Bool, true, false, cond, ◌&&◌}
-use mathlib.Core.List.{List, [], ◌∷◌, ◌++◌, map}
+use mathlib.Core.Bool.{Bool, true, false, ◌&&◌}
+use mathlib.Core.List.{List, ◌++◌, map}
 use mathlib.Core.Path.{◌≡◌, refl, ap, ap₂, sym, ◌∙◌, subst}
-use lib.ListN.{length, get_or, take, drop, set, length-append, length-set, length-map}
-use lib.Seq.{sets, sets-eq, length-sets, paste, paste-zero, paste-suc, take_all, take_at, take-length, get_or-drop, ext_get_or}
+use lib.ListN.{length, get_or, take, drop, set, length-set, length-map}
+use lib.Seq.{sets, sets-eq, paste, paste-zero, paste-suc, take_all, take_at, take-length, get_or-drop, ext_get_or}
 use Rattle.paper.specs.Lists.{nat, total, those, joined, below, over}
 use Rattle.paper.specs.Tables.{Tables, ends}
 use Rattle.paper.proofs.Buffers.{length-below, get_d-below, over-front, over-same, Filled}
-use Rattle.paper.proofs.Bytes.{go_on, sets-front}
+use Rattle.paper.proofs.Bytes.{sets-front}
 use Rattle.paper.proofs.Scan.{part_length}
-use Rattle.paper.proofs.Those.{joined-grown, joined-le}
 use Rattle.tables.specs.Makers.{AllBelow}
 use Rattle.tables.proofs.Whole.{front}
 use Rattle.order.specs.Formed.{bare}

@@ -1,8 +1,7 @@
 //! The proved engine behind a pipe, as an engine that can be compared.
 //!
-//! The archive is for x86-64. A C program, `c/server.c`, is linked with it and answers calls over a pipe; it runs as
-//! rt's own programs do, under the kit's loader and, on another processor, under the kit's emulator. So the engine is
-//! pressed on every processor on which it can be proved.
+//! The archive is for x86-64. A C program, `c/server.c`, is linked with it and answers calls over a pipe; it runs
+//! under the kit's loader. So the engine is pressed as C programs call it, and in a process of its own.
 #![forbid(unsafe_code)]
 #![warn(missing_docs)]
 

@@ -3,12 +3,12 @@
 use std::path::Path;
 use std::process::Command;
 
-/// The kit's folder for this processor, and the folder of the C programs, as the build found and left them.
+/// The kit's toolchain, and the folder of the C programs, as the build found and left them.
 const KIT: &str = env!("SERVED_KIT");
 const PROGRAMS: &str = env!("SERVED_PROGRAMS");
 
-/// A C program of the build (`server`, `calls`, `model`, `headway` or `sheet`), ready to run: under the kit's loader and, on another
-/// processor, its emulator; on a stack of so many bytes, if it is told.
+/// A C program of the build (`server`, `calls`, `model`, `headway` or `sheet`), ready to run: under the kit's loader, on
+/// a stack of so many bytes, if it is told.
 #[must_use]
 pub fn program(name: &str, stack: Option<usize>) -> Command {
     command_for(&Path::new(PROGRAMS).join(name), stack)
@@ -22,22 +22,13 @@ pub fn command_for(program: &Path, stack: Option<usize>) -> Command {
     command
 }
 
-/// The loader, under the emulator or on the processor itself.
+/// The loader alone, or by a shell that gives it its stack.
 fn bare(kit: &Path, stack: Option<usize>) -> Command {
     let loader = kit.join("lib/ld-linux-x86-64.so.2");
-    let mut command;
-    if cfg!(target_arch = "x86_64") {
-        let Some(stack) = stack else {
-            return Command::new(loader);
-        };
-        command = Command::new("sh");
-        command.arg("-c").arg(format!("ulimit -s {} && exec \"$0\" \"$@\"", stack / 1024));
-    } else {
-        command = Command::new(kit.join("bin/qemu-x86_64"));
-        if let Some(stack) = stack {
-            command.arg("-s").arg(stack.to_string());
-        }
-    }
-    command.arg(loader);
+    let Some(stack) = stack else {
+        return Command::new(loader);
+    };
+    let mut command = Command::new("sh");
+    command.arg("-c").arg(format!("ulimit -s {} && exec \"$0\" \"$@\"", stack / 1024)).arg(loader);
     command
 }

@@ -14,16 +14,16 @@ use Rattle.whys.proofs.picks_none.Tie as tie
 sign : (s : tie.Start) {t : Bool} → lt_z (to_z w32 (of_z w32 s.args.index)) (pos 0) ≡ t → lt_z s.args.index (pos 0) ≡ t
 sign s e = lt-read w32 s.args.index (pos 0) s.ranges.index (sfits_lit tt) e
 
-returns : tie.Need-returns
-returns c = let s = c.before in below s.args.index s.args.count (sign s c.if1.true)
+returns : tie.Need-returns-then-index-lt0
+returns c = let s = c.before in below s.args.index s.args.count (sign s c.if-index-lt0.true)
 
-cast-result : tie.Need-overflow-cast-result
+cast-result : tie.Need-overflow_cast-result
 cast-result c =
     let s = c.before in
-    simp (to_z-of_z s.ranges.index) (nat-of s.args.index (sign s c.if1.false), Fits-nat_abs {w = w32} {w' = w64} tt s.ranges.index)
+    simp (to_z-of_z s.ranges.index) (nat-of s.args.index (sign s c.if-index-lt0.false), Fits-nat_abs {w = w32} {w' = w64} tt s.ranges.index)
 
-returns-2 : tie.Need-returns-2
-returns-2 c = let s = c.before in simp (to_z-of_z s.ranges.index) (beyond s.args.index s.args.count (sign s c.if1.false))
+returns-2 : tie.Need-returns
+returns-2 c = let s = c.before in simp (to_z-of_z s.ranges.index) (beyond s.args.index s.args.count (sign s c.if-index-lt0.false))
 
-pub picks-none-spec : {M : Type 1} → statement M
-picks-none-spec = tie.close (tie.spec returns cast-result returns-2)
+pub picks_none_spec : {M : Type 1} → statement M
+picks_none_spec = tie.close (tie.spec returns cast-result returns-2)

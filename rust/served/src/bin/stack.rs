@@ -11,7 +11,7 @@ use served::Served;
 /// What is measured is a multiple of this, in bytes.
 const STEP: usize = 16 << 10;
 
-/// The emulator gives no less.
+/// What is measured begins here.
 const LEAST: usize = 128 << 10;
 
 fn main() {

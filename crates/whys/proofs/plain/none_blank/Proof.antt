@@ -22,10 +22,10 @@ use Rattle.whys.specs.Plain.{not_blank}
 use Rattle.whys.proofs.plain.none_blank.Statement.{statement}
 use Rattle.whys.proofs.plain.none_blank.Tie as tie
 
-abbrev invariant-loop : tie.invariant-loop
+abbrev invariant-loop : tie.invariant-loop-i
 invariant-loop n values flags asked i₀ i-end i = Scan (λ k. not_blank flags values (nat asked k)) (length asked) i
 
-abbrev decreases-loop : tie.decreases-loop
+abbrev decreases-loop : tie.decreases-loop-i
 decreases-loop n values flags asked i₀ i-end i = length asked - i
 
 -- the test of the k-th asked variable
@@ -33,68 +33,68 @@ abbrev test : tie.Start invariant-loop decreases-loop → ℕ → Bool
 test s k = let a = s.args in not_blank a.flags.now a.values.now (nat a.asked.now k)
 
 -- what is asked is a variable
-low : (c : tie.After-shared-slice-known4 invariant-loop decreases-loop) → c.before.wide.result < c.before.before.before.before.before.before.before.args.n
+low : (c : tie.After-wide-v invariant-loop decreases-loop) → c.wide-v.result < c.before.before.before.before.before.before.args.n
 low c =
-    let s = c.before.before.before.before.before.before.before in let i = c.before.before.before.before.loop.i in
-    let l = ltb-true (nat s.args.asked.now i) s.args.n (all-at (λ v. ltb v s.args.n) s.args.asked.now s.requires.1 i 0 c.before.before.before.loop-test.true) in
-    omega (arith, c.before.wide.ensures.0)
+    let s = c.before.before.before.before.before.before in let i = c.before.before.before.loop-i.i in
+    let l = ltb-true (nat s.args.asked.now i) s.args.n (all-at (λ v. ltb v s.args.n) s.args.asked.now s.requires.1 i 0 c.before.before.loop-i-test.true) in
+    omega (arith, c.wide-v.ensures.0)
 
 -- what is tested
-here : (c : tie.After-is-blank invariant-loop decreases-loop)
-    → test c.before.before.before.before.before.before.before.before.before c.before.before.before.before.before.before.loop.i ≡ not (eqb (nat c.before.before.before.before.before.before.before.before.before.args.flags.now c.before.before.before.wide.result) 1 && c.is-blank.result)
+here : (c : tie.After-is_blank invariant-loop decreases-loop)
+    → test c.before.before.before.before.before.before.before.before.before c.before.before.before.before.before.before.loop-i.i ≡ not (eqb (nat c.before.before.before.before.before.before.before.before.before.args.flags.now c.before.before.before.wide-v.result) 1 && c.is_blank.result)
 here c =
-    let a = c.before.before.before.before.before.before.before.before.before.args in let v = c.before.before.before.wide.result in
-    let fits : SFits w32 (get_or a.values.now v (pos 0)) = sfits_of c.before.is-blank-arg.given in
-    ap (λ u. not_blank a.flags.now a.values.now u) (sym c.before.before.before.wide.ensures.0)
-    ∙ ap (λ z. not (eqb (nat a.flags.now v) 1 && z)) (sym (c.is-blank.ensures ∙ ap (λ x. eq_z x blank) (to_z-of_z fits)))
+    let a = c.before.before.before.before.before.before.before.before.before.args in let v = c.before.before.before.wide-v.result in
+    let fits : SFits w32 (get_or a.values.now v (pos 0)) = sfits_of c.before.is_blank-arg-1.given in
+    ap (λ u. not_blank a.flags.now a.values.now u) (sym c.before.before.before.wide-v.ensures.0)
+    ∙ ap (λ z. not (eqb (nat a.flags.now v) 1 && z)) (sym (c.is_blank.ensures ∙ ap (λ x. eq_z x blank) (to_z-of_z fits)))
 
-loop-holds : tie.Need-loop-init invariant-loop decreases-loop
+loop-holds : tie.Need-loop-i-init invariant-loop decreases-loop
 loop-holds c = scan-start _ _
 
-mul_wide : tie.Need-overflow-mul-wide invariant-loop decreases-loop
+mul_wide : tie.Need-offset_bounds-asked-i invariant-loop decreases-loop
 mul_wide c = search rules
 
-shared-slice-read-wide : tie.Need-shared-slice-read-wide invariant-loop decreases-loop
+shared-slice-read-wide : tie.Need-bounds-asked-i invariant-loop decreases-loop
 shared-slice-read-wide c = search rules
 
-wide-requires : tie.Need-wide-requires invariant-loop decreases-loop
+wide-requires : tie.Need-wide-v-requires invariant-loop decreases-loop
 wide-requires c κs = search rules
 
-shared-slice-read-if1 : tie.Need-shared-slice-read-if1 invariant-loop decreases-loop
-shared-slice-read-if1 c = omega (arith, low c, c.before.before.before.before.before.before.before.requires.0.1)
+shared-slice-read-if1 : tie.Need-bounds-flags-v invariant-loop decreases-loop
+shared-slice-read-if1 c = omega (arith, low c.before, c.before.before.before.before.before.before.before.requires.0.1)
 
-mul-is-blank : tie.Need-overflow-mul-is-blank invariant-loop decreases-loop
+mul-is-blank : tie.Need-offset_bounds-values-v invariant-loop decreases-loop
 mul-is-blank c = search rules
 
-shared-slice-copy-out-is-blank : tie.Need-shared-slice-copy-out-is-blank invariant-loop decreases-loop
-shared-slice-copy-out-is-blank c = omega (arith, low c, c.before.before.before.before.before.before.before.requires.0.0)
+shared-slice-copy-out-is-blank : tie.Need-bounds-values-v invariant-loop decreases-loop
+shared-slice-copy-out-is-blank c = omega (arith, low c.before, c.before.before.before.before.before.before.before.requires.0.0)
 
-is-blank-requires : tie.Need-is-blank-requires invariant-loop decreases-loop
+is-blank-requires : tie.Need-is_blank-requires invariant-loop decreases-loop
 is-blank-requires c κs = search rules
 
-returns : tie.Need-returns invariant-loop decreases-loop
+returns : tie.Need-returns-then-flags-v invariant-loop decreases-loop
 returns c =
-    let s = c.before.before.before.before.before.before.before.before.before.before in let l = c.before.before.before.before.before.before.before.loop in let m = length s.args.asked.now in
-    let h : l.i < m = c.before.before.before.before.before.before.loop-test.true in
-    let e = scan-found (test s) m l.i l.invariant h (here c.before ∙ ap not c.if1.true) in
+    let s = c.before.before.before.before.before.before.before.before.before.before in let l = c.before.before.before.before.before.before.before.loop-i in let m = length s.args.asked.now in
+    let h : l.i < m = c.before.before.before.before.before.before.loop-i-test.true in
+    let e = scan-found (test s) m l.i l.invariant h (here c.before ∙ ap not c.if-flags-v.true) in
     sym (ne_eqb (first_fail (test s) m) m (λ q. lt_irrefl m (omega arith)))
 
-add-i : tie.Need-overflow-add-i invariant-loop decreases-loop
+add-i : tie.Need-overflow_step-i invariant-loop decreases-loop
 add-i c = search rules
 
-loop-less : tie.Need-loop-smaller invariant-loop decreases-loop
+loop-less : tie.Need-loop-i-smaller invariant-loop decreases-loop
 loop-less c = search rules
 
-loop-again : tie.Need-loop-preserved invariant-loop decreases-loop
+loop-again : tie.Need-loop-i-preserved invariant-loop decreases-loop
 loop-again c =
-    let s = c.before.before.before.before.before.before.before.before.before.before in let l = c.before.before.before.before.before.before.before.loop in
-    scan-next (test s) (length s.args.asked.now) l.i l.invariant c.before.before.before.before.before.before.loop-test.true (here c.before ∙ ap not c.if1.false)
+    let s = c.before.before.before.before.before.before.before.before.before.before in let l = c.before.before.before.before.before.before.before.loop-i in
+    scan-next (test s) (length s.args.asked.now) l.i l.invariant c.before.before.before.before.before.before.loop-i-test.true (here c.before ∙ ap not c.if-flags-v.false)
 
-returns-2 : tie.Need-returns-2 invariant-loop decreases-loop
-returns-2 c = let s = c.before.before.before.before in let l = c.before.loop in sym (below_all (test s) (length s.args.asked.now) (λ k h. l.invariant.good k (omega arith)))
+returns-2 : tie.Need-returns invariant-loop decreases-loop
+returns-2 c = let s = c.before.before.before.before in let l = c.before.loop-i in sym (below_all (test s) (length s.args.asked.now) (λ k h. l.invariant.good k (omega arith)))
 
-pub none-blank-spec : {M : Type 1} → statement M
-none-blank-spec =
+pub none_blank_spec : {M : Type 1} → statement M
+none_blank_spec =
     tie.close
     (tie.spec
     invariant-loop

@@ -25,7 +25,7 @@ struct Model {
 pub fn print() {
     let program = Path::new(env!("CARGO_MANIFEST_DIR")).join("../../target/bin/values");
     if !program.exists() {
-        println!("left out: the program `values`; `rt check values` writes it");
+        println!("left out: the program `values`; `tools/values` puts it there");
         return;
     }
     let models = models();

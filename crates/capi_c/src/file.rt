@@ -1,0 +1,59 @@
+// The model file across the C boundary.
+ghost use Rattle.std.specs.Prelude.{◌≡◌};
+ghost use Rattle.paper.specs.Tables.{lent};
+ghost use Rattle.paper.specs.File as File;
+ghost use Rattle.capi.specs.Outcomes.{left_by_read, written_out, read_out};
+
+use capi::ReadOutcome;
+use records::answers::Outcome;
+
+// `capi::lukhandro_write` for C.
+#[unsafe(no_mangle)]
+pub extern "C" fn lukhandro_write(
+    n: usize,
+    m: usize,
+    e: usize,
+    starts: &[i32],
+    kinds: &[u16],
+    makes: &[u16],
+    params: &[i32],
+    firsts: &[u16],
+    counts: &[u16],
+    vars: &[u16],
+    coefs: &[i16],
+    bytes: &mut [u8],
+) -> Outcome
+    ensures { (result, bytes.new)
+        ≡ written_out (File.write File.version1 (File.unbounded_contents
+        (lent n m e kinds.now makes.now params.now firsts.now counts.now vars.now coefs.now)
+        starts.now) bytes.old) }
+{
+    capi::lukhandro_write(
+        n, m, e, starts, kinds, makes, params, firsts, counts, vars, coefs, bytes,
+    )
+}
+
+// `capi::lukhandro_read` for C.
+#[unsafe(no_mangle)]
+pub extern "C" fn lukhandro_read(
+    bytes: &[u8],
+    starts: &mut [i32],
+    kinds: &mut [u16],
+    makes: &mut [u16],
+    params: &mut [i32],
+    firsts: &mut [u16],
+    counts: &mut [u16],
+    vars: &mut [u16],
+    coefs: &mut [i16],
+) -> ReadOutcome
+    ensures { left_by_read result (File.unbounded_contents
+        (lent 0 0 0 kinds.new makes.new params.new firsts.new counts.new vars.new coefs.new)
+        starts.new)
+        ≡ read_out (File.read File.version1 bytes.now (File.unbounded_contents
+        (lent 0 0 0 kinds.old makes.old params.old firsts.old counts.old vars.old coefs.old)
+        starts.old)) }
+{
+    capi::lukhandro_read(
+        bytes, starts, kinds, makes, params, firsts, counts, vars, coefs,
+    )
+}

@@ -1,0 +1,10 @@
+use native.Mathlib.Omega.{arith}
+use mathlib.Core.Path.{sym, ◌∙◌}
+use Rattle.paper.proofs.Scan.{scan-found, scan-all}
+use Rattle.frequencies.proofs.checks.first_bad_name.Goals as goal
+
+pub returns-then-not-name_good : goal.returns-then-not-name_good
+returns-then-not-name_good c = scan-found _ _ _ c.loop-i.invariant (omega arith) (sym c.name_good.ensures ∙ c.if-not-name_good.true)
+
+pub returns : goal.returns
+returns c = scan-all _ _ _ c.loop-i.invariant (omega arith)
