@@ -1,5 +1,5 @@
 -- The variables passed have their flags, the others what they had (`Filled`). Assumes nothing.
-use Rattle.std.proofs.Common.{cond}
+use mathlib.Core.Bool.{cond}
 use Rattle.paper.specs.Lists.{any}
 use Rattle.paper.specs.Net.{differs}
 use Rattle.paper.proofs.Buffers.{Filled}

@@ -10,7 +10,8 @@ abbrev pub decreases-look : goal.decreases-look
 decreases-look l = size (unmarked l.flags.now) (length l.work.now)
 
 abbrev pub invariant-loop-i : goal.invariant-loop-i
-invariant-loop-i l = InTurn (shapes l.kinds l.firsts l.counts l.vars) l.work l.values l.v l.r l.first l.last l.i l.initial.flags l.flags
+invariant-loop-i l =
+    InTurn (shapes l.kinds l.firsts l.counts l.vars) l.work l.values l.v l.r l.first l.last l.i l.initial.flags l.flags
 
 abbrev pub decreases-loop-i : goal.decreases-loop-i
 decreases-loop-i l = l.last - l.i

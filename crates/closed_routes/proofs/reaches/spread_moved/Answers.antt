@@ -13,7 +13,8 @@ moved-requires c =
 
 pub spread-requires-clause-there : goal.spread-requires-clause-there
 spread-requires-clause-there c =
-    (subst (λ v. suc v < length c.args.starts.now) (sym c.wide-v.ensures.0) (c.requires.movable.low _ (at_place c.args.moves.now c.loop-i.i c.loop-i-test.true)), omega (arith, c.requires.markable.room, c.loop-i.invariant.long))
+    let low = subst (λ v. suc v < length c.args.starts.now) (sym c.wide-v.ensures.0) (c.requires.movable.low _ (at_place c.args.moves.now c.loop-i.i c.loop-i-test.true)) in
+    (low, omega (arith, c.requires.markable.room, c.loop-i.invariant.long))
 
 pub loop-i-preserved : goal.loop-i-preserved
 loop-i-preserved c =
@@ -23,5 +24,4 @@ loop-i-preserved c =
     ]
 
 pub returns : goal.returns
-returns c =
-    passed-end _ _ c.args.stored.now c.args.trial.now _ c.loop-i.i _ c.loop-i.invariant c.loop-i-test.false
+returns c = passed-end _ _ c.args.stored.now c.args.trial.now _ c.loop-i.i _ c.loop-i.invariant c.loop-i-test.false
