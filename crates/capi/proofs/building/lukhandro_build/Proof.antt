@@ -12,8 +12,8 @@ use Rattle.engine.proofs.build.Met as lent-thm
 use Rattle.capi.specs.Outcomes.{built_out}
 use Rattle.capi.specs.contracts.build.lukhandro_build.Key.{name as #capi·lukhandro-build}
 use Rattle.capi.specs.contracts.build.lukhandro_build as here
-use Rattle.capi.proofs.build.lukhandro_build.Statement as stated
-use Rattle.capi.proofs.build.lukhandro_build.Code as code
+use Rattle.capi.proofs.building.lukhandro_build.Statement as stated
+use Rattle.capi.proofs.building.lukhandro_build.Code as code
 use types.Logic.{Logic}
 
 module _ {M : Type 1} {𝓤 : Ura M} (𝓛 : Logic 𝓤) (mem : Memory → SProp 𝓤) (run : Routine → Fun 𝓤) (C : Calls 𝓤 𝓛.H) (Λ : Loops 𝓤 𝓛.H) (fm : FmC 𝓤 𝓛.H 𝓛.laws C) (known : Triple 𝓤 (C #engine·build) (Con 𝓛 lent.ended (lent.clauses 𝓛 mem run))) (known-put : Triple 𝓤 (C #answers·in-numbers) (Put answer-row outcome-row numbers 𝓛))
