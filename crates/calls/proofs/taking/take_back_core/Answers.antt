@@ -1,7 +1,6 @@
 -- A refusal has written nothing; an acceptance is met field by field by what `fill_keep` with the latest move of the log and then `drop_move` leave, and by the reasons
 -- noted between. Assumes nothing.
 use Prim.Native.Nat.{ℕ, pred}
-use native.Mathlib.Nat.{le_refl}
 use native.Mathlib.Omega.{arith}
 use mathlib.Core.Bool.{Bool}
 use mathlib.Core.List.{List}

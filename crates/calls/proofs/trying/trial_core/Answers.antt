@@ -6,9 +6,8 @@ use mathlib.Core.List.{List}
 use mathlib.Core.Path.{◌≡◌, refl, sym, ap, ◌∙◌}
 use lib.ListN.{take}
 use lib.Seq.{length-take-le}
-use Rattle.paper.specs.Net.{moved}
-use Rattle.paper.specs.Checks.{accepted, refused, pairs_of_move}
-use Rattle.paper.specs.Calls.{Session, Model, stored_values, TrialLent, asked_list, route_of, trial_verdict}
+use Rattle.paper.specs.Checks.{accepted, refused}
+use Rattle.paper.specs.Calls.{Session, Model, TrialLent, route_of, trial_verdict}
 use Rattle.paper.proofs.Known.{model-meets, trial-known}
 use Rattle.paper.proofs.Outcomes.{trial-meets}
 use Rattle.tables.specs.Makers.{Makers}
