@@ -3,7 +3,7 @@
 
 mod batch;
 mod bounded;
-mod build;
+mod building;
 mod departures;
 mod feeds;
 mod file;
@@ -19,7 +19,7 @@ mod versions;
 
 pub use batch::lukhandro_figures;
 pub use bounded::{lukhandro_read_bounded, lukhandro_write_bounded};
-pub use build::lukhandro_build;
+pub use building::lukhandro_build;
 pub use departures::lukhandro_departures;
 pub use feeds::{lukhandro_frequencies, lukhandro_write_frequencies};
 pub use file::{lukhandro_read, lukhandro_write};

@@ -4,7 +4,7 @@
 
 mod batch;
 mod bounded;
-mod build;
+mod building;
 mod departures;
 mod feeds;
 mod file;
