@@ -1,11 +1,11 @@
 -- What is filled in, and what the moves that are left will be given, are what all are given (`Going`). Assumes nothing.
-use Rattle.std.proofs.Common.{refl, sym, ap₂, ◌∙◌, arith, rules}
+use Rattle.std.proofs.Common.{refl, ap₂, ◌∙◌, arith, rules}
 use Rattle.checks.specs.Moves.{move_of}
 use Rattle.verdicts.specs.Lent.{to_model}
 use Rattle.records.specs.Left.{record_in}
 use Rattle.trials.specs.Batch.{batch_of}
 use Rattle.trials.specs.Trials.{question, rows_in}
-use Rattle.trials.proofs.Going.{fitting, going_start, going-long, going-room, going-low, going_next, going_end}
+use Rattle.trials.proofs.Going.{fitting, going_start, going-room, going-low, going_next, going_end}
 use Rattle.trials.proofs.batch.try_each.Goals as goal
 
 pub loop-i-init : goal.loop-i-init
@@ -200,4 +200,3 @@ returns g c =
     let so_far = rows_in l.move_numbers l.move_places l.move_evaluations l.results l.why in
     let going = l.invariant.going in
     rw (← c.requires.0) (going_end s w b q rows fit so_far l.evaluations l.first l.at l.i going (omega arith))
-
