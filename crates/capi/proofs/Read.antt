@@ -11,7 +11,8 @@ use Rattle.files.specs.Answers.{has_read}
 use Rattle.files.specs.declared.headers.Reading.{Reading}
 use Rattle.files.specs.declared.headers.Reading.TheVariants.{Accepted, Refused}
 use Rattle.capi.specs.declared.ReadOutcome.{ReadOutcome}
-use Rattle.capi.specs.Outcomes.{read_in_numbers, Small, left_by_read, read_out}
+use Rattle.capi.specs.Outcomes.{read_in_numbers, Small, left_by_read}
+use Rattle.capi.specs.Outcomes as outcomes
 
 -- ── small counts ──
 small-counts : (v : Version) (bytes : List ℕ) (c : Contents) {n m e : ℕ} → read_verdict v bytes c ≡ accepted → let t = (read v bytes c).1.tables in n ≡ t.n → m ≡ t.m → e ≡ t.e
@@ -25,10 +26,10 @@ small-counts v bytes c ok p q r =
 
 -- ── what a call leaves ──
 module _ (c : Contents) where
-  pub read_out : {r : ReadOutcome} (told : Reading) {left : Verdict × Contents} → r ≡ read_in_numbers told → has_read told c ≡ left → left_by_read r c ≡ read_out left
-  read_out told e f = ap (λ (x : ReadOutcome). left_by_read x c) e ∙ same told ∙ ap read_out f
+  pub read_out : {r : ReadOutcome} (told : Reading) {left : Verdict × Contents} → r ≡ read_in_numbers told → has_read told c ≡ left → left_by_read r c ≡ outcomes.read_out left
+  read_out told e f = ap (λ (x : ReadOutcome). left_by_read x c) e ∙ same told ∙ ap outcomes.read_out f
     where
-      same : (told : Reading) → left_by_read (read_in_numbers told) c ≡ read_out (has_read told c)
+      same : (told : Reading) → left_by_read (read_in_numbers told) c ≡ outcomes.read_out (has_read told c)
       same (Accepted n m e) = refl
       same (Refused number place) = refl
 

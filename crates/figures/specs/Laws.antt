@@ -6,7 +6,7 @@ use Rattle.paper.specs.Checks.{Move}
 use Rattle.paper.specs.Calls.{Session, Model, TrialLeft}
 use Rattle.figures.specs.Outcomes.{tried_once}
 use Rattle.trials.specs.Batch.{Batch}
-use Rattle.trials.specs.Trials.{Question, question, tries, number_given, evaluations_given}
+use Rattle.trials.specs.Trials.{question, tries, number_given, evaluations_given}
 use Rattle.figures.specs.Figures.{moves_of, outcomes, figures}
 use Rattle.figures.specs.declared.outcomes.Outcome.{Outcome}
 use Rattle.figures.specs.declared.Counted.{Counted}

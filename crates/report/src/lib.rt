@@ -10,10 +10,9 @@ ghost use Rattle.report.specs.Printed.{left_by_file, of_tables, of_file};
 use build::building::build_core;
 use checks::bounds::{HIGHEST, LOWEST};
 use files::headers::Reading;
+pub use reading::read_full;
 use records::Session;
 use tables::Answer;
-
-pub use reading::read_full;
 
 // What building a file comes to: build's answer, or the refusal of a file that is not read, and how many variables the file holds, 0 if it is
 // not read.

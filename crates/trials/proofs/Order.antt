@@ -1,17 +1,16 @@
 -- What a move is given depends on it and on its own places alone: they are cut out as they were laid. Assumes nothing.
 use Prim.Native.Nat.{ℕ, suc, ◌+◌}
 use native.Mathlib.Omega.{arith}
-use mathlib.Core.Bool.{true, ◌&&◌}
+use mathlib.Core.Bool.{◌&&◌}
 use mathlib.Core.List.{List, [], ◌∷◌, ◌++◌, map}
-use mathlib.Core.Path.{◌≡◌, refl, sym, ap, ap₂, ◌∙◌}
+use mathlib.Core.Path.{◌≡◌, refl, ap, ap₂, ◌∙◌}
 use lib.Dec.{eqb}
 use lib.ListN.{length, drop}
 use lib.Seq.{take_at, drop_at}
 use borrow.Author.Tests.{eqb-true}
 use Rattle.paper.specs.Lists.{total}
-use Rattle.paper.specs.Calls.{Session, Model, TrialLeft}
 use Rattle.paper.proofs.Lists.{and_left, and_right}
-use Rattle.trials.specs.Trials.{Question, try_one, tries, joined, evaluations_given}
+use Rattle.trials.specs.Trials.{try_one, tries, joined, evaluations_given}
 use Rattle.trials.specs.Laws.{Rearranged, same, behind, swapped, next, Lot, placed, alone, together, EachAlone, OrderPermutes}
 
 -- ── what another order leaves as it is ──

@@ -1,0 +1,99 @@
+-- A refusal has written nothing; an acceptance is met field by field by what `fill_keep` with the latest move of the log and then `drop_move` leave, and by the reasons
+-- noted between. Assumes nothing.
+use Prim.Native.Nat.{ℕ, pred}
+use native.Mathlib.Omega.{arith}
+use mathlib.Core.Bool.{Bool}
+use mathlib.Core.List.{List}
+use mathlib.Core.Path.{◌≡◌, refl, sym, ap, ◌∙◌}
+use lib.ListN.{take}
+use Rattle.paper.specs.Net.{input-to-output}
+use Rattle.paper.specs.Checks.{accepted, refused}
+use Rattle.paper.specs.Log.{Log, log_in, logged}
+use Rattle.paper.specs.Calls.{Session, Model, TakeLent, latest, take_verdict}
+use Rattle.paper.proofs.Outcomes.{take_meets}
+use Rattle.paper.proofs.Sizes.{sized-facts}
+use Rattle.paper.proofs.Known.{model-meets, take-known}
+use Rattle.tables.specs.Makers.{Makers}
+use Rattle.tables.specs.declared.Answer.{Answer}
+use Rattle.tables.specs.declared.Answer.TheVariants.{Accepted}
+use Rattle.tables.proofs.Judged.{accepted-is, refused-is}
+use Rattle.verdicts.specs.Lent.{to_take}
+use Rattle.verdicts.specs.ModelJudged.{CallJudged}
+use Rattle.records.specs.Left.{record_in, answer_in}
+use Rattle.fills.proofs.Accepted.{take-by-kept, Latest, latest-at, latest-is, taking-of, filled-long, filled-same, take-met}
+use Rattle.fills.proofs.Given.{moved-given}
+use Rattle.calls.proofs.Front.{makers-front}
+use Rattle.calls.proofs.taking.take_back_core.Goals as goal
+
+-- the judge accepted: as it says by the numbers of moves kept and of blanks, and as the paper does by the whole record
+module _ (s : Session) (g : Log) (w : Model) (a : TakeLent) {by : List ℕ} {closed : Bool} {r : Answer} {k : ℕ}
+    (j : CallJudged (take_verdict (record { kept = s.kept; evaluations = 0; blanks = s.blanks }) g w a) w.tables by closed r) (is : r ≡ Accepted k) where
+  agreed : take_verdict (record { kept = s.kept; evaluations = 0; blanks = s.blanks }) g w a ≡ accepted
+  agreed = accepted-is 0 k _ (sym j.answer ∙ is)
+
+  passed : take_verdict s g w a ≡ accepted
+  passed = take-by-kept s g w a ∙ agreed
+
+  front : Makers w.tables (take w.tables.n by)
+  front = makers-front w.tables by (j.makers agreed)
+
+  -- where the latest move stands
+  found : {at : ℕ} → at ≡ pred (logged g) → Latest g at
+  found = latest-at s g w a passed
+
+pub returns-in_default : goal.returns-in_default
+returns-in_default c =
+    let s = record_in c.args.session in let v = take-by-kept s _ _ _ ∙ refused-is 0 _ _ _ (sym c.judge_take_back-judged.ensures.answer ∙ c.in_default.is) in
+    take_meets s _ _ _ (refused c.in_default.field-0 c.in_default.field-1) _ v (ap answer_in c.in_default.is) refl refl refl refl refl
+
+pub latest_move-at-requires : goal.latest_move-at-requires
+latest_move-at-requires c = let k = (found (record_in c.args.session) _ _ _ c.judge_take_back-judged.ensures c.in-Accepted.is refl).in-sizes in omega arith
+
+pub bounds-log_sizes-at : goal.bounds-log_sizes-at
+bounds-log_sizes-at c = (found (record_in c.args.session) _ _ _ c.judge_take_back-judged.ensures c.in-Accepted.is c.latest_move-at.ensures).in-sizes
+
+pub slice_bounds-fill_keep-count : goal.slice_bounds-fill_keep-count
+slice_bounds-fill_keep-count c = (found (record_in c.args.session) _ _ _ c.judge_take_back-judged.ensures c.in-Accepted.is c.latest_move-at.ensures).in-vars
+
+pub slice_bounds-fill_keep-start : goal.slice_bounds-fill_keep-start
+slice_bounds-fill_keep-start c = (found (record_in c.args.session) _ _ _ c.judge_take_back-judged.ensures c.in-Accepted.is c.latest_move-at.ensures).in-vars
+
+pub slice_bounds-fill_keep-count-2 : goal.slice_bounds-fill_keep-count-2
+slice_bounds-fill_keep-count-2 c = (found (record_in c.args.session) _ _ _ c.judge_take_back-judged.ensures c.in-Accepted.is c.latest_move-at.ensures).in-values
+
+pub slice_bounds-fill_keep-start-2 : goal.slice_bounds-fill_keep-start-2
+slice_bounds-fill_keep-start-2 c = (found (record_in c.args.session) _ _ _ c.judge_take_back-judged.ensures c.in-Accepted.is c.latest_move-at.ensures).in-values
+
+pub fill_keep-evaluations-requires-clause-keep_accepted : goal.fill_keep-evaluations-requires-clause-keep_accepted
+fill_keep-evaluations-requires-clause-keep_accepted c =
+    let s = record_in c.args.session in let v = passed s _ _ _ c.judge_take_back-judged.ensures c.in-Accepted.is in
+    taking-of s _ _ _ v _ (latest-is _ _ _ _ c.latest_move-at.ensures c.wide.ensures.0)
+
+pub fill_keep-evaluations-requires-clause-makers : goal.fill_keep-evaluations-requires-clause-makers
+fill_keep-evaluations-requires-clause-makers c = front (record_in c.args.session) _ _ _ c.judge_take_back-judged.ensures c.in-Accepted.is
+
+pub note_reasons-requires : goal.note_reasons-requires
+note_reasons-requires c =
+    let s = record_in c.args.session in let j = c.judge_take_back-judged.ensures in let v = passed s _ _ _ j c.in-Accepted.is in let f = c.fill_keep-evaluations.ensures in
+    let k = (take-known s _ _ _ v).model in let ready = taking-of s _ _ _ v _ refl in record {
+      sound = k.sound;
+      room = (filled-long c.args.n _ c.args.stored.now _ f.stored_is ready.in-stored, filled-long c.args.n _ c.args.flags.now _ f.flags-are ready.in-flags, k.reasons-long);
+      makers = front s _ _ _ j c.in-Accepted.is;
+    }
+
+pub drop_move-requires : goal.drop_move-requires
+drop_move-requires c = let k = (found (record_in c.args.session) _ _ _ c.judge_take_back-judged.ensures c.in-Accepted.is refl).in-sizes in omega arith
+
+pub blanks_among-blanks-requires : goal.blanks_among-blanks-requires
+blanks_among-blanks-requires c =
+    let s = record_in c.args.session in let v = passed s _ _ _ c.judge_take_back-judged.ensures c.in-Accepted.is in let k = (take-known s _ _ _ v).model in
+    (filled-long _ _ _ _ c.fill_keep-evaluations.ensures.stored_is k.stored-long, (sized-facts _ k.sound.sized).n-most)
+
+pub returns : goal.returns
+returns c =
+    let s = record_in c.args.session in let v = passed s _ _ _ c.judge_take_back-judged.ensures c.in-Accepted.is in
+    let a = latest (log_in c.args.log_sizes.now c.args.log_vars.now c.args.log_values.now) (to_take c.args.flags.now) in let k = take-known s _ _ _ v in
+    let f = filled-same (latest-is _ _ _ _ c.latest_move-at.ensures c.wide.ensures.0) c.fill_keep-evaluations.ensures in
+    take-met s _ _ _ _ _ _ _ _ _ _ v f c.kept_once_less.ensures c.blanks_among-blanks.ensures
+    (moved-given _ k.model.sound _ a (model-meets _ k.model k.fresh _ k.determined input-to-output) _ f.stored_is _ f.flags-are c.args.reasons.now _ c.note_reasons.ensures)
+    (ap (λ sizes. log_in sizes c.args.log_vars.now c.args.log_values.now) c.drop_move.ensures)

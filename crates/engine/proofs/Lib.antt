@@ -1,4 +1,0 @@
-pub mod Record
-pub mod Setting
-pub mod Spelled
-pub mod Walking
