@@ -10,7 +10,6 @@ use lib.IntN.{ℤ, pos}
 use lib.ListN.{length, get_or, take, drop, replicate, length-append, length-replicate}
 use lib.Seq.{take_at, drop_at}
 use Rattle.paper.specs.Lists.{nat}
-use Rattle.paper.specs.Formula.{places}
 use Rattle.paper.specs.Checks.{Verdict, accepted, refused, Move, by_lines}
 use Rattle.paper.specs.Moves.{Moves}
 use Rattle.paper.specs.Calls.{number_of, BuildLent, BuildLeft, Model, TrialLeft}

@@ -51,6 +51,7 @@ says-judged (places number bound good ∷ rest) (refused k q) (here f) =
 says-judged (whole number place good ∷ rest) (refused k q) (here f) = require-stops number place good _ f.2 ∙ ap (λ z. refused z place) f.0 ∙ ap (refused k) f.1
 says-judged (places number bound good ∷ rest) (refused k q) (later p s) = check-next number bound good _ p ∙ says-judged rest (refused k q) s
 says-judged (whole number place good ∷ rest) (refused k q) (later p s) = require-next number place good _ p ∙ says-judged rest (refused k q) s
+says-judged [] (refused k q) s = elim s [ ]
 
 -- ── an answer by a table whose numbers are not 0 ──
 abbrev pub numbers_some : List Line → Bool
@@ -60,6 +61,7 @@ gives-some : (table : List Line) (k p : ℕ) → numbers_some table ≡ true →
 gives-some (places number bound good ∷ rest) k p e (here f) z = let low = ltb-true 0 number (and_left (ltb 0 number) _ e) in let h = f.0 in omega arith
 gives-some (whole number place good ∷ rest) k p e (here f) z = let low = ltb-true 0 number (and_left (ltb 0 number) _ e) in let h = f.0 in omega arith
 gives-some (line ∷ rest) k p e (later q s) z = gives-some rest k p (and_right (ltb 0 (line_number line)) _ e) s z
+gives-some [] k p e x3 z = elim x3 [ ]
 
 pub exactly : (table : List Line) (v : Verdict) (count : ℕ) → numbers_some table ≡ true → v ≡ by_lines table accepted → Exactly table count (answered v count)
 exactly table v count some e = record {

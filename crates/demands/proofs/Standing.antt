@@ -49,6 +49,8 @@ at_mem (suc k) (x ∷ l) h (suc i) m = Memᴰ.tail (at_mem k l (omega arith) i (
 mem-low : (k : ℕ) (l : List ℕ) (n : ℕ) → ((i : ℕ) → i < k → nat l i < n) → (a : ℕ) → Memᴰ a (take k l) → a < n
 mem-low (suc k) (x ∷ l) n h a (Memᴰ.head q) = rw q (h 0 (omega arith))
 mem-low (suc k) (x ∷ l) n h a (Memᴰ.tail m) = mem-low k l n (λ i j. h (suc i) (omega arith)) a m
+mem-low zero l n h a x'' = elim x'' [ ]
+mem-low (suc k) [] n h a x5 = elim x5 [ ]
 
 rest-length : (moves : Moves) → length (rest moves) ≡ pred (length moves)
 rest-length [] = refl

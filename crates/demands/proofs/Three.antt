@@ -82,17 +82,17 @@ module _ {b : BuildLent} (start : BuildOutcome b) (room : List ℕ × List ℤ) 
     own-trial : (c : TrialLent) (o : TrialOutcome now.session w c) → number_of (left_tried o).answer ≡ 0
         → (trial_verdict now.session (theirs now) c ≡ accepted) × (left_tried o ≡ trial now.session (theirs now) c)
     own-trial c o z =
-        let up = trial-up-to now.session w (theirs now) alike c in (sym up.0 ∙ (trial-judged now.session w c).well-formed (sym (ap tried_number o.stated) ∙ z), o.stated ∙ up.1)
+        let up = trial-up-to now.session w (theirs now) alike c in (sym up.0 ∙ (trial-judged now.session w c).good (sym (ap tried_number o.stated) ∙ z), o.stated ∙ up.1)
 
     own-keep : (c : KeepLent) (o : KeepOutcome now.session now.log w c) → number_of (left_kept o).answer ≡ 0
         → (keep_verdict now.session now.log (theirs now) c ≡ accepted) × (left_kept o ≡ keep now.session now.log (theirs now) c)
     own-keep c o z =
-        let up = keep-up-to now.session w (theirs now) alike now.log c in (sym up.0 ∙ (keep-judged now.session now.log w c).well-formed (sym (ap left_number o.stated) ∙ z), o.stated ∙ up.1)
+        let up = keep-up-to now.session w (theirs now) alike now.log c in (sym up.0 ∙ (keep-judged now.session now.log w c).good (sym (ap left_number o.stated) ∙ z), o.stated ∙ up.1)
 
     own-take : (c : TakeLent) (o : TakeOutcome now.session now.log w c) → number_of (left_taken o).answer ≡ 0
         → (take_verdict now.session now.log (theirs now) c ≡ accepted) × (left_taken o ≡ take_back now.session now.log (theirs now) c)
     own-take c o z =
-        let up = take-up-to now.session w (theirs now) alike now.log c in (sym up.0 ∙ (take-judged now.session now.log w c).well-formed (sym (ap left_number o.stated) ∙ z), o.stated ∙ up.1)
+        let up = take-up-to now.session w (theirs now) alike now.log c in (sym up.0 ∙ (take-judged now.session now.log w c).good (sym (ap left_number o.stated) ∙ z), o.stated ∙ up.1)
 
   -- ── one more call of a run ──
   module _ (calls : ℕ) (moves : Moves) (now : State) (h : Stood b built-ok now moves calls) where
@@ -283,7 +283,7 @@ module _ {b : BuildLent} (start : BuildOutcome b) (room : List ℕ × List ℤ) 
   own-trial-fresh c z =
       let up = trial-up-to now.session (mine start now) (theirs start room ok now) (ap up_to_counts (mine-is start room ok now)) c in
       subst⁻¹ (TrialFresh b moves now c) up.1
-      (trial-fresh start room ok calls moves now (stood start room ok r) c (sym up.0 ∙ (trial-judged now.session (mine start now) c).well-formed z))
+      (trial-fresh start room ok calls moves now (stood start room ok r) c (sym up.0 ∙ (trial-judged now.session (mine start now) c).good z))
 
   -- the session's row of reasons is as long as build asked
   pub reasons-long : b.tables.n ≤ length now.reasons

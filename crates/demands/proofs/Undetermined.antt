@@ -44,6 +44,7 @@ passed-fails (whole number place good) k p q f = true≢false (sym q ∙ f.2)
 none-lacks : (k p : ℕ) (lines : List Line) → lacks k lines ≡ true → Gives k p lines → ⊥
 none-lacks k p (line ∷ rest) e (here f) = other-number line k p (and_left (not (eqb (line_number line) k)) _ e) f
 none-lacks k p (line ∷ rest) e (later q g) = none-lacks k p rest (and_right (not (eqb (line_number line) k)) _ e) g
+none-lacks k p [] e x'' = elim x'' [ ]
 
 module _ (k n : ℕ) (good : ℕ → Bool) (after : List Line) where
   abbrev from : List Line → List Line

@@ -10,7 +10,7 @@ use lib.IntN.{ℤ, pos, ◌+ℤ◌, ◌*ℤ◌}
 use lib.ListN.{length, get_or, take, length-map}
 use lib.Seq.{take-suc, take-length}
 use lib.Signed.{lt_z}
-use Rattle.paper.specs.Lists.{any, total, those, below}
+use Rattle.paper.specs.Lists.{any, total, those}
 use Rattle.paper.specs.Formula.{places, trips}
 use Rattle.paper.proofs.Lists.{clash, or-false-left, or-false-right}
 use Rattle.paper.proofs.Those.{those-same}
