@@ -43,7 +43,7 @@ fn show_named<R: Print + Files>(rt: &R, name: &str) -> std::io::Result<()> {
 
 fn main(rt: HostRuntime) -> std::io::Result<()> {
     for name in std::env::args(&rt)?.skip(1) {
-        show_named(&rt, name?.as_str())?;
+        show_named(&rt, name.as_str())?;
     }
     Ok(())
 }
