@@ -29,12 +29,15 @@ fn show_text<R: Print>(rt: &R, reasons: bool, file: &[u8]) -> std::io::Result<()
     rt.write_all(&out[..k])
 }
 
-// Prints a file's name, and both texts for it.
-fn show_named<R: Print + Files>(rt: &R, name: &str) -> std::io::Result<()> {
+// Prints a file's name, and both texts for it; a file that does not open is named on the error stream.
+fn show_named<R: Print + Eprint + Files>(rt: &R, name: &str) -> std::io::Result<()> {
     rt.write_all(b"# ")?;
     rt.write_all(name.as_bytes())?;
     rt.write_all(b"\n")?;
-    let mut input = std::fs::open(rt, name)?;
+    let mut input = match std::fs::open(rt, name) {
+        Ok(input) => input,
+        Err(error) => return eprintln!(rt; "{name}: {error}"),
+    };
     let mut file = [0u8; 65537];
     let got = read_full(&mut input, &mut file);
     show_text(rt, false, &file[..got])?;
@@ -43,7 +46,7 @@ fn show_named<R: Print + Files>(rt: &R, name: &str) -> std::io::Result<()> {
 
 fn main(rt: HostRuntime) -> std::io::Result<()> {
     for name in std::env::args(&rt)?.skip(1) {
-        show_named(&rt, name?.as_str())?;
+        show_named(&rt, name.as_str())?;
     }
     Ok(())
 }

@@ -1,5 +1,5 @@
 -- Where the walk has marked what moved, asking over the work that it planned leaves what route 3 leaves, and astray is only what is listed. Assumes nothing.
-use Prim.Native.Nat.{ℕ, suc, ◌+◌, ◌≤◌, ◌<◌}
+use Prim.Native.Nat.{ℕ, ◌+◌, ◌≤◌, ◌<◌}
 use native.Mathlib.Omega.{arith}
 use mathlib.Core.Bool.{Bool, true, false, cond, ◌&&◌, true≢false}
 use mathlib.Core.List.{List}
@@ -31,7 +31,7 @@ use Rattle.routes.specs.Routed.{Begun, Named, new_of, evaluated_of, Routed}
 use Rattle.routes.specs.Work.{RowsWorkable, Ready, AllAsked}
 use Rattle.routes.specs.Plan.{work_of}
 use Rattle.routes.proofs.Planned.{rows_of, front-is, can-ask, asked-front}
-use Rattle.routes.proofs.Marked.{front, from, clean-markable, named-movable, marks-are}
+use Rattle.routes.proofs.Marked.{from, clean-markable, named-movable, marks-are}
 use Rattle.routes.proofs.Guided.{guides-marked, routed}
 use Rattle.closed_routes.specs.Readers.{LeadsUp}
 use Rattle.closed_routes.proofs.Marks.{upward}

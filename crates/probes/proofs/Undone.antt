@@ -1,5 +1,5 @@
 -- What was touched is put back variable by variable: those before this one rest, and so do those that are not listed. Assumes nothing.
-use Prim.Native.Nat.{ℕ, suc, ◌+◌, ◌≤◌, ◌<◌}
+use Prim.Native.Nat.{ℕ, ◌+◌, ◌≤◌, ◌<◌}
 use native.Mathlib.Omega.{arith}
 use mathlib.Core.Bool.{Bool, true, false, cond}
 use mathlib.Core.List.{List}
@@ -9,12 +9,12 @@ use lib.Dec.{eqb}
 use lib.IntN.{ℤ, pos}
 use lib.ListN.{length, set, length-set}
 use lib.Seq.{get_or-set_same, get_or-set_other}
-use borrow.Author.Tests.{eqb-true, eqb-false, eq-eqb}
+use borrow.Author.Tests.{eqb-true, eqb-false}
 use Rattle.paper.specs.Lists.{nat, size}
 use Rattle.paper.proofs.Count.{size-add, size_same}
 use Rattle.rows.specs.Changes.{values_of}
 use Rattle.probes.specs.Touched.{Listed}
-use Rattle.probes.specs.Rest.{Rests, Roomy, AtRest, Astray}
+use Rattle.probes.specs.Rest.{Rests, AtRest, Astray}
 use Rattle.probes.proofs.Notes.{none_passes}
 
 abbrev flagged : List ℕ → ℕ → Bool
