@@ -3,6 +3,7 @@
 #![tactic(auto)]
 
 mod kind;
+pub mod lent;
 mod maker;
 mod number;
 pub mod parts;
