@@ -1,25 +1,22 @@
 -- The chain of checks 2 to 5: past check 3 the parts lie within e; a caller may go on from the answer with any check that comes next, and where it
 -- accepts the tables are sound. Assumes nothing.
 use Prim.Native.Nat.{ℕ, pred, ◌-◌, ◌≤◌, ◌<◌}
-use native.Mathlib.Nat.{lt_irrefl}
 use native.Mathlib.Omega.{arith}
 use mathlib.Core.Bool.{◌&&◌}
-use mathlib.Core.Path.{◌≡◌, refl, ap, ◌∙◌}
+use mathlib.Core.Path.{◌≡◌, ap, ◌∙◌}
 use lib.Dec.{eqb}
 use lib.IntN.{pos}
 use lib.ListN.{get_or, take, drop}
 use borrow.Author.Tests.{leb-true, ltb-true}
 use Rattle.paper.specs.Lists.{total, nat, first_fail}
 use Rattle.paper.specs.Tables.{Tables, part}
-use Rattle.paper.specs.Checks.{Verdict, accepted, refused, check, require, kind_good, shape_good, number_good, Bounds, bounds_good, made_once, row_lines, by_lines}
+use Rattle.paper.specs.Checks.{Verdict, accepted, check, require, kind_good, shape_good, number_good, Bounds, bounds_good, made_once, row_lines, by_lines}
 use Rattle.paper.proofs.Lists.{each}
 use Rattle.paper.proofs.Least.{first_fail-before}
 use Rattle.paper.proofs.Scan.{first_fail-same}
 use Rattle.paper.proofs.Verdicts.{check-rest, check-held}
 use Rattle.tables.specs.Makers.{AllBelow}
 use Rattle.tables.specs.Rows.{number_rows, coefs_good, param_good}
-use Rattle.tables.specs.Answers.{answer_of}
-use Rattle.tables.specs.declared.Answer.TheVariants.{Accepted, Refused}
 use Rattle.tables.proofs.Whole.{front, part-front}
 
 -- ── the chain from each check on ──
@@ -57,15 +54,6 @@ numbers-front t bad row q h e =
         let good = first_fail-before (shape_good t) t.m r (omega arith) in
         ap (part t r) (front t.e t.coefs)
         ∙ part-front (nat t.firsts r) (nat t.counts r) t.e t.coefs (leb-true _ _ (each _ good).1.1.1.1.0)
-
--- ── an answer, and the verdict that it stands for ──
-pub accepted-is : (k j : ℕ) (v : Verdict) → answer_of k v ≡ Accepted j → v ≡ accepted
-accepted-is k j accepted e = refl
-accepted-is k j (refused a b) e = let z : ◌≡◌ {A = ℕ} 0 1 = cc in absurd (lt_irrefl 1 (omega arith))
-
-pub refused-is : (k a b : ℕ) (v : Verdict) → answer_of k v ≡ Refused a b → v ≡ refused a b
-refused-is k a b accepted e = let z : ◌≡◌ {A = ℕ} 0 1 = cc in absurd (lt_irrefl 1 (omega arith))
-refused-is k a b (refused c d) e = let p : c ≡ a = cc in let q : d ≡ b = cc in rw (p, q)
 
 -- ── what a caller has of the tables ──
 

@@ -6,6 +6,7 @@ pub mod Placing
 pub mod Numbers
 pub mod Sifting
 pub mod Made
+pub mod Answered
 pub mod Judged
 pub mod Asked
 pub mod Walk
