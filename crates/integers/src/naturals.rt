@@ -5,41 +5,29 @@ ghost use Rattle.std.specs.Prelude.{◌≡◌, cond, suc, pred, min, max, ltb};
 pub fn larger(a: usize, b: usize) -> usize
     ensures { result ≡ max a b }
 {
-    if a < b {
-        return b;
-    }
-    a
+    a.max(b)
 }
 
 // The smaller of the two.
 pub fn smaller(a: usize, b: usize) -> usize
     ensures { result ≡ min a b }
 {
-    if b < a {
-        return b;
-    }
-    a
+    a.min(b)
 }
 
 // The number of moves kept, with one more; the greatest number stays.
 pub fn kept_once_more(kept: u32) -> u32
     ensures { result ≡ min (suc kept) 4294967295 }
 {
-    if kept < 4294967295 {
-        return kept + 1;
-    }
-    kept
+    kept.saturating_add(1)
 }
 
 // The number of moves kept, with one fewer; the greatest number stays.
 pub fn kept_once_less(kept: u32) -> u32
     ensures { result ≡ cond (ltb kept 4294967295) (pred kept) kept }
 {
-    if 4294967295 <= kept {
+    if kept == u32::MAX {
         return kept;
     }
-    if 0 < kept {
-        return kept - 1;
-    }
-    0
+    kept.saturating_sub(1)
 }
