@@ -9,5 +9,3 @@ pub mod Made
 pub mod Answered
 pub mod Judged
 pub mod Asked
-pub mod Walk
-pub mod Plain

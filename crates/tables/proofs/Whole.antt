@@ -9,7 +9,10 @@ use mathlib.Core.Path.{◌≡◌, refl, sym, ap, ap₂, ◌∙◌}
 use lib.Dec.{eqb, ltb}
 use lib.ListN.{length, get_or, take, drop}
 use lib.Seq.{take-take, drop-drop}
-use borrow.Author.Tests.{ltb-true, ltb-false, eq-eqb, ne_eqb}
+use borrow.Author.Tests.{ltb-true, ltb-false, eq-eqb, eqb-true, ne_eqb}
+use Rattle.std.specs.Prelude.{None}
+use Rattle.integers.specs.Below.{if_below}
+use Rattle.integers.proofs.Below.{if_below-none}
 use Rattle.paper.specs.Lists.{all, first_fail, all_below}
 use Rattle.paper.proofs.Lists.{and_left, and_right, eqb-self}
 use Rattle.paper.proofs.Least.{first_fail-le}
@@ -36,6 +39,10 @@ below_next p i good h = ap (◌&& p i) h ∙ sym (ap (all_below p) (add-one i) �
         ne_eqb (first_fail p i) (suc i) (λ x. lt_irrefl i (omega arith)) ∙ sym (ap (◌&& q) (ne_eqb (first_fail p i) i (λ x. lt_irrefl i (omega arith))))
     go false e true = eqb-self (suc i) ∙ sym (ap (◌&& true) (whole e))
     go false e false = ne_eqb i (suc i) (λ x. lt_irrefl i (omega arith)) ∙ sym (ap (◌&& false) (whole e))
+
+-- all good: no place fails
+pub all-none : (p : ℕ → Bool) (m : ℕ) → all_below p m ≡ true → None ≡ if_below m (first_fail p m)
+all-none p m h = if_below-none m (first_fail p m) (let e = eqb-true (first_fail p m) m h in omega arith)
 
 -- ── parts ──
 module _ {A : Type 0} (p : A → Bool) where

@@ -1,7 +1,7 @@
 use native.Mathlib.Omega.{arith}
 use borrow.Author.Tests.{lt-ltb, le-ltb}
 use Rattle.paper.specs.Lists.{nat}
-use Rattle.paper.proofs.Scan.{scan-start, scan-next, scan-found, scan-all}
+use Rattle.paper.proofs.Scan.{scan-start, scan-next, scan-some, scan-none}
 use Rattle.tables.proofs.shape.first_unknown.Goals as goal
 
 pub loop-i-init : goal.loop-i-init
@@ -12,7 +12,7 @@ returns-then-n-wide c =
     let a = c.args in
     let l = c.loop-i in
     let w = c.wide.ensures in
-    scan-found _ _ _ l.invariant (omega arith) (le-ltb (nat a.vars.now l.i) a.n (omega arith))
+    scan-some _ _ _ l.invariant (omega arith) (le-ltb (nat a.vars.now l.i) a.n (omega arith))
 
 pub loop-i-preserved : goal.loop-i-preserved
 loop-i-preserved c =
@@ -22,4 +22,4 @@ loop-i-preserved c =
     scan-next _ _ _ l.invariant (omega arith) (lt-ltb (nat a.vars.now l.i) a.n (omega arith))
 
 pub returns : goal.returns
-returns c = scan-all _ _ _ c.loop-i.invariant (omega arith)
+returns c = scan-none _ _ _ c.loop-i.invariant (omega arith)

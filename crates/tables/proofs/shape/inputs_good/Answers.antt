@@ -1,11 +1,12 @@
--- All are below n if the first that is not lies beyond the part. Assumes nothing.
-use mathlib.Core.Path.{sym, ap, ◌∙◌}
-use lib.Dec.{leb, ltb}
-use lib.ListN.{length}
-use Rattle.tables.proofs.Shapes.{all_first}
+-- All are below n if none is the first that is not. Assumes nothing.
+use mathlib.Core.Bool.{Bool, true, false, not}
+use mathlib.Core.Path.{◌≡◌, refl, sym, ap, ◌∙◌}
+use Rattle.tables.proofs.Shapes.{all-below-none}
 use Rattle.tables.proofs.shape.inputs_good.Goals as goal
 
+not-not : (b : Bool) → b ≡ not (not b)
+not-not true = refl
+not-not false = refl
+
 pub returns : goal.returns
-returns c =
-    let a = c.args in
-    ap (leb (length a.part.now)) c.first_unknown.ensures ∙ sym (all_first (λ v. ltb v a.n) a.part.now)
+returns c = not-not _ ∙ ap not (sym c.is_none.ensures) ∙ all-below-none c.args.n c.args.part.now _ c.first_unknown.ensures

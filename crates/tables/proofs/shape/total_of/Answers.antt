@@ -16,10 +16,10 @@ loop-row-preserved c =
     let l = c.loop-row in
     let w = c.wide-sum.ensures in
     let z = l.invariant.2 in
-    (omega arith, omega arith, omega (arith, total-next c.args.counts.now l.row (omega arith)))
+    (omega arith, omega arith, omega (arith, total-next c.args.tables.now.counts.now l.row (omega arith)))
 
 pub returns : goal.returns
 returns c =
     let l = c.loop-row in
-    let same : l.row ≡ c.args.m = omega arith in
-    l.invariant.2 ∙ ap (λ k. total (take k c.args.counts.now)) same
+    let same : l.row ≡ c.args.tables.now.m = omega arith in
+    l.invariant.2 ∙ ap (λ k. total (take k c.args.tables.now.counts.now)) same

@@ -6,7 +6,7 @@ use Rattle.paper.specs.Lists.{total}
 use Rattle.tables.proofs.shape.total_of.Given as goal
 
 abbrev pub invariant-loop-row : goal.invariant-loop-row
-invariant-loop-row l = (l.row ≤ l.m) × (l.sum ≤ 65536 * l.row) × (l.sum ≡ total (take l.row l.counts))
+invariant-loop-row l = (l.row ≤ l.tables.m) × (l.sum ≤ 65536 * l.row) × (l.sum ≡ total (take l.row l.tables.counts.now))
 
 abbrev pub decreases-loop-row : goal.decreases-loop-row
-decreases-loop-row l = l.m - l.row
+decreases-loop-row l = l.tables.m - l.row
