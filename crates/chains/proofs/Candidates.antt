@@ -9,6 +9,8 @@ use mathlib.Core.Path.{◌≡◌, refl, ap, ap₂, sym, ◌∙◌}
 use lib.Dec.{eqb, ltb}
 use lib.ListN.{take, drop}
 use lib.Seq.{slice, take-nil, drop-nil}
+use Rattle.std.specs.List.{between}
+use Rattle.std.proofs.lemmas.Slice.{between_is}
 use borrow.Author.Tests.{lt-ltb}
 use Rattle.paper.specs.Lists.{nat}
 use Rattle.paper.specs.Tables.{Tables, part, is_made, inputs_of}
@@ -58,3 +60,8 @@ module _ (t : Tables) (F : Formed t) (r : ℕ) (l : r < t.m) where
   candidates-are {first} {count} begins holds e =
       ap₂ (λ a k. slice (a + 1) (a + k) t.vars) begins holds ∙ behind-first t.vars (nat t.firsts r) (nat t.counts r)
       ∙ sym (row-candidates ∙ ap (λ b. cond b (drop 1 (part t r t.vars)) []) e)
+
+  -- and as the code takes them
+  pub candidates-between : {first count : ℕ} → first ≡ nat t.firsts r → count ≡ nat t.counts r → eqb (nat t.kinds r) 4 ≡ true
+      → between (first + 1) (first + count) t.vars ≡ candidates t (nat t.makes r)
+  candidates-between {first} {count} begins holds e = between_is t.vars (first + 1) (first + count) ∙ candidates-are begins holds e

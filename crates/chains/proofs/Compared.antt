@@ -1,21 +1,30 @@
 -- Check 8: where the numbers show that every chain ends they are those of the groups, since each variable is then a group of its own; elsewhere the lent numbers
 -- and order are compared with those found. Assumes nothing.
-use Prim.Native.Nat.{ℕ, ◌<◌}
+use Prim.Native.Nat.{ℕ, ◌≤◌, ◌<◌}
 use native.Mathlib.Omega.{arith}
-use mathlib.Core.Bool.{Bool, true, false, not, ◌&&◌}
+use mathlib.Core.Bool.{Bool, true, false, cond, not, ◌&&◌}
 use mathlib.Core.List.{List, ◌++◌}
 use mathlib.Core.Path.{◌≡◌, refl, ap, ap₂, sym, ◌∙◌}
 use lib.Dec.{eqb}
-use lib.ListN.{drop}
+use lib.ListN.{length, take, drop}
 use lib.ListN.{get_or-append}
-use borrow.Author.Tests.{eq-eqb}
+use borrow.Author.Tests.{eq-eqb, eqb-true}
+use Rattle.std.specs.Prelude.{Option, Some, None}
+use Rattle.std.specs.Bool.{Decides}
+use Rattle.std.specs.Cmp.Lexicographic.{pointwise}
+use Rattle.std.specs.Option.{is_some}
+use Rattle.std.proofs.lemmas.Bool.Decides.{Decides-eqb, nat_tests}
+use Rattle.std.proofs.lemmas.List.{ext_get_or, get_or-take, length-take-le}
+use Rattle.std.proofs.lemmas.Slice.Eq.{slice_eq-Decides}
+use Rattle.integers.specs.Below.{if_below}
 use Rattle.paper.specs.Lists.{every, nat, first_fail, all_below}
 use Rattle.paper.specs.Net.{able}
 use Rattle.paper.specs.Tables.{Tables, net, inputs_of, ends}
 use Rattle.paper.proofs.Straight.{number, order, numbered}
 use Rattle.paper.specs.Chains.{permitted, group_number, group_order, closes, groups_numbered}
 use Rattle.paper.proofs.Lists.{clash, each, all_yes}
-use Rattle.paper.proofs.Least.{all_below-at, below_all}
+use Rattle.paper.proofs.Least.{first_fail-le, all_below-at, below_all}
+use Rattle.paper.proofs.Saturate.{both_ways}
 use Rattle.paper.proofs.Scan.{first_fail-same}
 use Rattle.paper.proofs.Lawful.{lawful}
 use Rattle.paper.proofs.Circle.{ends-everywhere}
@@ -104,3 +113,45 @@ module _ (t : Tables) (F : Formed t) (numbers ord : List ℕ) where
       same_rows =
           ap (λ k. eqb k t.m)
           (first_fail-same (λ i. eqb (nat ord i) (nat rows i)) (λ i. eqb (nat ord i) (nat (group_order t) i)) t.m (λ i l. ap (eqb (nat ord i)) (row_at i l)))
+
+-- ── as the code tells them ──
+-- an open model or a closed one, where check 8 is passed
+pub closing_is : (t : Tables) (numbers ord : List ℕ) {b c : Bool} → groups_numbered t numbers ord ≡ true → Told t numbers ord (not b) → b ≡ c
+    → Some (not c) ≡ cond (groups_numbered t numbers ord) (Some (closes t)) None
+closing_is t numbers ord ok T e = ap (λ x. Some (not x)) (sym e) ∙ ap Some (T.is ok) ∙ ap (λ x. cond x (Some (closes t)) None) (sym ok)
+
+-- no variable fails
+pub none-fails : (t : Tables) {r : Option ℕ} {b : Bool} → r ≡ if_below t.n (first_fail (permitted t) t.n) → is_some r ≡ not b
+    → b ≡ eqb (first_fail (permitted t) t.n) t.n
+none-fails t {r} {b} e q = flip b _ (sym q ∙ ap is_some e ∙ there t.n (first_fail (permitted t) t.n) (first_fail-le (permitted t) t.n))
+  where
+    there : (n k : ℕ) → k ≤ n → is_some (if_below n k) ≡ not (eqb k n)
+    there n k h = grind (arith, nat_tests)
+
+    flip : (a b : Bool) → not a ≡ not b → a ≡ b
+    flip true true e = refl
+    flip false false e = refl
+    flip true false e = sym e
+    flip false true e = sym e
+
+-- the fronts of two rows are the same exactly if their places are
+pub fronts-same : (xs ys : List ℕ) (n : ℕ) → n ≤ length xs → n ≤ length ys → pointwise eqb (take n xs) (take n ys) ≡ all_below (λ i. eqb (nat xs i) (nat ys i)) n
+fronts-same xs ys n h k = both_ways _ _ to from
+  where
+    decides : Decides (pointwise eqb (take n xs) (take n ys)) (take n xs ≡ take n ys)
+    decides = slice_eq-Decides Decides-eqb (take n xs) (take n ys) _ refl
+
+    at : (l : List ℕ) (i : ℕ) → i < n → nat (take n l) i ≡ nat l i
+    at l i q = get_or-take n l i 0 q
+
+    to : pointwise eqb (take n xs) (take n ys) ≡ true → all_below (λ i. eqb (nat xs i) (nat ys i)) n ≡ true
+    to e =
+        below_all (λ i. eqb (nat xs i) (nat ys i)) n
+        (λ i q. eq-eqb (nat xs i) (nat ys i) (sym (at xs i q) ∙ ap (λ (l : List ℕ). nat l i) (decides.0 e) ∙ at ys i q))
+
+    from : all_below (λ i. eqb (nat xs i) (nat ys i)) n ≡ true → pointwise eqb (take n xs) (take n ys) ≡ true
+    from e =
+        let a = length-take-le n xs h in let b = length-take-le n ys k in
+        decides.1 (ext_get_or 0 (take n xs) (take n ys) (a ∙ sym b) (λ i q.
+        let l : i < n = omega arith in
+        at xs i l ∙ eqb-true (nat xs i) (nat ys i) (all_below-at (λ i. eqb (nat xs i) (nat ys i)) n e i l) ∙ sym (at ys i l)))

@@ -1,9 +1,12 @@
 -- Whether some entry of a part passes a test, entry by entry: what is left of the part tells as long as none before it has passed. Assumes nothing.
-use Prim.Native.Nat.{ℕ, ◌<◌}
+use Prim.Native.Nat.{ℕ, ◌+◌, ◌≤◌, ◌<◌}
+use native.Mathlib.Numerals.{add-one}
 use mathlib.Core.Bool.{Bool, true, false, ◌||◌}
 use mathlib.Core.List.{List, [], ◌∷◌, Memᴰ}
 use mathlib.Core.Path.{◌≡◌, refl, ap, sym, ◌∙◌, subst, subst⁻¹}
-use Rattle.paper.specs.Lists.{any}
+use lib.ListN.{length, drop, drop_of_length-le}
+use lib.Seq.{drop-cons}
+use Rattle.paper.specs.Lists.{any, nat}
 
 -- the entries left are variables, and one of them passes exactly if one of all does
 pub record Seeking (n : ℕ) (test : ℕ → Bool) (whole rest : List ℕ) : Type 0 where
@@ -29,3 +32,10 @@ module _ (n : ℕ) (test : ℕ → Bool) (whole rest : List ℕ) where
       low = λ i m. S.low i (subst⁻¹ (Memᴰ i) e (Memᴰ.tail m));
       so = ap (◌|| any test more) (sym q) ∙ ap (any test) (sym e) ∙ S.so;
     }
+
+-- the entry at i is the first of those that are left, and behind the last none is
+pub left_at : (l : List ℕ) (i w : ℕ) → i < length l → w ≡ nat l i → drop i l ≡ w ∷ drop (i + 1) l
+left_at l i w h e = drop-cons l i 0 h ∙ rw (e, add-one i)
+
+pub left_out : (l : List ℕ) (i : ℕ) → length l ≤ i → drop i l ≡ []
+left_out l i h = drop_of_length-le l h

@@ -1,13 +1,8 @@
 -- No variable passed has a barred mark; the first that has is the answer. Assumes nothing.
-use Prim.Native.Nat.{◌-◌}
-use mathlib.Core.Bool.{false, not}
-use lib.ListN.{get_or}
+use Rattle.std.proofs.Common.{false, not, get_or}
 use Rattle.paper.specs.Lists.{nat}
 use Rattle.paper.proofs.Scan.{Scan}
 use Rattle.chains.proofs.bars.barred.first_barred.Given as goal
 
 abbrev pub invariant-loop-v : goal.invariant-loop-v
 invariant-loop-v l = Scan (λ u. not (get_or l.barred (nat l.marks u) false)) l.n l.v
-
-abbrev pub decreases-loop-v : goal.decreases-loop-v
-decreases-loop-v l = l.n - l.v
