@@ -3,7 +3,6 @@
 ghost use Rattle.std.specs.Prelude.{suc, ◌≤◌, ◌<◌, ◌≡◌, length};
 ghost use Rattle.index.specs.Walk.{ReadersTried, Untried, RowTried, ends_meet};
 
-use integers::naturals::larger;
 use integers::wide;
 
 // Whether row r stands where the readers of v have reached, which then go on behind it. A row that reads v twice stands there once: a cell holds the
@@ -28,20 +27,26 @@ fn reader_right(r: usize, v: usize, places: &[u16], cells: &mut [u32]) -> bool
     true
 }
 
-// The number due from the inputs of row r, if it stands where the readers of each of them have reached, which then go on behind it; otherwise 0.
-pub fn row_due(r: usize, part: &[u16], nums: &[u16], places: &[u16], cells: &mut [u32]) -> usize
+// The number due from the inputs of row r, if it stands where the readers of each of them have reached, which then go on behind it; otherwise none.
+pub fn row_due(
+    r: usize,
+    part: &[u16],
+    nums: &[u16],
+    places: &[u16],
+    cells: &mut [u32],
+) -> Option<usize>
     requires { Untried r part.now nums.now places.now cells.old }
     ensures { RowTried r part.now nums.now places.now cells.old cells.new result }
 {
     let mut best = 0;
-    for i in 0..part.len() {
-        let v = wide(part[i]);
+    for &var in part {
+        let v = wide(var);
         if !reader_right(r, v, places, cells) {
-            return 0;
+            return None;
         }
-        best = larger(best, wide(nums[v]) + 1);
+        best = best.max(wide(nums[v]) + 1);
     }
-    best
+    Some(best)
 }
 
 // Whether each variable's readers have reached the start of the next one's, and the first start at 0. No variable stops the loop, so that it takes
