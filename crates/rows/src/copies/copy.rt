@@ -9,11 +9,7 @@ pub fn copy_values(n: usize, from: &[i32], to: &mut [i32])
     requires { (n ≤ length from.now) × (n ≤ length to.old) }
     ensures { to.new ≡ over n (λ v. get_or from.now v (pos 0)) to.old }
 {
-    let mut v = 0;
-    while v < n {
-        to[v] = from[v];
-        v += 1;
-    }
+    to[..n].copy_from_slice(&from[..n]);
 }
 
 // Copies the values of the asked variables, in asking order.

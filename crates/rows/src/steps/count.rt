@@ -8,8 +8,8 @@ pub fn evaluations(n: usize, flags: &[u8]) -> usize
     ensures { result ≡ size (λ v. eqb (nat flags.now v) 1) n }
 {
     let mut count = 0;
-    for v in 0..n {
-        if flags[v] == 1 {
+    for &flag in &flags[..n] {
+        if flag == 1 {
             count += 1;
         }
     }

@@ -6,10 +6,7 @@ ghost use Rattle.paper.specs.Lists.{nat, over};
 fn if_marked(mark: u8, maker: u16) -> u16
     ensures { result ≡ cond (eqb mark 1) maker 0 }
 {
-    if mark == 1 {
-        return maker;
-    }
-    0
+    if mark == 1 { maker } else { 0 }
 }
 
 // Writes the maker of each variable that is marked, and else 0.
