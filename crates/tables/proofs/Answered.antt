@@ -6,7 +6,7 @@ use mathlib.Core.Bool.{Bool, true, false, cond}
 use mathlib.Core.Path.{◌≡◌, refl, ap, sym, ◌∙◌}
 use lib.Dec.{ltb}
 use borrow.Author.Tests.{ltb-true}
-use Rattle.std.specs.Prelude.{Option, Some, None, IfSome, Ok, Err}
+use Rattle.std.specs.Prelude.{Option, Some, None, IfSome, Result, Ok, Err, IsErrAnd}
 use Rattle.integers.specs.Below.{if_below}
 use Rattle.paper.specs.Lists.{first_fail}
 use Rattle.paper.specs.Checks.{Verdict, accepted, refused, check}
@@ -42,6 +42,11 @@ module _ {A : Type 0} where
 pub answer-passes : {B : Type 0} (F : Verdict → Verdict) (next : Verdict) → Chain F → (b c : B) → answer_of b (F accepted) ≡ Ok c → F next ≡ next
 answer-passes F next chain b c e = chain next ∙ ap (λ v. and_then v next) (accepted-is b c (F accepted) e)
 
+-- what the exit of a `?` answers
+pub err-said : {A B : Type 0} (r : Result A B) (e : B) → IsErrAnd r (λ x. x ≡ e) → r ≡ Err e
+err-said (Ok a) e h = absurd h
+err-said (Err x) e h = ap Err h
+
 -- ── one check, of each place below a bound ──
 -- a place below m fits
 pub place-fits : (m k : ℕ) (at : Option ℕ) → at ≡ if_below m k → m ≤ 65536 → IfSome at (λ place. place < 65536)
@@ -50,6 +55,15 @@ place-fits m k at e h = rw e (go (ltb k m) refl)
     go : (b : Bool) → ltb k m ≡ b → IfSome (cond b (Some k) None) (λ place. place < 65536)
     go true q = let low = ltb-true k m q in omega arith
     go false q = tt
+
+pub below-fits : (m : ℕ) (at : Option ℕ) → IfSome at (λ place. place < m) → m ≤ 65536 → IfSome at (λ place. place < 65536)
+below-fits m None h l = tt
+below-fits m (Some place) h l = omega arith
+
+-- no place was refused: there is none
+pub none_fails-none : (code : ℕ) (at : Option ℕ) (u : Unit) → unless_at code at ≡ Ok u → None ≡ at
+none_fails-none code None u e = refl
+none_fails-none code (Some place) u e = cc
 
 module _ (code bound : ℕ) (good : ℕ → Bool) where
   pub none_fails-is : unless_at code (if_below bound (first_fail good bound)) ≡ answer_of tt (check code bound good accepted)
