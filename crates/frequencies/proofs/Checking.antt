@@ -1,74 +1,39 @@
 -- A check over rows, row by row: the first that is not good decides, and the rows behind it no more. Assumes nothing.
-use Prim.Native.Nat.{ℕ, suc, ◌+◌, ◌-◌, ◌≤◌, ◌<◌}
+use Prim.Native.Nat.{ℕ, ◌+◌, ◌-◌, ◌≤◌, ◌<◌}
 use native.Mathlib.Omega.{arith}
-use mathlib.Core.Bool.{Bool, true, false, cond, ◌&&◌}
+use mathlib.Core.Bool.{Bool, true, false, cond}
 use mathlib.Core.List.{List, [], ◌∷◌}
-use mathlib.Core.Path.{◌≡◌, refl, ap, ap₂, sym, subst, ◌∙◌}
-use lib.Dec.{eqb, ltb}
+use mathlib.Core.Path.{◌≡◌, refl, ap, sym, subst, ◌∙◌}
+use Rattle.std.specs.Prelude.{Option, Some, None}
 use lib.ListN.{length, drop}
 use Rattle.paper.specs.Lists.{all}
-use Rattle.paper.proofs.Lists.{and_left}
-use borrow.Author.Tests.{ltb-true, lt-ltb, ne_eqb}
 use Rattle.paper.specs.Checks.{Verdict, refused}
-use Rattle.frequencies.specs.Csv.{is_line_feed, is_return, is_comma, line_feed_next, Row, row_of, all_rows, parted, line_ended, passed, onto, Mode, front, outside, after, split}
+use Rattle.frequencies.specs.Csv.{Row, row_of, all_rows, front, split}
 use Rattle.frequencies.specs.Reading.{check_rows, width_good, quotes_good, times_good, headway_good, exact_good, name_good}
 use Rattle.frequencies.specs.Scan.{RowScanned}
 use Rattle.frequencies.specs.Heading.{columns_in}
-use Rattle.frequencies.specs.Judging.{Checked, Tested, rows_left, Started, JudgedNext, JudgedSince, JudgedAll}
+use Rattle.frequencies.specs.Judging.{first_bad, by_line, line_small, Checked, Tested, rows_left, Started, JudgedNext, JudgedSince, JudgedAll}
 use Rattle.frequencies.specs.declared.rows.Columns.{Columns}
 use Rattle.frequencies.specs.declared.rows.RowScan.{RowScan}
 use Rattle.frequencies.specs.declared.judge.Judged.{Judged}
 use Rattle.frequencies.proofs.Scanning.{split-line}
 
 -- ── one check ──
-abbrev pub first_bad : ℕ → Bool → ℕ → ℕ
-first_bad bad good line = cond (eqb bad 0) (cond good 0 line) bad
-
-pub checked-start : (good : Row → Bool) (rs : List Row) → Checked good rs rs 0
+pub checked-start : (good : Row → Bool) (rs : List Row) → Checked good rs rs None
 checked-start good rs = record { so = λ number next. refl }
 
-pub checked-next : {good : Row → Bool} {rs : List Row} {r : Row} {left : List Row} {bad b : ℕ} (is : Bool) (line : ℕ) → Checked good rs (r ∷ left) bad
-    → is ≡ good r → r.line ≡ line → 0 < line → b ≡ first_bad bad is line → Checked good rs left b
-checked-next {good} {rs} {r} {left} {bad} {b} is line s e l h q = record {
-  so = λ number next. rw q (go number next (eqb bad 0) refl is e (s.so number next));
-}
+pub checked-next : {good : Row → Bool} {rs : List Row} {r : Row} {left : List Row} {bad b : Option ℕ} (is : Bool) (line : ℕ) → Checked good rs (r ∷ left) bad
+    → is ≡ good r → r.line ≡ line → b ≡ first_bad bad is line → Checked good rs left b
+checked-next {good} {rs} {r} {left} {bad} {b} is line s e l q = record { so = λ number next. rw q (go number next bad is e (s.so number next)) }
   where
-    go : (number : ℕ) (next : Verdict) (z : Bool) → eqb bad 0 ≡ z → (is : Bool) → is ≡ good r
-        → cond z (cond (good r) (check_rows number good left next) (refused number r.line)) (refused number bad) ≡ check_rows number good rs next
-        → cond (eqb (cond z (cond is 0 line) bad) 0) (check_rows number good left next) (refused number (cond z (cond is 0 line) bad)) ≡ check_rows number good rs next
-    go number next true z true e s = rw (← e) at s
-    go number next true z false e s = rw (ne_eqb line 0 (λ p. omega arith)) (rw (← e, l) at s)
-    go number next false z is e s = rw z s
-
--- ── lines are counted from 1 ──
-abbrev numbered : List Row → Bool
-numbered = all (λ (r : Row). ltb 0 r.line)
-
-pub lines-numbered : (mode : Mode) (at line : ℕ) (bs : List ℕ) → numbered (split at line mode bs).rows ≡ true
-unfolding split
-lines-numbered mode at line [] = refl
-lines-numbered mode at line (b ∷ bs) =
-    go (outside mode && is_comma b) (outside mode && is_line_feed b) (outside mode && (is_return b && line_feed_next bs)) (lines-numbered front (suc at) line bs)
-    (ap₂ ◌&&◌ (ap (ltb 0) (split-line front (suc at) (suc line) bs) ∙ lt-ltb 0 (suc line) (omega arith)) (lines-numbered front (suc at) (suc line) bs))
-    (lines-numbered mode (suc at) line bs) (lines-numbered (after mode b) (suc at) (cond (is_line_feed b) (suc line) line) bs)
-  where
-    go : (c f r : Bool) → numbered (split (suc at) line front bs).rows ≡ true → numbered (all_rows (split (suc at) (suc line) front bs)) ≡ true
-        → numbered (split (suc at) line mode bs).rows ≡ true → numbered (split (suc at) (cond (is_line_feed b) (suc line) line) (after mode b) bs).rows ≡ true
-        → numbered (cond c (parted at line (split (suc at) line front bs))
-        (cond f (line_ended at line (split (suc at) (suc line) front bs))
-        (cond r (passed at (split (suc at) line mode bs)) (onto at line b (split (suc at) (cond (is_line_feed b) (suc line) line) (after mode b) bs))))).rows ≡ true
-    go true f r h₁ h₂ h₃ h₄ = h₁
-    go false true r h₁ h₂ h₃ h₄ = h₂
-    go false false true h₁ h₂ h₃ h₄ = h₃
-    go false false false h₁ h₂ h₃ h₄ = h₄
+    go : (number : ℕ) (next : Verdict) (bad : Option ℕ) (is : Bool) → is ≡ good r
+        → by_line number bad (cond (good r) (check_rows number good left next) (refused number r.line)) ≡ check_rows number good rs next
+        → by_line number (first_bad bad is line) (check_rows number good left next) ≡ check_rows number good rs next
+    go number next None true e s = rw (← e) at s
+    go number next None false e s = rw (← e, l) at s
+    go number next (Some k) is e s = s
 
 -- ── one row ──
--- the line of a row behind another
-pub line-behind : (at line : ℕ) (bs bs' : List ℕ) (next on : ℕ) → (split at line front bs).rows ≡ all_rows (split next on front bs') → 0 < on
-line-behind at line bs bs' next on e =
-    rw (split-line front next on bs') at (ltb-true 0 (split next on front bs').line
-    (and_left (ltb 0 (split next on front bs').line) (numbered (split next on front bs').rows) (ap numbered (sym e) ∙ lines-numbered front at line bs)))
-
 module _ (bytes : List ℕ) (c : Columns) (width : ℕ) (j : Judged) (row : RowScan) (on : j.more ≡ true)
     (started : Started bytes j) (s : RowScanned bytes j.next j.line c row) where
   abbrev this_row : Row
@@ -87,16 +52,16 @@ module _ (bytes : List ℕ) (c : Columns) (width : ℕ) (j : Judged) (row : RowS
   falls true e = let l = s.on e in let w = s.scannable.fits in rw on (omega arith)
   falls false e = let h = s.begins in rw on (omega arith)
 
-  low : (bad b : ℕ) (is : Bool) → bad ≤ 2147483648 → b ≡ first_bad bad is j.line → b ≤ 2147483648
-  low bad b is h e = rw e (go (eqb bad 0) is)
+  low : (bad b : Option ℕ) (is : Bool) → line_small bad → b ≡ first_bad bad is j.line → line_small b
+  low bad b is h e = rw e (go bad is h)
     where
       line : j.line ≤ 2147483648
       line = let l = started.scannable.lines in let w = started.scannable.fits in let m = started.scannable.small in omega arith
 
-      go : (z is : Bool) → cond z (cond is 0 j.line) bad ≤ 2147483648
-      go true true = omega arith
-      go true false = line
-      go false is = h
+      go : (bad : Option ℕ) (is : Bool) → line_small bad → line_small (first_bad bad is j.line)
+      go None true h = tt
+      go None false h = line
+      go (Some k) is h = h
 
   -- what was found of the row
   pub record RowJudged (r : Judged) (g₃ g₄ g₅ g₆ g₇ g₈ : Bool) : Type 0 where
@@ -124,19 +89,16 @@ module _ (bytes : List ℕ) (c : Columns) (width : ℕ) (j : Judged) (row : RowS
     started-next : Started bytes r
     started-next = record {
       scannable = rw (w.next, w.line) s.scannable;
-      line = λ e. rw w.line (line-behind j.next j.line (drop j.next bytes) (drop row.next bytes) row.next row.line
-          (s.rows ∙ ap (λ b. cond b (all_rows (split row.next row.line front (drop row.next bytes))) []) (on-now e)));
       count = λ e. let l = s.on (on-now e) in let k = started.count on in rw (w.count, w.next) (omega arith);
-      widths = low j.widths r.widths g₃ started.widths w.widths;
-      quotes = low j.quotes r.quotes g₄ started.quotes w.quotes;
-      times = low j.times r.times g₅ started.times w.times;
-      headways = low j.headways r.headways g₆ started.headways w.headways;
-      exacts = low j.exacts r.exacts g₇ started.exacts w.exacts;
-      names = low j.names r.names g₈ started.names w.names;
+      lines = record {
+        widths = low j.widths r.widths g₃ started.lines.widths w.widths;
+        quotes = low j.quotes r.quotes g₄ started.lines.quotes w.quotes;
+        times = low j.times r.times g₅ started.lines.times w.times;
+        headways = low j.headways r.headways g₆ started.lines.headways w.headways;
+        exacts = low j.exacts r.exacts g₇ started.lines.exacts w.exacts;
+        names = low j.names r.names g₈ started.lines.names w.names;
+      };
     }
-
-    positive : 0 < j.line
-    positive = started.line on
 
     behind-is : rows_behind ≡ rows_left bytes r
     behind-is = rw (w.more, w.next, w.line)
@@ -144,12 +106,12 @@ module _ (bytes : List ℕ) (c : Columns) (width : ℕ) (j : Judged) (row : RowS
     tested-next : (all rs : List Row) → Tested (columns_in c) width all rs (rows_left bytes j) j → Tested (columns_in c) width all rs (rows_left bytes r) r
     tested-next all rs t = let u = rw left_is at t in rw (← behind-is) (record {
       count = let k = u.count in rw w.count (omega arith);
-      widths = checked-next g₃ j.line u.widths w.is₃ line-is positive w.widths;
-      quotes = checked-next g₄ j.line u.quotes w.is₄ line-is positive w.quotes;
-      times = checked-next g₅ j.line u.times w.is₅ line-is positive w.times;
-      headways = checked-next g₆ j.line u.headways w.is₆ line-is positive w.headways;
-      exacts = checked-next g₇ j.line u.exacts w.is₇ line-is positive w.exacts;
-      names = checked-next g₈ j.line u.names w.is₈ line-is positive w.names;
+      widths = checked-next g₃ j.line u.widths w.is₃ line-is w.widths;
+      quotes = checked-next g₄ j.line u.quotes w.is₄ line-is w.quotes;
+      times = checked-next g₅ j.line u.times w.is₅ line-is w.times;
+      headways = checked-next g₆ j.line u.headways w.is₆ line-is w.headways;
+      exacts = checked-next g₇ j.line u.exacts w.is₇ line-is w.exacts;
+      names = checked-next g₈ j.line u.names w.is₈ line-is w.names;
     })
 
     pub row-judged : JudgedNext bytes c width j r

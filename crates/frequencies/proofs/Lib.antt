@@ -1,3 +1,4 @@
+pub mod Early
 pub mod Quoted
 pub mod Spoken
 pub mod Runs
@@ -12,7 +13,6 @@ pub mod Digits
 pub mod Quoting
 pub mod Saying
 pub mod Filed
-pub mod Answered
 pub mod Judging
 pub mod Told
 pub mod Times

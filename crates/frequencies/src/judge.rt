@@ -1,25 +1,25 @@
 // The rows of a file judged: how many there are, and for each check the line of the first row that does not pass it.
-ghost use Rattle.std.specs.Prelude.{◌≡◌, true, cond, not, ◌&&◌, eqb};
+ghost use Rattle.std.specs.Prelude.{◌≡◌, true, not, ◌&&◌};
 ghost use Rattle.integers.specs.Integers.{eq_z};
 ghost use Rattle.paper.specs.Formula.{blank};
-ghost use Rattle.frequencies.specs.Judging.{Started, JudgedNext, JudgedAll};
+ghost use Rattle.frequencies.specs.Judging.{first_bad, Started, JudgedNext, JudgedAll};
 
 use crate::parts::{exact_at, headway_at, time_at};
 use crate::rows::{Columns, scan_row};
 use crate::values::both;
 use formulas::blanks::is_blank;
 
-// Of the rows judged: how many there are, and for each check the line of the first that does not pass it, 0 if all do; where the next row begins and on which
-// line, and whether there is one.
-#[derive(Drop)]
+// Of the rows judged: how many there are, and for each check the line of the first that does not pass it, if any does not; where the next row begins and on
+// which line, and whether there is one.
+#[derive(Clone, Copy)]
 pub struct Judged {
     pub count: usize,
-    pub widths: usize,
-    pub quotes: usize,
-    pub times: usize,
-    pub headways: usize,
-    pub exacts: usize,
-    pub names: usize,
+    pub widths: Option<usize>,
+    pub quotes: Option<usize>,
+    pub times: Option<usize>,
+    pub headways: Option<usize>,
+    pub exacts: Option<usize>,
+    pub names: Option<usize>,
     pub next: usize,
     pub line: usize,
     pub more: bool,
@@ -33,13 +33,13 @@ fn both_values(a: i32, b: i32) -> bool
 }
 
 // The line of the first row that does not pass a check, with one row more.
-pub fn first_bad(bad: usize, good: bool, line: usize) -> usize
-    ensures { result ≡ cond (eqb bad 0) (cond good 0 line) bad }
+pub fn first_bad(bad: Option<usize>, good: bool, line: usize) -> Option<usize>
+    ensures { result ≡ first_bad bad good line }
 {
-    if bad != 0 {
-        return bad;
+    match bad {
+        None if !good => Some(line),
+        _ => bad,
     }
-    if good { 0 } else { line }
 }
 
 // Judges the next row.
@@ -69,7 +69,7 @@ fn judge_next(bytes: &[u8], columns: Columns, width: usize, j: Judged) -> Judged
     }
 }
 
-// Judges the rows from a place on, if there are any; `quotes` is the line of a header whose quotes are not right, or 0.
+// Judges the rows from a place on, if there are any; `start.quotes` is the line of a header whose quotes are not right.
 pub fn judge_rows(bytes: &[u8], columns: Columns, width: usize, start: Judged) -> Judged
     requires { Started bytes.now start }
     ensures { JudgedAll bytes.now columns width start result }

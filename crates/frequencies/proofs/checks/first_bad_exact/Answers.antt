@@ -1,10 +1,10 @@
-use native.Mathlib.Omega.{arith}
+use Rattle.std.proofs.Common.{arith}
 use borrow.Author.Tests.{lt-leb}
-use Rattle.paper.proofs.Scan.{scan-found, scan-all}
+use Rattle.paper.proofs.Scan.{scan-some, scan-none}
 use Rattle.frequencies.proofs.checks.first_bad_exact.Goals as goal
 
-pub returns-then-exacts-i-gt1 : goal.returns-then-exacts-i-gt1
-returns-then-exacts-i-gt1 c = scan-found _ _ _ c.loop-i.invariant (omega arith) (lt-leb _ _ c.if-exacts-i-gt1.true)
+pub returns-then-windows-i-gt1 : goal.returns-then-windows-i-gt1
+returns-then-windows-i-gt1 c = scan-some _ _ _ c.loop-i.invariant (omega arith) (lt-leb _ _ c.if-windows-i-gt1.true)
 
 pub returns : goal.returns
-returns c = scan-all _ _ _ c.loop-i.invariant (omega arith)
+returns c = scan-none _ _ _ c.loop-i.invariant (omega arith)
