@@ -1,14 +1,9 @@
-use mathlib.Core.Path.{refl}
-use borrow.Author.Rules.{sfits_of}
-use mir.Facts.{to_z-of_z}
-use Rattle.fields.proofs.Runs.{lines_next, lines_end}
+use Rattle.std.proofs.Common.{get_or, pos, FitsSigned, to_z-of_z, refl, rules}
+use Rattle.std.specs.Int.{w32}
+use Rattle.fields.proofs.Runs.{lines_next}
 use Rattle.fields.proofs.lines.put_rows.Goals as goal
 
 pub loop-r-preserved : goal.loop-r-preserved
 loop-r-preserved c =
-    let b = c.before.before.before.before.before.before.before.before.before in
-    lines_next b.loop-r.invariant 12 (λ r. refl) b.loop-r-test.true
-    (simp (b.bits32-param.ensures, to_z-of_z, sfits_of, b.bits32-arg-1.given) at c.put_row.ensures)
-
-pub returns : goal.returns
-returns c = rw (← c.rows_at-at.ensures) (lines_end c.loop-r.invariant c.loop-r-test.false)
+    let fits : FitsSigned w32 (get_or c.args.tables.now.params.now c.loop-r.r (pos 0)) = search rules in
+    lines_next c.loop-r.invariant 12 (λ r. refl) c.loop-r-test.true (rw (to_z-of_z fits) at c.put_row.ensures)

@@ -1,14 +1,9 @@
-use mathlib.Core.Path.{refl}
-use borrow.Author.Rules.{sfits_of}
-use mir.Facts.{to_z-of_z}
-use Rattle.fields.proofs.Runs.{lines_next, lines_end}
+use Rattle.std.proofs.Common.{get_or, pos, FitsSigned, to_z-of_z, refl, rules}
+use Rattle.std.specs.Int.{w32}
+use Rattle.fields.proofs.Runs.{lines_next}
 use Rattle.fields.proofs.lines.put_starts.Goals as goal
 
 pub loop-v-preserved : goal.loop-v-preserved
 loop-v-preserved c =
-    let b = c.before.before.before.before in
-    lines_next b.loop-v.invariant 4 (λ v. refl) b.loop-v-test.true
-    (simp (b.bits32.ensures, to_z-of_z, sfits_of, b.bits32-arg-1.given) at c.put.ensures)
-
-pub returns : goal.returns
-returns c = lines_end c.loop-v.invariant c.loop-v-test.false
+    let fits : FitsSigned w32 (get_or c.args.starts.now c.loop-v.v (pos 0)) = search rules in
+    lines_next c.loop-v.invariant 4 (λ v. refl) c.loop-v-test.true (rw (to_z-of_z fits) at c.write.ensures)
