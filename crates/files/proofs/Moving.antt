@@ -1,5 +1,4 @@
--- Bytes copied one by one are a part of the file that they come from; and what a file with these counts is moved to, by what each step leaves.
--- Assumes nothing.
+-- What a file with these counts is moved to, by what each step leaves. Assumes nothing.
 use Prim.Native.Nat.{ℕ, zero, suc, ◌+◌, ◌-◌, ◌*◌, ◌≤◌, ◌<◌}
 use native.Mathlib.Omega.{arith}
 use mathlib.Core.List.{List, [], ◌∷◌, ◌++◌}
@@ -14,31 +13,15 @@ use Rattle.paper.proofs.Verdicts.{Past}
 use Rattle.paper.proofs.Reading.{headed}
 use Rattle.paper.proofs.Converted.{convert-headless, convert-lost, convert-narrow, convert-done}
 use Rattle.files.specs.HeaderAnswers.{answer, Stated}
-use Rattle.files.specs.declared.headers.Reading.{Reading}
-use Rattle.files.specs.declared.headers.Reading.TheVariants.{Refused}
+use Rattle.std.specs.Prelude.{Err}
+use Rattle.tables.specs.declared.Refusal.{Refusal}
 use Rattle.files.proofs.HeaderAnswered.{turned}
 use Rattle.files.specs.Moving.{full_at}
 
--- ── bytes from a place on, one by one ──
-abbrev pub byte_from : List ℕ → ℕ → ℕ → List ℕ
-byte_from bytes from i = nat bytes (from + i) ∷ []
-
-each-byte : (bytes : List ℕ) (from k : ℕ) → joined (byte_from bytes from) k ≡ below (nat (drop from bytes)) k
-each-byte bytes from zero = refl
-each-byte bytes from (suc k) = ap₂ (λ l x. l ++ (x ∷ [])) (each-byte bytes from k) (sym (get_or-drop from bytes k 0))
-
-pub bytes-part : (bytes : List ℕ) (from k : ℕ) → from + k ≤ length bytes → joined (byte_from bytes from) k ≡ take k (drop from bytes)
-bytes-part bytes from k l = let left = length-drop from bytes in each-byte bytes from k ∙ below-list (drop from bytes) 0 k (omega arith)
-
--- one byte stored is a run of one
-pub one_byte : (l : List ℕ) (at i x : ℕ) → set l (at + i) x ≡ sets l (at + 1 * i) (x ∷ [])
-one_byte l at i x = let z : at + 1 * i ≡ at + i = omega arith in rw z
-
 -- ── a file with a wrong header ──
-module _ (v : Version) (bytes : List ℕ) {r : Reading} (q : r ≡ answer bytes (header v bytes)) where
-  pub refused-move : {number place : ℕ} → r ≡ Refused number place → (to : Version) (file : List ℕ)
-      → ◌≡◌ {A = Verdict × (ℕ × List ℕ)} (refused number place, (0, file)) (convert v to bytes file)
-  refused-move {number} {place} h to file = convert-headless v to bytes file number place (turned bytes (header v bytes) (sym h ∙ q))
+pub refused-move : (v : Version) (bytes : List ℕ) {r : Refusal} → Err r ≡ answer bytes (header v bytes) → (to : Version) (file : List ℕ)
+    → ◌≡◌ {A = Verdict × (ℕ × List ℕ)} (refused r.number r.place, (0, file)) (convert v to bytes file)
+refused-move v bytes {r} q to file = convert-headless v to bytes file r.number r.place (turned bytes (header v bytes) q)
 
 -- ── a file with a right header and these counts ──
 pub record Facts (from : Version) (bytes : List ℕ) (n m e : ℕ) : Type 0 where

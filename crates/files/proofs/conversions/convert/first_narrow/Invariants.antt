@@ -1,5 +1,4 @@
 -- The variables passed have full bounds (`Scan`). Assumes nothing.
-use Prim.Native.Nat.{◌-◌}
 use Rattle.paper.proofs.Scan.{Scan}
 use Rattle.files.specs.Moving.{full_at}
 use Rattle.files.proofs.conversions.convert.first_narrow.Given as goal
@@ -7,5 +6,3 @@ use Rattle.files.proofs.conversions.convert.first_narrow.Given as goal
 abbrev pub invariant-loop-v : goal.invariant-loop-v
 invariant-loop-v l = Scan (full_at l.bytes l.at) l.count l.v
 
-abbrev pub decreases-loop-v : goal.decreases-loop-v
-decreases-loop-v l = l.count - l.v
