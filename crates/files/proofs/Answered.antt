@@ -39,44 +39,44 @@ module _ (v : Version) (bytes : List ℕ) (c : Contents) where
   nothing_read q = ap (λ w. (w, leaves w (laid v bytes (n_in bytes) (m_in bytes) (e_in bytes) c) (counted 0 0 0 c))) (sym (turned bytes (read_verdict v bytes c) q))
 
   module _ {size : Size} (q : Ok size ≡ answer bytes (read_verdict v bytes c)) where
-      abbrev n : ℕ
-      n = size.n
+    abbrev n : ℕ
+    n = size.n
 
-      abbrev m : ℕ
-      m = size.m
+    abbrev m : ℕ
+    m = size.m
 
-      abbrev e : ℕ
-      e = size.e
+    abbrev e : ℕ
+    e = size.e
 
-      found : Stated bytes (read_verdict v bytes c) n m e
-      found = stated bytes (read_verdict v bytes c) q
+    found : Stated bytes (read_verdict v bytes c) n m e
+    found = stated bytes (read_verdict v bytes c) q
 
-      -- the rows have room, and the file ends where its counts say
-      pub roomy : (held v (counted n m e c) ≡ true) × (length bytes ≡ ends_at v n m e)
-      roomy =
-          let s = found in let right = read-headed v bytes c s.good in (
-            rw (s.n-is, s.m-is, s.e-is) (require-held 1 0 _ accepted (then-second (header v bytes) _ (sym (read-verdict v bytes c) ∙ s.good))),
-            rw (s.n-is, s.m-is, s.e-is) (headed v bytes right).whole,
-          )
+    -- the rows have room, and the file ends where its counts say
+    pub roomy : (held v (counted n m e c) ≡ true) × (length bytes ≡ ends_at v n m e)
+    roomy =
+        let s = found in let right = read-headed v bytes c s.good in (
+          rw (s.n-is, s.m-is, s.e-is) (require-held 1 0 _ accepted (then-second (header v bytes) _ (sym (read-verdict v bytes c) ∙ s.good))),
+          rw (s.n-is, s.m-is, s.e-is) (headed v bytes right).whole,
+        )
 
-      -- each column is laid over its row
-      pub all_read : {head at count : ℕ} → head ≡ head_of v → at ≡ bounds_from head n m e → count ≡ bounded v n
-          → {kinds makes firsts counts vars : List ℕ} {params coefs starts lows highs : List ℤ}
-          → starts ≡ starts_from bytes head n m e c.starts
-          → kinds ≡ (tables_from bytes head n m e c.tables).kinds
-          → makes ≡ (tables_from bytes head n m e c.tables).makes
-          → params ≡ (tables_from bytes head n m e c.tables).params
-          → firsts ≡ (tables_from bytes head n m e c.tables).firsts
-          → counts ≡ (tables_from bytes head n m e c.tables).counts
-          → vars ≡ (tables_from bytes head n m e c.tables).vars
-          → coefs ≡ (tables_from bytes head n m e c.tables).coefs
-          → lows ≡ over count (λ i. to_z w32 (column bytes 4 at 8 i)) c.lows
-          → highs ≡ over count (λ i. to_z w32 (column bytes 4 (at + 4) 8 i)) c.highs
-          → ◌≡◌ {A = Verdict × Contents} (accepted, contents (lent n m e kinds makes params firsts counts vars coefs) starts lows highs) (read v bytes c)
-      all_read h b k s ki ma pa fi co va ce lo hi =
-          read_done v bytes c (read-headed v bytes c found.good) (rw (found.n-is, found.m-is, found.e-is) at roomy.0)
-          (same-contents (rw h at s) (rw h at ki) (rw h at ma) (rw h at pa) (rw h at fi) (rw h at co) (rw h at va) (rw h at ce) (rw (b, h, k) at lo) (rw (b, h, k) at hi)
-          ∙ rw (found.n-is, found.m-is, found.e-is))
+    -- each column is laid over its row
+    pub all_read : {head at count : ℕ} → head ≡ head_of v → at ≡ bounds_from head n m e → count ≡ bounded v n
+        → {kinds makes firsts counts vars : List ℕ} {params coefs starts lows highs : List ℤ}
+        → starts ≡ starts_from bytes head n m e c.starts
+        → kinds ≡ (tables_from bytes head n m e c.tables).kinds
+        → makes ≡ (tables_from bytes head n m e c.tables).makes
+        → params ≡ (tables_from bytes head n m e c.tables).params
+        → firsts ≡ (tables_from bytes head n m e c.tables).firsts
+        → counts ≡ (tables_from bytes head n m e c.tables).counts
+        → vars ≡ (tables_from bytes head n m e c.tables).vars
+        → coefs ≡ (tables_from bytes head n m e c.tables).coefs
+        → lows ≡ over count (λ i. to_z w32 (column bytes 4 at 8 i)) c.lows
+        → highs ≡ over count (λ i. to_z w32 (column bytes 4 (at + 4) 8 i)) c.highs
+        → ◌≡◌ {A = Verdict × Contents} (accepted, contents (lent n m e kinds makes params firsts counts vars coefs) starts lows highs) (read v bytes c)
+    all_read h b k s ki ma pa fi co va ce lo hi =
+        read_done v bytes c (read-headed v bytes c found.good) (rw (found.n-is, found.m-is, found.e-is) at roomy.0)
+        (same-contents (rw h at s) (rw h at ki) (rw h at ma) (rw h at pa) (rw h at fi) (rw h at co) (rw h at va) (rw h at ce) (rw (b, h, k) at lo) (rw (b, h, k) at hi)
+        ∙ rw (found.n-is, found.m-is, found.e-is))
 
 -- ── version 1: rows without bounds have none afterwards ──
 pub read-plainly : (bytes : List ℕ) (t : Tables) (starts : List ℤ) (r : Result Size Refusal) (c : Contents) → has_read r c ≡ read version1 bytes (unbounded_contents t starts)

@@ -1,19 +1,23 @@
 -- What a file with these counts is moved to, by what each step leaves. Assumes nothing.
-use Prim.Native.Nat.{ℕ, zero, suc, ◌+◌, ◌-◌, ◌*◌, ◌≤◌, ◌<◌}
+use Prim.Native.Nat.{ℕ, ◌+◌, ◌-◌, ◌*◌, ◌≤◌, ◌<◌}
 use native.Mathlib.Omega.{arith}
-use mathlib.Core.List.{List, [], ◌∷◌, ◌++◌}
-use mathlib.Core.Path.{◌≡◌, refl, ap₂, sym, ◌∙◌}
-use lib.ListN.{length, take, drop, set, length-drop}
-use lib.Seq.{sets, get_or-drop}
-use Rattle.paper.specs.Lists.{nat, joined, below, first_fail}
+use mathlib.Core.List.{List}
+use mathlib.Core.Path.{◌≡◌, refl}
+use lib.ListN.{length, take, drop}
+use lib.Seq.{sets}
+use Rattle.paper.specs.Lists.{joined, first_fail}
 use Rattle.paper.specs.Checks.{Verdict, accepted, refused}
 use Rattle.paper.specs.File.{Version, head_of, bounded, bounds_from, ends_at, head_bytes, n_in, header, full_bytes, full_in, convert}
-use Rattle.paper.proofs.Buffers.{below-list}
 use Rattle.paper.proofs.Verdicts.{Past}
 use Rattle.paper.proofs.Reading.{headed}
 use Rattle.paper.proofs.Converted.{convert-headless, convert-lost, convert-narrow, convert-done}
 use Rattle.files.specs.HeaderAnswers.{answer, Stated}
-use Rattle.std.specs.Prelude.{Err}
+use mathlib.Core.Bool.{Bool, true, false, cond}
+use lib.Dec.{ltb}
+use borrow.Author.Tests.{ltb-true, ltb-false}
+use Rattle.std.specs.Prelude.{Ok, Err, Some, None}
+use Rattle.integers.specs.Below.{if_below}
+use Rattle.tables.specs.Answers.{refusal, unless_at}
 use Rattle.tables.specs.declared.Refusal.{Refusal}
 use Rattle.files.proofs.HeaderAnswered.{turned}
 use Rattle.files.specs.Moving.{full_at}
@@ -39,6 +43,21 @@ facts from bytes {n} {m} {e} s =
       e-most = omega arith;
       whole = rw (s.n-is, s.m-is, s.e-is) h.whole;
     }
+
+-- ── a place that is refused if there is one ──
+pub refused-at : (number m k : ℕ) {r : Refusal} → Err r ≡ unless_at number (if_below m k) → (k < m) × (r ≡ refusal number k)
+refused-at number m k {r} q = go (ltb k m) refl q
+  where
+    go : (b : Bool) → ltb k m ≡ b → Err r ≡ unless_at number (cond b (Some k) None) → (k < m) × (r ≡ refusal number k)
+    go true e q = (ltb-true k m e, cc)
+    go false e q = let z : ◌≡◌ {A = ℕ} 0 1 = cc in absurd (omega arith)
+
+pub passed-at : (number m k : ℕ) {done : Unit {0}} → Ok done ≡ unless_at number (if_below m k) → m ≤ k
+passed-at number m k {done} q = go (ltb k m) refl q
+  where
+    go : (b : Bool) → ltb k m ≡ b → Ok done ≡ unless_at number (cond b (Some k) None) → m ≤ k
+    go true e q = let z : ◌≡◌ {A = ℕ} 0 1 = cc in absurd (omega arith)
+    go false e q = ltb-false k m e
 
 module _ (from to : Version) (bytes : List ℕ) {n m e : ℕ} (s : Stated bytes (header from bytes) n m e) (file : List ℕ) (k : ℕ)
     (f : k ≡ first_fail (full_at bytes (bounds_from (head_of from) n m e)) (bounded from n)) where

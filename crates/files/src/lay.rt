@@ -63,15 +63,12 @@ pub fn read_as(
     lows: &mut [i32],
     highs: &mut [i32],
 ) -> Result<Size, Refusal>
-    ghost w: { File.Contents }
-    requires lent { File.contents
-        (lent 0 0 0 kinds.old makes.old params.old firsts.old counts.old vars.old coefs.old)
-        starts.old lows.old highs.old
-        ≡ w }
     ensures { has_read result (File.contents
         (lent 0 0 0 kinds.new makes.new params.new firsts.new counts.new vars.new coefs.new)
         starts.new lows.new highs.new)
-        ≡ File.read (version_in version) bytes.now w }
+        ≡ File.read (version_in version) bytes.now (File.contents
+        (lent 0 0 0 kinds.old makes.old params.old firsts.old counts.old vars.old coefs.old)
+        starts.old lows.old highs.old) }
 {
     let rows = Tables {
         n: 0,

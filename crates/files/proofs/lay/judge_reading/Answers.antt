@@ -15,7 +15,8 @@ returns-in_err-size c =
 pub returns-then-not-rows_held : goal.returns-then-not-rows_held
 returns-then-not-rows_held c =
     let a = c.args in
-    short-rows (version_in a.version) a.bytes.now (counted 0 0 0 (lent_contents a.rows.now a.starts.now a.bounds.now)) c.in_ok-size.ensures (rw (← c.rows_held.ensures) c.if-not-rows_held.true)
+    rw c.refused.ensures
+    (short-rows (version_in a.version) a.bytes.now (counted 0 0 0 (lent_contents a.rows.now a.starts.now a.bounds.now)) c.in_ok-size.ensures (rw (← c.rows_held.ensures) c.if-not-rows_held.true))
 
 pub returns : goal.returns
 returns c =

@@ -8,7 +8,7 @@ use Rattle.files.proofs.store.write_as.Goals as goal
 
 pub returns-then-not-rows_held : goal.returns-then-not-rows_held
 returns-then-not-rows_held c =
-    let a = c.args in write-short (version_in a.version) (lent_contents a.tables.now a.starts.now a.bounds.now) a.bytes.now (rw (← c.rows_held.ensures) c.if-not-rows_held.true)
+    let a = c.args in rw c.refused.ensures (write-short (version_in a.version) (lent_contents a.tables.now a.starts.now a.bounds.now) a.bytes.now (rw (← c.rows_held.ensures) c.if-not-rows_held.true))
 
 pub ends_at-requires : goal.ends_at-requires
 ends_at-requires c =
@@ -19,7 +19,7 @@ ends_at-requires c =
 pub returns-then-bytes-ends_at : goal.returns-then-bytes-ends_at
 returns-then-bytes-ends_at c =
     let a = c.args in
-    write-narrow (version_in a.version) (lent_contents a.tables.now a.starts.now a.bounds.now) a.bytes.now (rw (← c.rows_held.ensures) c.if-not-rows_held.false) (rw c.ends_at.ensures at c.if-bytes-ends_at.true)
+    rw c.refused-then-bytes-ends_at.ensures (write-narrow (version_in a.version) (lent_contents a.tables.now a.starts.now a.bounds.now) a.bytes.now (rw (← c.rows_held.ensures) c.if-not-rows_held.false) (rw c.ends_at.ensures at c.if-bytes-ends_at.true))
 
 pub bounds_at-at-requires : goal.bounds_at-at-requires
 bounds_at-at-requires c =

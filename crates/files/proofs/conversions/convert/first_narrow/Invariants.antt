@@ -5,4 +5,3 @@ use Rattle.files.proofs.conversions.convert.first_narrow.Given as goal
 
 abbrev pub invariant-loop-v : goal.invariant-loop-v
 invariant-loop-v l = Scan (full_at l.bytes l.at) l.count l.v
-

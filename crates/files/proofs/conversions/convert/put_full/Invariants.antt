@@ -5,4 +5,3 @@ use Rattle.files.proofs.conversions.convert.put_full.Given as goal
 
 abbrev pub invariant-loop-v : goal.invariant-loop-v
 invariant-loop-v l = Lines full_bytes l.initial.file l.at l.count l.file l.v
-
