@@ -2,7 +2,7 @@
 use Prim.Native.Nat.{ℕ, ◌+◌, ◌-◌, ◌*◌, ◌≤◌, ◌<◌}
 use native.Mathlib.Omega.{arith}
 use mathlib.Core.List.{List}
-use mathlib.Core.Path.{◌≡◌, refl}
+use mathlib.Core.Path.{◌≡◌, refl, ap, ◌∙◌}
 use lib.ListN.{length, take, drop}
 use lib.Seq.{sets}
 use Rattle.paper.specs.Lists.{joined, first_fail}
@@ -15,7 +15,7 @@ use Rattle.files.specs.HeaderAnswers.{answer, Stated}
 use mathlib.Core.Bool.{Bool, true, false, cond}
 use lib.Dec.{ltb}
 use borrow.Author.Tests.{ltb-true, ltb-false}
-use Rattle.std.specs.Prelude.{Ok, Err, Some, None}
+use Rattle.std.specs.Prelude.{Option, Ok, Err, Some, None}
 use Rattle.integers.specs.Below.{if_below}
 use Rattle.tables.specs.Answers.{refusal, unless_at}
 use Rattle.tables.specs.declared.Refusal.{Refusal}
@@ -45,15 +45,15 @@ facts from bytes {n} {m} {e} s =
     }
 
 -- ── a place that is refused if there is one ──
-pub refused-at : (number m k : ℕ) {r : Refusal} → Err r ≡ unless_at number (if_below m k) → (k < m) × (r ≡ refusal number k)
-refused-at number m k {r} q = go (ltb k m) refl q
+pub refused-at : (number m k : ℕ) {at : Option ℕ} {r : Refusal} → at ≡ if_below m k → Err r ≡ unless_at number at → (k < m) × (r ≡ refusal number k)
+refused-at number m k {at} {r} p q = go (ltb k m) refl (q ∙ ap (unless_at number) p)
   where
     go : (b : Bool) → ltb k m ≡ b → Err r ≡ unless_at number (cond b (Some k) None) → (k < m) × (r ≡ refusal number k)
     go true e q = (ltb-true k m e, cc)
     go false e q = let z : ◌≡◌ {A = ℕ} 0 1 = cc in absurd (omega arith)
 
-pub passed-at : (number m k : ℕ) {done : Unit {0}} → Ok done ≡ unless_at number (if_below m k) → m ≤ k
-passed-at number m k {done} q = go (ltb k m) refl q
+pub passed-at : (number m k : ℕ) {at : Option ℕ} {done : Unit {0}} → at ≡ if_below m k → Ok done ≡ unless_at number at → m ≤ k
+passed-at number m k {at} {done} p q = go (ltb k m) refl (q ∙ ap (unless_at number) p)
   where
     go : (b : Bool) → ltb k m ≡ b → Ok done ≡ unless_at number (cond b (Some k) None) → m ≤ k
     go true e q = let z : ◌≡◌ {A = ℕ} 0 1 = cc in absurd (omega arith)
