@@ -9,6 +9,8 @@ use lib.Dec.{leb, ltb}
 use lib.ListN.{length, take, drop}
 use borrow.Author.Rules.{part_to_end}
 use borrow.Author.Tests.{ltb-true, ltb-false, eq-eqb, ne_eqb, le-leb, lt-leb}
+use Rattle.std.specs.Prelude.{is_ok}
+use Rattle.tables.specs.Answers.{answer_of}
 use Rattle.paper.specs.Lists.{every, nat, first_fail, all_below}
 use Rattle.paper.specs.Tables.{Tables}
 use Rattle.paper.specs.Checks.{Verdict, accepted, refused, check, Bounds, Move, movable, named_once, has_value, pair_within}
@@ -23,6 +25,11 @@ use Rattle.checks.proofs.MovesJudged.{from_eleven, from_twelve, from_seventeen}
 abbrev pub passes : Verdict → Bool
 passes accepted = true
 passes (refused number place) = false
+
+-- and so does the answer that stands for it
+pub answer-passes : (v : Verdict) → is_ok (answer_of {A = Unit {0}} tt v) ≡ passes v
+answer-passes accepted = refl
+answer-passes (refused number place) = refl
 
 check-passed : (code bound : ℕ) (good : ℕ → Bool) (next : Verdict) → passes (check code bound good next) ≡ (all_below good bound && passes next)
 check-passed code bound good next = go (ltb (first_fail good bound) bound) refl
@@ -60,9 +67,9 @@ module _ (l : Log) (k pairs : ℕ) (e : pairs ≡ nat l.sizes (k + 1)) where
     back-many h = sym (move-good t bs (back l k) ∙ ap (◌&& passes (pair_checks (back l k) bs t accepted)) (lt-leb (back l k).pairs 64 (omega (arith, size))))
 
     -- what the checks of it say
-    pub back-told : pairs ≤ 64 → (v : Verdict) → pair_checks lent bs t accepted ≡ v → passes v ≡ move_good t bs (back l k)
-    back-told h v q =
-        sym (move-good t bs (back l k) ∙ ap₂ ◌&&◌ (le-leb (back l k).pairs 64 (omega (arith, size))) (ap passes (ap (λ mv. pair_checks mv bs t accepted) (sym same) ∙ q)))
+    pub back-told : pairs ≤ 64 → passes (pair_checks lent bs t accepted) ≡ move_good t bs (back l k)
+    back-told h =
+        sym (move-good t bs (back l k) ∙ ap₂ ◌&&◌ (le-leb (back l k).pairs 64 (omega (arith, size))) (ap (λ mv. passes (pair_checks mv bs t accepted)) (sym same)))
 
 -- ── the whole log ──
 module _ (l : Log) (t : Tables) (bs : Bounds) (kept : ℕ) where
