@@ -1,7 +1,9 @@
 pub mod Reach
 pub mod Sections
+pub mod Walk
 pub mod Readers
 pub mod Rows
 pub mod Routed
 pub mod Work
 pub mod Plan
+pub mod Numbered
