@@ -11,7 +11,8 @@ use lib.ListN.{length, get_or}
 use mir.Facts.{to_z-of_z}
 use Rattle.paper.specs.Lists.{nat}
 use Rattle.formulas.specs.Buckets.{bucket_of}
-use Rattle.formulas.proofs.Bucketing.{Counting, counting-none, counting-next, counting-all, counting-most, one-most}
+use Rattle.formulas.proofs.Bucketing.{Counting, counting-none, counting-next, counting-all, counting-most}
+use Rattle.formulas.proofs.Counting.{one-most}
 use Rattle.formulas.proofs.buckets.count_buckets.Statement.{statement}
 use Rattle.formulas.proofs.buckets.count_buckets.Tie as tie
 
