@@ -12,8 +12,8 @@ pub fn none_blank(n: usize, values: &[i32], flags: &[u8], asked: &[u16]) -> bool
     requires asked_value { all (λ v. ltb v n) asked.now ≡ true }
     ensures { result ≡ all_below (λ i. not_blank flags.now values.now (nat asked.now i)) (length asked.now) }
 {
-    for i in 0..asked.len() {
-        let v = wide(asked[i]);
+    for &v in asked {
+        let v = wide(v);
         if (flags[v] == 1) & is_blank(values[v]) {
             return false;
         }

@@ -4,7 +4,6 @@ use Prim.Native.Nat.{ℕ, ◌+◌, ◌-◌}
 use mathlib.Core.Bool.{true}
 use mathlib.Core.List.{List}
 use mathlib.Core.Path.{◌≡◌, ◌∙◌}
-use borrow.Author.Rules.{rules}
 use lib.IntN.{ℤ}
 use mir.Syntax.{w32}
 use mir.Facts.{to_z-of_z}
@@ -12,9 +11,8 @@ use Rattle.integers.proofs.Bits.{told}
 use Rattle.std.specs.Prelude.{Option, Some}
 use Rattle.paper.specs.Lists.{between}
 use Rattle.paper.specs.Formula.{formula}
-use Rattle.formulas.specs.Inputs.{part_of, inputs}
 use Rattle.formulas.specs.Row.{worked}
-use Rattle.formulas.proofs.Rows.{part-row, part-within}
+use Rattle.formulas.proofs.Rows.{part-within}
 use Rattle.formulas.proofs.formula_value.Goals as goal
 
 -- ── a known code ──

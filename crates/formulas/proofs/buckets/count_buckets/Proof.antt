@@ -1,13 +1,12 @@
 -- The values before i are counted (`Counting`), and this one is counted where it falls. Assumes nothing.
 use mir.Syntax.{w32}
-use Prim.Native.Nat.{ℕ, ◌-◌, ◌≤◌}
+use Prim.Native.Nat.{◌-◌, ◌≤◌}
 use native.Mathlib.Omega.{arith}
 use mathlib.Core.Bool.{not}
-use mathlib.Core.Path.{◌≡◌, sym, ap, ◌∙◌}
+use mathlib.Core.Path.{sym, ap, ◌∙◌}
 use borrow.Author.Rules.{rules, sfits_of}
 use lib.Dec.{eqb}
-use lib.IntN.{pos}
-use lib.ListN.{length, get_or}
+use lib.ListN.{length}
 use mir.Facts.{to_z-of_z}
 use Rattle.paper.specs.Lists.{nat}
 use Rattle.formulas.specs.Buckets.{bucket_of}

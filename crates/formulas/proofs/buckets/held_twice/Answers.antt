@@ -1,7 +1,6 @@
 -- With fewer than two values in its bucket z stands at most once (`alone`). Assumes nothing.
 use native.Mathlib.Omega.{arith}
-use mathlib.Core.Path.{◌≡◌, sym, ap, ◌∙◌}
-use borrow.Author.Rules.{rules}
+use mathlib.Core.Path.{sym, ap, ◌∙◌}
 use lib.Dec.{leb}
 use mir.Facts.{to_z-of_z}
 use Rattle.paper.specs.Formula.{places}

@@ -1,6 +1,5 @@
 -- Both ways give the number that is defined. Assumes nothing.
 use native.Mathlib.Omega.{arith}
-use borrow.Author.Rules.{rules}
 use Rattle.formulas.proofs.Bucketing.{counted_none}
 use Rattle.formulas.proofs.buckets.sharing_places.Goals as goal
 

@@ -1,12 +1,12 @@
 -- 256 terms keep the exact sum in 64 bits. Assumes nothing.
 use native.Mathlib.Omega.{arith}
-use mathlib.Core.Path.{◌≡◌, ◌∙◌}
+use mathlib.Core.Path.{◌∙◌}
 use borrow.Author.Rules.{rules, sfits_of}
-use lib.IntN.{ℤ, pos}
+use lib.IntN.{pos}
 use lib.ListN.{get_or}
 use mir.Syntax.{w16, w32, w64}
 use mir.Val.{SFits}
-use Rattle.integers.proofs.Bits.{cast_fits, cast_is, told}
+use Rattle.integers.proofs.Bits.{cast_is, told}
 use Rattle.formulas.proofs.Sums.{term-room, summed-next}
 use Rattle.formulas.proofs.linear.linear.Goals as goal
 

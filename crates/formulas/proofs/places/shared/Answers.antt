@@ -19,7 +19,7 @@ pub returns-then-blanks_among-ne0 : goal.returns-then-blanks_among-ne0
 returns-then-blanks_among-ne0 c =
     let row = c.args.row in
     let test : some_blank (inputs_of row) ≡ ltb 0 c.blanks_among.result =
-        blank-copied _ _ c.len-n.result (inputs-length row.vars.now row.values.now ∙ sym c.len-n.ensures) (rw c.len-n.ensures c.copy_to.ensures) ∙ ap (ltb 0) (sym c.blanks_among.ensures) in
+    blank-copied _ _ c.len-n.result (inputs-length row.vars.now row.values.now ∙ sym c.len-n.ensures) (rw c.len-n.ensures c.copy_to.ensures) ∙ ap (ltb 0) (sym c.blanks_among.ensures) in
     simp (test ∙ lt-ltb 0 c.blanks_among.result (omega arith))
 
 number : (c : goal.After-sharing_places) → c.sharing_places.result ≡ sharing (inputs_of c.args.row)
@@ -37,5 +37,5 @@ pub returns : goal.returns
 returns c =
     let row = c.args.row in
     let test : some_blank (inputs_of row) ≡ ltb 0 c.blanks_among.result =
-        blank-copied _ _ c.len-n.result (inputs-length row.vars.now row.values.now ∙ sym c.len-n.ensures) (rw c.len-n.ensures c.copy_to.ensures) ∙ ap (ltb 0) (sym c.blanks_among.ensures) in
+    blank-copied _ _ c.len-n.result (inputs-length row.vars.now row.values.now ∙ sym c.len-n.ensures) (rw c.len-n.ensures c.copy_to.ensures) ∙ ap (ltb 0) (sym c.blanks_among.ensures) in
     simp (test ∙ le-ltb 0 c.blanks_among.result (omega arith)) (to_z_pos w32 (few c) ∙ ap pos (number c))

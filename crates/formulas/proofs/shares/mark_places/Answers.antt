@@ -1,17 +1,14 @@
-use Prim.Native.Nat.{◌-◌, ◌≤◌}
 use native.Mathlib.Omega.{arith}
 use mathlib.Core.Bool.{cond}
 use mathlib.Core.Path.{ap, ◌∙◌}
-use borrow.Author.Rules.{rules, sfits_of}
+use borrow.Author.Rules.{sfits_of}
 use lib.IntN.{pos}
-use lib.ListN.{length, get_or, drop}
-use mir.Syntax.{w32}
-use mir.Val.{to_z}
+use lib.ListN.{get_or, drop}
 use mir.Facts.{to_z-of_z}
 use Rattle.integers.specs.Integers.{eq_z}
 use Rattle.paper.specs.Lists.{any, nat}
-use Rattle.formulas.specs.Marks.{all_bits, PlacesMarked}
-use Rattle.formulas.proofs.Pairs.{marked-none, marked_next, marked_all, Sought, sought-none, sought-next, sought-all, same_bits}
+use Rattle.formulas.specs.Marks.{all_bits}
+use Rattle.formulas.proofs.Pairs.{marked-none, marked_next, marked_all, sought-none, sought-next, sought-all, same_bits}
 use Rattle.formulas.proofs.shares.mark_places.Goals as goal
 
 pub loop-j-init : goal.loop-j-init

@@ -1,9 +1,5 @@
-use Prim.Native.Nat.{◌-◌, ◌≤◌}
 use native.Mathlib.Omega.{arith}
 use mathlib.Core.Path.{sym}
-use borrow.Author.Rules.{rules}
-use lib.ListN.{length}
-use Rattle.formulas.specs.Marks.{TurnsTaken}
 use Rattle.formulas.proofs.Pairs.{turned_none}
 use Rattle.formulas.proofs.shares.sharing_pairs.Goals as goal
 

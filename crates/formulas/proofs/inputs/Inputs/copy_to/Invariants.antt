@@ -1,5 +1,4 @@
 -- The places passed hold their inputs, the others what they held (`Filled`). Assumes nothing.
-use Rattle.std.specs.Prelude.{◌≤◌, length}
 use Rattle.paper.specs.Formula.{input_at}
 use Rattle.paper.proofs.Buffers.{Filled}
 use Rattle.formulas.specs.Given.{inputs_of}
