@@ -1,23 +1,27 @@
-use native.Mathlib.Omega.{arith}
-use mathlib.Core.Bool.{false}
-use lib.ListN.{get_or}
+use Rattle.std.proofs.Common.{false, get_or, ◌∙◌, arith}
 use Rattle.damage.specs.Flags.{flag_wanted}
-use Rattle.damage.proofs.Stored.{those-joined, placed-room, placed-next, placed_end}
+use Rattle.damage.proofs.Stored.{those-joined, placed-fits, placed-taken, placed-passed, placed_end, wanted-is}
+use Rattle.damage.proofs.flags.list_flagged.Goals.{then-flags-i, else-flags-i}
 use Rattle.damage.proofs.flags.list_flagged.Goals as goal
 
-pub add_if-to-requires : goal.add_if-to-requires
-add_if-to-requires c =
-    let l = c.loop-i in let s = c.before.before.before.before.before.before.before.before in
-    let room = rw (those-joined (λ v. flag_wanted s.args.wanted (get_or s.args.flags.now v false)) s.args.n) at s.requires.2 in
-    rw c.choose.ensures (placed-room l.invariant.1 s.args.n (omega arith) room)
+pub bounds-list-to : goal.bounds-list-to
+bounds-list-to c = placed-fits (λ v. flag_wanted c.args.wanted (get_or c.args.flags.now v false)) c.loop-i.invariant.1 (wanted-is _ _ ∙ c.if-flags-i.true) c.args.n c.loop-i-test.true c.requires.2
+
+pub overflow_add-to : goal.overflow_add-to
+overflow_add-to c = let low = placed-fits (λ v. flag_wanted c.args.wanted (get_or c.args.flags.now v false)) c.loop-i.invariant.1 (wanted-is _ _ ∙ c.if-flags-i.true) c.args.n c.loop-i-test.true c.requires.2 in omega arith
+
+pub offset_bounds-list-to : goal.offset_bounds-list-to
+offset_bounds-list-to c = let low = placed-fits (λ v. flag_wanted c.args.wanted (get_or c.args.flags.now v false)) c.loop-i.invariant.1 (wanted-is _ _ ∙ c.if-flags-i.true) c.args.n c.loop-i-test.true c.requires.2 in omega arith
 
 pub loop-i-preserved : goal.loop-i-preserved
-loop-i-preserved c =
-    let l = c.loop-i in
-    let e = rw c.choose.ensures at c.add_if-to.ensures in
-    (omega arith, placed-next l.invariant.1 e.0 e.1)
+loop-i-preserved c = (
+  omega arith,
+  elim c.if-flags-i.branch [
+    | then-flags-i w ↦ rw (w.list-is, w.to-is) (placed-taken (λ v. flag_wanted c.args.wanted (get_or c.args.flags.now v false)) c.loop-i.invariant.1 (wanted-is _ _ ∙ w.if-flags-i.true))
+    | else-flags-i w ↦ rw (w.list-is, w.to-is) (placed-passed (λ v. flag_wanted c.args.wanted (get_or c.args.flags.now v false)) c.loop-i.invariant.1 (wanted-is _ _ ∙ w.if-flags-i.false))
+  ],
+)
 
 pub returns : goal.returns
 returns c =
-    let s = c.before.before.before.before.before in let l = c.loop-i in
-    rw (those-joined (λ v. flag_wanted s.args.wanted (get_or s.args.flags.now v false)) s.args.n) (placed_end l.invariant.1 s.args.n (omega arith))
+    rw (those-joined (λ v. flag_wanted c.args.wanted (get_or c.args.flags.now v false)) c.args.n) (placed_end c.loop-i.invariant.1 c.args.n (omega arith))
