@@ -1,5 +1,3 @@
-pub mod Walks
-pub mod Readers
 pub mod InTurn
 pub mod Changed
 pub mod Plans

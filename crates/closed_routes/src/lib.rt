@@ -5,4 +5,3 @@ pub mod changes;
 pub mod flagged;
 pub mod followed;
 pub mod looks;
-pub mod reaches;

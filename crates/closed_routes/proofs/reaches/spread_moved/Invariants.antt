@@ -1,7 +1,0 @@
--- Every named variable before this one that moved is marked, and what is made from it (`Passed`). Assumes nothing.
-use Rattle.routes.specs.Sections.{made_from}
-use Rattle.routes.proofs.Passing.{Passed}
-use Rattle.closed_routes.proofs.reaches.spread_moved.Given as goal
-
-abbrev pub invariant-loop-i : goal.invariant-loop-i
-invariant-loop-i l = Passed (made_from l.makes l.starts l.places) l.moves l.stored l.trial l.initial.marks l.i l.marks
