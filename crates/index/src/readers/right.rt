@@ -21,15 +21,16 @@ fn begin(n: usize, starts: &[u16], cells: &mut [u32])
     }
 }
 
-// The walk, over a row of cells: none if the index is not what build gives, and otherwise whether what each row makes has the number due from its inputs.
-fn walk_rows(tables: &Tables, nums: &[u16], index: &Index, cells: &mut [u32]) -> Option<bool>
+// The walk, over a row of N cells: none if the index is not what build gives, and otherwise whether what each row makes has the number due from its inputs.
+fn walk_rows<const N: usize>(tables: &Tables, nums: &[u16], index: &Index) -> Option<bool>
     requires laid { EntriesLaid (entries_lent tables.now) }
     requires formed { Formed (bare_lent tables.now) }
     requires room { (tables.now.n ≤ length nums.now) × (suc tables.now.n ≤ length index.now.starts.now) × (tables.now.e ≤ length index.now.places.now) }
-    requires cells { tables.now.n ≤ length cells.old }
+    requires cells { (tables.now.n ≤ N) × (N ≤ 4096) }
     ensures { RowsWalked (entries_lent tables.now) (bare_lent tables.now) nums.now (lent_index index.now) result }
 {
-    begin(tables.n, index.starts, cells);
+    let mut cells = [0u32; N];
+    begin(tables.n, index.starts, &mut cells);
     let mut due = true;
     for r in 0..tables.m {
         let first = wide(tables.firsts[r]);
@@ -38,11 +39,11 @@ fn walk_rows(tables: &Tables, nums: &[u16], index: &Index, cells: &mut [u32]) ->
             &tables.vars[first..first + wide(tables.counts[r])],
             nums,
             &index.places[..tables.e],
-            cells,
+            &mut cells,
         )?;
         due = due & (wide(nums[wide(tables.makes[r])]) == least);
     }
-    ends_right(tables.n, index.starts, cells).then_some(due)
+    ends_right(tables.n, index.starts, &cells).then_some(due)
 }
 
 // Check 8 over the rows: none if the lent index is not what build gives, and otherwise whether the numbers of what rows make are due. A small model has
@@ -54,9 +55,8 @@ pub fn rows_right(tables: &Tables, nums: &[u16], index: &Index) -> Option<bool>
     ensures { RowsWalked (entries_lent tables.now) (bare_lent tables.now) nums.now (lent_index index.now) result }
 {
     if tables.n <= 256 {
-        let mut cells = [0u32; 256];
-        return walk_rows(tables, nums, index, &mut cells);
+        walk_rows::<256>(tables, nums, index)
+    } else {
+        walk_rows::<4096>(tables, nums, index)
     }
-    let mut cells = [0u32; 4096];
-    walk_rows(tables, nums, index, &mut cells)
 }

@@ -9,6 +9,6 @@ use Rattle.index.proofs.Walk.{Walked}
 use Rattle.index.proofs.readers.right.walk_rows.Given as goal
 
 abbrev pub invariant-loop-r : goal.invariant-loop-r
-invariant-loop-r l =
+invariant-loop-r g l =
     Walked (entries_lent l.tables) l.index.starts.now (take l.tables.e l.index.places.now) l.r l.cells
     × Joint (made_right (bare_lent l.tables) l.nums) l.tables.m l.r l.due
