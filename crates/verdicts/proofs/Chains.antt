@@ -1,7 +1,7 @@
--- How an answer and the checks that come next come out together, and those of what is asked, one by one. Assumes nothing.
+-- The checks that come next, as chains, and those of what is asked, one by one. Assumes nothing.
 use Prim.Native.Nat.{ℕ}
 use mathlib.Core.Bool.{Bool, true, false}
-use mathlib.Core.Path.{◌≡◌, ap, sym, ◌∙◌}
+use mathlib.Core.Path.{◌≡◌, ◌∙◌}
 use lib.Dec.{ltb}
 use Rattle.paper.specs.Lists.{nat, between}
 use Rattle.paper.specs.Tables.{Tables}
@@ -9,26 +9,9 @@ use Rattle.paper.specs.Checks.{Bounds, Verdict, accepted, refused, check, requir
 use Rattle.paper.specs.Log.{Log, logged, log_good}
 use Rattle.paper.specs.Calls.{TrialLent}
 use Rattle.paper.proofs.Verdicts.{and_then, Chain, chain-after, check-then, require-then, require-stops, require-next}
-use Rattle.tables.specs.Answers.{answer_of}
-use Rattle.tables.specs.declared.Answer.{Answer}
-use Rattle.tables.specs.declared.Answer.TheVariants.{Accepted, Refused}
-use Rattle.tables.proofs.Judged.{accepted-is, refused-is}
 use Rattle.checks.specs.Moves.{pair_checks}
 use Rattle.checks.proofs.MovesJudged.{pair_then}
 use Rattle.verdicts.specs.Chains.{ask_checks, log_checks, keep_checks, take_checks}
-
--- ── an answer, and the checks that come next ──
-module _ (v : Verdict) (r : Answer) (said : r ≡ answer_of 0 v) where
-  -- it refuses, and they are not looked at
-  pub answer-stops : (next : Verdict) (number place : ℕ) → r ≡ Refused number place → r ≡ answer_of 0 (and_then v next)
-  answer-stops next number place e = e ∙ ap (λ u. answer_of 0 (and_then u next)) (sym (refused-is 0 number place v (sym said ∙ e)))
-
-  -- it accepts, and they decide
-  pub answer-next : (next : Verdict) (j : ℕ) → r ≡ Accepted j → and_then v next ≡ next
-  answer-next next j e = ap (λ u. and_then u next) (accepted-is 0 j v (sym said ∙ e))
-
-  pub answer-accepts : (j : ℕ) → r ≡ Accepted j → r ≡ answer_of 0 accepted
-  answer-accepts j e = said ∙ ap (answer_of 0) (accepted-is 0 j v (sym said ∙ e))
 
 -- ── from each chain a caller may go on with any check that comes next ──
 module _ (bs : Bounds) (t : Tables) where

@@ -4,10 +4,9 @@ use Rattle.tables.proofs.Tests.{joined, joined-every}
 use Rattle.verdicts.proofs.fits.trial_fits.Goals as goal
 
 pub returns : goal.returns
-returns g c =
-    let a = c.args in
-    rw (← c.requires)
-    ((λ i. joined (c.model_fits.ensures i) (
-    c.move_sizes.ensures i ∷ leb a.asked 32 ∷ leb a.asked (length a.asked_vars.now) ∷ leb a.asked (length a.results.now) ∷ leb a.n (length a.trial.now)
-    ∷ leb a.n (length a.flags.now) ∷ leb a.asked (length a.why.now) ∷ []))
-    ∙ joined-every _ (_ ∷ _ ∷ _ ∷ _ ∷ _ ∷ _ ∷ _ ∷ []))
+returns c =
+    let a = c.args in let x = a.asked.now in let n = a.model.now.tables.n in
+    (λ i. joined (c.model_fits.ensures i) (
+    c.move_sizes.ensures i ∷ leb x.count 32 ∷ leb x.count (length x.vars.now) ∷ leb x.count (length a.results.now) ∷ leb n (length a.trial.now)
+    ∷ leb n (length a.flags.now) ∷ leb x.count (length a.why.now) ∷ []))
+    ∙ joined-every _ (_ ∷ _ ∷ _ ∷ _ ∷ _ ∷ _ ∷ _ ∷ [])
