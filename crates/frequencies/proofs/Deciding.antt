@@ -18,10 +18,11 @@ use Rattle.frequencies.specs.Scan.{Scannable}
 use Rattle.frequencies.specs.Heading.{columns_in, Headed}
 use Rattle.frequencies.specs.Judging.{first_bad, by_line, line_small, Tested, rows_left, Started, JudgedAll}
 use Rattle.frequencies.specs.Deciding.{Least, decided, verdict_of, whole_at, BodyJudged, FileJudged}
-use Rattle.std.specs.Prelude.{Option, None, Result, Ok, Err}
+use Rattle.std.specs.Prelude.{Option, Some, None, IfSome, Result, Ok, Err}
 use Rattle.tables.specs.Answers.{refusal}
 use Rattle.tables.specs.declared.Refusal.{Refusal}
 use Rattle.frequencies.specs.declared.header.Header.{Header}
+use Rattle.frequencies.specs.declared.fields.Place.{Place}
 use Rattle.frequencies.specs.declared.judge.Judged.{Judged}
 use Rattle.frequencies.specs.declared.verdict.Judgement.{Judgement}
 use Rattle.frequencies.proofs.Scanning.{split-line}
@@ -92,16 +93,17 @@ module _ (bytes : List ℕ) (mark : ℕ) (h : Header) (s : Headed bytes mark h) 
     exacts = None;
     names = None;
     next = h.next;
-    line = h.line;
-    more = h.more;
   }
 
   pub body-started : (q : Option ℕ) → q ≡ first_bad None h.right 1 → Started bytes (start_from q)
   body-started q e = record {
-    scannable = s.scannable;
-    count = λ on. omega arith;
+    here = go h.next s.here;
     lines = record { widths = tt; quotes = rw e (one_line h.right); times = tt; headways = tt; exacts = tt; names = tt };
   }
+    where
+      go : (o : Option Place) → IfSome o (λ p. Scannable bytes p.at p.line) → IfSome o (λ p. Scannable bytes p.at p.line × (0 ≤ p.at))
+      go None h = tt
+      go (Some p) h = (h, omega arith)
 
   body-tested : (q : Option ℕ) → q ≡ first_bad None h.right 1
       → Tested (columns_in h.columns) h.width (row_of rest ∷ rest.rows) rest.rows (rows_left bytes (start_from q)) (start_from q)
@@ -131,10 +133,10 @@ module _ (bytes : List ℕ) (mark : ℕ) (h : Header) (s : Headed bytes mark h) 
     body-refused k = record { answer = k ∙ ap₂ carried_by verdict-is count-is; read = λ r e. cc }
 
     pub body-judged : {k : ℕ} → Ok k ≡ carried_by (decided h.good room j) j.count
-        → BodyJudged bytes mark room (Ok (record { count = k; columns = h.columns; end = length bytes; next = h.next; line = h.line; more = h.more }))
+        → BodyJudged bytes mark room (Ok (record { count = k; columns = h.columns; end = length bytes; next = h.next }))
     body-judged k = record {
       answer = k ∙ ap₂ carried_by verdict-is count-is;
-      read = λ r e. rw (← ok-same e) (record { columns = s.columns; end = refl; rows = s.rows; scannable = s.scannable });
+      read = λ r e. rw (← ok-same e) (record { columns = s.columns; end = refl; rows = s.rows; here = s.here });
     }
 
 -- ── the file ──
@@ -166,6 +168,6 @@ module _ (bytes : List ℕ) (room : ℕ) where
         columns = rw rows_are d.columns;
         end = let high = t.high in omega arith;
         rows = rw (rows_are, same) d.rows;
-        scannable = rw same d.scannable;
+        here = rw same d.here;
       };
     }

@@ -12,7 +12,8 @@ use Rattle.paper.proofs.Lists.{each, and_right}
 use Rattle.frequencies.specs.Csv.{Row, rows_of}
 use Rattle.frequencies.specs.Reading.{Windows, room_for, windows_of, columns_of, header, window_rows, read_fits, read_verdict, carried_by, left_by_reading, read_frequencies}
 use Rattle.frequencies.specs.Heading.{columns_in}
-use Rattle.frequencies.specs.Filling.{Room, rows_from}
+use Rattle.frequencies.specs.Scan.{rows_from}
+use Rattle.frequencies.specs.Filling.{Room}
 use Rattle.frequencies.specs.Deciding.{Least, counted, verdict_of, FileRead, FileJudged}
 use Rattle.std.specs.Prelude.{Result, Ok, Err}
 use Rattle.tables.specs.declared.Refusal.{Refusal}
@@ -69,12 +70,12 @@ module _ (bytes : List ℕ) (w : Windows) {room : ℕ}
     pub read-file : FileRead bytes j
     read-file = f.read j e
 
-    pub read-room : Room (length (rows_from (take j.end bytes) j.next j.line j.more)) w
+    pub read-room : Room (length (rows_from (take j.end bytes) j.next)) w
     read-room =
         rw (← read-file.rows)
         (room-is (length (window_rows bytes)) w (and_right (leb (length bytes) 2147483647) (room_for (length (window_rows bytes)) w) both-fit))
 
-    pub read-accepted : {v : Windows} → v ≡ windows_of (columns_in j.columns) (rows_from (take j.end bytes) j.next j.line j.more) w
+    pub read-accepted : {v : Windows} → v ≡ windows_of (columns_in j.columns) (rows_from (take j.end bytes) j.next) w
         → left_by_reading (Ok j.count) v ≡ read_frequencies bytes w
     unfolding read_frequencies
     read-accepted h =

@@ -1,4 +1,3 @@
-pub mod Early
 pub mod Quoted
 pub mod Spoken
 pub mod Runs

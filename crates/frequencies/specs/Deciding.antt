@@ -1,14 +1,13 @@
 -- What judging a file says: the verdict of reading it, and what filling needs of it. Assumes nothing.
-use Rattle.std.specs.Prelude.{ℕ, ◌≤◌, Bool, ◌&&◌, List, [], ◌∷◌, ◌≡◌, leb, length, take, drop, Result, Ok, Err}
+use Rattle.std.specs.Prelude.{ℕ, ◌≤◌, Bool, ◌&&◌, List, [], ◌∷◌, ◌≡◌, leb, length, take, drop, Result, Ok, Err, IfSome}
 use Rattle.std.specs.Result.{ForOk}
 use Rattle.paper.specs.Lists.{every}
 use Rattle.paper.specs.Checks.{Verdict, accepted, require}
 use Rattle.frequencies.specs.Csv.{Row, Rest, row_of, front, split}
 use Rattle.frequencies.specs.Values.{header_good}
 use Rattle.frequencies.specs.Reading.{columns_of, width_good, quotes_good, times_good, headway_good, exact_good, name_good, check_rows, header, window_rows, carried_by}
-use Rattle.frequencies.specs.Scan.{Scannable}
+use Rattle.frequencies.specs.Scan.{Scannable, rows_from}
 use Rattle.frequencies.specs.Heading.{columns_in}
-use Rattle.frequencies.specs.Filling.{rows_from}
 use Rattle.frequencies.specs.Judging.{by_line}
 use Rattle.tables.specs.declared.Refusal.{Refusal}
 use Rattle.frequencies.specs.declared.judge.Judged.{Judged}
@@ -45,8 +44,8 @@ module _ (bytes : List ℕ) (mark room : ℕ) where
   pub record BodyRead (j : Judgement) : Type 0 where
     pub columns : columns_in j.columns ≡ columns_of (row_of whole_at)
     pub end : j.end ≡ length bytes
-    pub rows : whole_at.rows ≡ rows_from bytes j.next j.line j.more
-    pub scannable : Scannable bytes j.next j.line
+    pub rows : whole_at.rows ≡ rows_from bytes j.next
+    pub here : IfSome j.next (λ p. Scannable bytes p.at p.line)
 
   pub record BodyJudged (r : Result Judgement Refusal) : Type 0 where
     pub answer : counted r ≡ carried_by (verdict_of (leb (length whole_at.rows) room) (row_of whole_at) whole_at.rows) (length whole_at.rows)
@@ -56,8 +55,8 @@ module _ (bytes : List ℕ) (mark room : ℕ) where
 pub record FileRead (bytes : List ℕ) (r : Judgement) : Type 0 where
   pub columns : columns_in r.columns ≡ columns_of (header bytes)
   pub end : r.end ≤ length bytes
-  pub rows : window_rows bytes ≡ rows_from (take r.end bytes) r.next r.line r.more
-  pub scannable : Scannable (take r.end bytes) r.next r.line
+  pub rows : window_rows bytes ≡ rows_from (take r.end bytes) r.next
+  pub here : IfSome r.next (λ p. Scannable (take r.end bytes) p.at p.line)
 
 pub record FileJudged (bytes : List ℕ) (room : ℕ) (r : Result Judgement Refusal) : Type 0 where
   pub answer : counted r ≡ carried_by (verdict_of (leb (length bytes) 2147483647 && leb (length (window_rows bytes)) room) (header bytes) (window_rows bytes)) (length (window_rows bytes))

@@ -6,6 +6,7 @@ ghost use Rattle.frequencies.specs.Lent.{lent_windows, AllLent, window_at, windo
 
 use crate::Windows;
 use crate::names::{name_size, put_name};
+use crate::parts::{Span, part};
 use crate::puts::{put, put_digits, put_time};
 use crate::sizes::{digits_size, time_size};
 
@@ -47,12 +48,17 @@ fn whole(v: i32) -> usize
 }
 
 // The bytes of a window's name.
-fn name_in<'a>(text: &'a [u8], window: Window) -> &'a [u8]
+fn name_in(text: &[u8], window: Window) -> &[u8]
     requires { CanSay text.now window }
     ensures { result.now ≡ take window.size (drop window.place text.now) }
 {
-    let from = window.place as usize;
-    &text[from..from + window.size as usize]
+    part(
+        text,
+        Span {
+            at: window.place as usize,
+            size: window.size as usize,
+        },
+    )
 }
 
 // How many bytes a window's line is, which is the same whatever exact_times is.

@@ -38,8 +38,6 @@ pub fn read_frequencies(
     fill_rows(
         &bytes[..end],
         judged.next,
-        judged.line,
-        judged.more,
         judged.columns,
         name_places,
         name_lengths,

@@ -6,6 +6,7 @@ ghost use Rattle.frequencies.specs.Judging.{LinesSmall};
 ghost use Rattle.frequencies.specs.Deciding.{Least, decided, BodyJudged, FileJudged};
 
 use crate::ends::{body_end, mark_length};
+use crate::fields::Place;
 use crate::header::read_header;
 use crate::judge::{Judged, first_bad, judge_rows};
 use crate::refusals::{none_fails, refused};
@@ -48,16 +49,14 @@ fn decide(good: bool, room: usize, j: Judged) -> Result<usize, Refusal>
     Ok(j.count)
 }
 
-// A file accepted: how many rows it has behind the header, the columns, where its rows end, where the first row behind the header begins and on which line, and
-// whether there is one.
+// A file accepted: how many rows it has behind the header, the columns, where its rows end, and where the first row behind the header
+// begins, if there is one.
 #[derive(Clone, Copy)]
 pub struct Judgement {
     pub count: usize,
     pub columns: Columns,
     pub end: usize,
-    pub next: usize,
-    pub line: usize,
-    pub more: bool,
+    pub next: Option<Place>,
 }
 
 // Judges the bytes of a file without the line ends at its end, from behind the byte order mark on.
@@ -76,8 +75,6 @@ fn judge_body(bytes: &[u8], mark: usize, room: usize) -> Result<Judgement, Refus
         exacts: None,
         names: None,
         next: h.next,
-        line: h.line,
-        more: h.more,
     };
     let j = judge_rows(bytes, columns, h.width, start);
     let count = decide(h.good, room, j)?;
@@ -86,8 +83,6 @@ fn judge_body(bytes: &[u8], mark: usize, room: usize) -> Result<Judgement, Refus
         columns,
         end: bytes.len(),
         next: h.next,
-        line: h.line,
-        more: h.more,
     })
 }
 

@@ -6,4 +6,4 @@ pub loop-b-preserved : goal.loop-b-preserved
 loop-b-preserved c =
     let s = c.args in
     rw c.one_if-lines.ensures
-    (quotes-next s.bytes.now s.at s.line c.loop-b.invariant (sym c.stays_in.ensures ∙ c.loop-b-test.true))
+    (quotes-next s.bytes.now s.from.at s.from.line c.loop-b.invariant (sym c.stays_in.ensures ∙ c.loop-b-test.true))

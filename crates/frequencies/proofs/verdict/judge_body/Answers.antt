@@ -1,6 +1,6 @@
 -- The header first, and then the rows behind it, of which nothing has been found yet (`body-judged`). Assumes nothing.
 use mathlib.Core.Path.{sym, ◌∙◌}
-use Rattle.frequencies.proofs.Early.{err-said}
+use Rattle.tables.proofs.Answered.{err-said}
 use Rattle.frequencies.proofs.Deciding.{body-started, body-refused, body-judged}
 use Rattle.frequencies.proofs.verdict.judge_body.Goals as goal
 

@@ -17,7 +17,7 @@ use Rattle.tables.proofs.Answered.{none_fails-stops, none_fails-passes}
 use Rattle.frequencies.specs.Puts.{AllSayable}
 use Rattle.frequencies.specs.Lent.{lent_windows, AllLent}
 use Rattle.frequencies.specs.declared.Windows.{Windows}
-use Rattle.frequencies.proofs.Early.{err-said}
+use Rattle.tables.proofs.Answered.{err-said}
 use Rattle.frequencies.proofs.Judging.{Lent, lent, file, verdict, rows_of, fit, double, times, headway, exact, name, room, from_five, from_six, from_seven, from_eight, from_nine, stops-1, past-1, sayable, no_room, has_room, all-counted, answers}
 use Rattle.frequencies.proofs.write.judge.Goals as goal
 

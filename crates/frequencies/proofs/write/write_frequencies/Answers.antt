@@ -8,7 +8,7 @@ use Rattle.paper.specs.Checks.{accepted, refused}
 use Rattle.tables.proofs.Answered.{accepted-is, accepted-as, refused-is}
 use Rattle.frequencies.specs.Lent.{lent_windows}
 use Rattle.frequencies.specs.declared.Windows.{Windows}
-use Rattle.frequencies.proofs.Early.{err-said}
+use Rattle.tables.proofs.Answered.{err-said}
 use Rattle.frequencies.proofs.Judging.{Lent, lent, file, verdict, passed, writing-meets, file-stands}
 use Rattle.frequencies.proofs.write.write_frequencies.Goals as goal
 
