@@ -3,8 +3,9 @@
 use Prim.Native.Nat.{ℕ, ◌+◌, ◌-◌, ◌≤◌, ◌<◌}
 use native.Mathlib.Nat.{le_refl, not-suc-le-zero}
 use native.Mathlib.Omega.{arith}
-use mathlib.Core.Bool.{Bool, true, false, cond, not, ◌&&◌, ◌||◌}
-use mathlib.Core.Path.{◌≡◌, refl, sym, ap, ap₂, ◌∙◌}
+use mathlib.Core.Bool.{Bool, true, false, cond, not, ◌&&◌, ◌||◌, and-true}
+use mathlib.Core.Path.{◌≡◌, refl, sym, ap, ap₂, subst, ◌∙◌}
+use borrow.Author.Tests.{eq-eqb, ne_eqb}
 use lib.Dec.{eqb, leb}
 use lib.IntN.{pos, nat_abs}
 use lib.ListN.{length, get_or, take, drop}
@@ -64,7 +65,7 @@ module _ (t : Tables) where
     from-within = let past = S.past in let end = fits in omega arith
 
     -- a LINEAR part is small; another one is 1 if the coefficients up to its end are
-    pub sifted-next : row < t.m → (k g : Bool) (first from' : ℕ) → k ≡ eqb (nat t.kinds row) 1 → first ≡ nat t.firsts row → g ≡ (not k || span from first)
+    sifted-next : row < t.m → (k g : Bool) (first from' : ℕ) → k ≡ eqb (nat t.kinds row) 1 → first ≡ nat t.firsts row → g ≡ (not k || span from first)
         → from' ≡ cond k (nat t.firsts row + nat t.counts row) from → Sifted (row + 1) (good && g) from'
     sifted-next l true g first from' p f q n = let at = begins l in let e = ends l in record {
       low = omega arith;
@@ -83,6 +84,15 @@ module _ (t : Tables) where
           all_more suits row (S.so (and_left good g y) (within from (total (take row t.counts) - from) (omega arith) (omega arith)))
           (rw (sym p) (within (nat t.firsts row) (nat t.counts row) (omega arith) (omega arith)));
     }
+
+    pub sifted-linear : row < t.m → nat t.kinds row ≡ 1 → (g : Bool) (first count good' from' : _) → good' ≡ (good && g) → from' ≡ first + count → first ≡ nat t.firsts row → count ≡ nat t.counts row
+        → g ≡ span from first → Sifted (row + 1) good' from'
+    sifted-linear l k g first count good' from' p q f c e =
+        subst (λ b. Sifted (row + 1) b from') (sym p) (sifted-next l true g first from' (sym (eq-eqb (nat t.kinds row) 1 k)) f e (q ∙ ap₂ ◌+◌ f c))
+
+    pub sifted-other : row < t.m → (nat t.kinds row ≡ 1 → ⊥) → (good' from' : _) → good' ≡ good → from' ≡ from → Sifted (row + 1) good' from'
+    sifted-other l k good' from' p q =
+        subst (λ b. Sifted (row + 1) b from') (and-true good ∙ sym p) (sifted-next l false true (nat t.firsts row) from' (sym (ne_eqb (nat t.kinds row) 1 k)) refl refl q)
 
     pub sifted-end : t.m ≤ row → (g : Bool) → g ≡ span from (length t.coefs) → ((good && g) && coefs_suit t) ≡ (good && g)
     sifted-end end g q = shows (good && g) (coefs_suit t) (λ y. below_all suits t.m (λ r l. S.so (and_left good g y) (rest y) r (omega arith)))

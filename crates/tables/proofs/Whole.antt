@@ -87,3 +87,10 @@ shows false b h = refl
 pub known-or : (a b : Bool) → (a ≡ true → b ≡ true) → (a || b) ≡ b
 known-or true b h = sym (h refl)
 known-or false b h = refl
+
+-- a test that is made only where another fails
+pub or-known : (a b v : Bool) → a ≡ true → v ≡ a → v ≡ (a || b)
+or-known a b v p q = q ∙ p ∙ sym (ap (◌|| b) p)
+
+pub or-looked : (a b v : Bool) → a ≡ false → v ≡ b → v ≡ (a || b)
+or-looked a b v p q = q ∙ sym (ap (◌|| b) p)

@@ -11,10 +11,7 @@ use crate::lent::Tables;
 fn kind_good(kind: u16) -> bool
     ensures { result ≡ between 1 kind 9 }
 {
-    match kind {
-        1..=9 => true,
-        _ => false,
-    }
+    matches!(kind, 1..=9)
 }
 
 // All m kind codes do. No code stops the loop.
@@ -23,8 +20,8 @@ fn kinds_good(tables: &Tables) -> bool
     ensures { result ≡ all_below (kind_good (lent_tables tables.now)) tables.now.m }
 {
     let mut good = true;
-    for row in 0..tables.m {
-        good = good & kind_good(tables.kinds[row]);
+    for &kind in &tables.kinds[..tables.m] {
+        good = good & kind_good(kind);
     }
     good
 }

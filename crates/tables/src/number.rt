@@ -22,8 +22,8 @@ fn all_small(part: &[i16]) -> bool
     ensures { result ≡ all_small part.now }
 {
     let mut good = true;
-    for i in 0..part.len() {
-        good = good & small(part[i]);
+    for &coef in part {
+        good = good & small(coef);
     }
     good
 }
@@ -33,23 +33,20 @@ fn all_one(part: &[i16]) -> bool
     ensures { result ≡ all_one part.now }
 {
     let mut good = true;
-    for i in 0..part.len() {
-        good = good & (part[i] == 1);
+    for &coef in part {
+        good = good & (coef == 1);
     }
     good
 }
 
-// A row of this kind may have these coefficients, which is known or looked up.
-fn coefs_good(known: bool, kind: u16, part: &[i16]) -> bool
-    ensures { result ≡ known || coefs_good kind part.now }
+// A row of this kind may have these coefficients.
+fn coefs_good(kind: u16, part: &[i16]) -> bool
+    ensures { result ≡ coefs_good kind part.now }
 {
-    if known {
-        return true;
+    if kind == 1 {
+        return all_small(part);
     }
-    match kind {
-        1 => all_small(part),
-        _ => all_one(part),
-    }
+    all_one(part)
 }
 
 // A row of this kind may have the parameter. 0 suits every kind, so that no test waits for another.
@@ -72,28 +69,6 @@ fn params_good(tables: &Tables) -> bool
     good
 }
 
-// The coefficients from one place to another are 1, if that is asked.
-fn ones_between(asked: bool, from: usize, end: usize, coefs: &[i16]) -> bool
-    requires { (from ≤ end) × (end ≤ length coefs.now) }
-    ensures { result ≡ (not asked || all_one (take (end - from) (drop from coefs.now))) }
-{
-    if !asked {
-        return true;
-    }
-    all_one(&coefs[from..end])
-}
-
-// Where the part of a LINEAR row ends; of another row, where the last LINEAR part before it did.
-fn linear_end(linear: bool, from: usize, row: usize, tables: &Tables) -> usize
-    requires { (row < length tables.now.firsts.now) × (row < length tables.now.counts.now) }
-    ensures { result ≡ cond linear (nat tables.now.firsts.now row + nat tables.now.counts.now row) from }
-{
-    if linear {
-        return wide(tables.firsts[row]) + wide(tables.counts[row]);
-    }
-    from
-}
-
 // The coefficients before, between and after the LINEAR parts are 1, each run of them looked at in one go. Where all coefficients are small and
 // the parts lie one behind the other, a yes shows that those of every row suit its kind.
 fn others_one(tables: &Tables) -> bool
@@ -104,11 +79,13 @@ fn others_one(tables: &Tables) -> bool
     let mut good = true;
     let mut from = 0;
     for row in 0..tables.m {
-        let linear = tables.kinds[row] == 1;
-        good = good & ones_between(linear, from, wide(tables.firsts[row]), tables.coefs);
-        from = linear_end(linear, from, row, tables);
+        if tables.kinds[row] == 1 {
+            let first = wide(tables.firsts[row]);
+            good = good & all_one(&tables.coefs[from..first]);
+            from = first + wide(tables.counts[row]);
+        }
     }
-    good & ones_between(true, from, tables.coefs.len(), tables.coefs)
+    good & all_one(&tables.coefs[from..])
 }
 
 // All coefficients looked at together show that those of every row suit its kind.
@@ -142,12 +119,12 @@ fn bad_number_by_row(tables: &Tables) -> Option<usize>
     ensures { result ≡ if_below tables.now.m (first_fail (number_good (lent_tables tables.now)) tables.now.m) }
 {
     let ones = all_one(tables.coefs);
-    let linear = coefs_good(ones, 1, tables.coefs);
+    let linear = ones || all_small(tables.coefs);
     for row in 0..tables.m {
         let kind = tables.kinds[row];
         let part = part_of(tables.firsts[row], tables.counts[row], tables.coefs);
         let known = ones | (linear & (kind == 1));
-        let good = coefs_good(known, kind, part) & param_good(kind, tables.params[row]);
+        let good = (known || coefs_good(kind, part)) & param_good(kind, tables.params[row]);
         if !good {
             return Some(row);
         }

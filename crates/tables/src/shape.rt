@@ -39,8 +39,8 @@ fn greatest_of(vars: &[u16]) -> u16
     ensures { result ≡ greatest vars.now }
 {
     let mut best: u16 = 0;
-    for i in 0..vars.len() {
-        best = best.max(vars[i]);
+    for &v in vars {
+        best = best.max(v);
     }
     best
 }
@@ -50,7 +50,7 @@ fn all_known(n: usize, count: usize, vars: &[u16]) -> bool
     requires { count ≤ length vars.now }
     ensures { result ≡ ltb (greatest (take count vars.now)) n }
 {
-    wide(greatest_of(&vars[0..count])) < n
+    wide(greatest_of(&vars[..count])) < n
 }
 
 // All m rows have as many inputs as suit their kinds. No row stops the loop.
@@ -142,8 +142,8 @@ pub fn total_of(tables: &Tables) -> usize
     ensures { result ≡ total (take tables.now.m tables.now.counts.now) }
 {
     let mut sum = 0;
-    for row in 0..tables.m {
-        sum += wide(tables.counts[row]);
+    for &count in &tables.counts[..tables.m] {
+        sum += wide(count);
     }
     sum
 }

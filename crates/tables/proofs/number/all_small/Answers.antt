@@ -5,7 +5,7 @@ use mathlib.Core.Path.{refl, ap, ◌∙◌}
 use lib.Dec.{leb}
 use lib.IntN.{pos, nat_abs}
 use lib.ListN.{drop, get_or}
-use borrow.Author.Rules.{sfits_of}
+use borrow.Author.Rules.{rules}
 use mir.Syntax.{w16}
 use mir.Val.{SFits}
 use mir.Facts.{to_z-of_z}
@@ -13,21 +13,15 @@ use Rattle.tables.specs.Rows.{all_small}
 use Rattle.tables.proofs.Whole.{fold_next, fold_end}
 use Rattle.tables.proofs.number.all_small.Goals as goal
 
-pub loop-i-init : goal.loop-i-init
-loop-i-init c = (refl, omega arith, refl)
+pub loop-coef-init : goal.loop-coef-init
+loop-coef-init c = refl
 
-pub loop-i-preserved : goal.loop-i-preserved
-loop-i-preserved c =
-    let a = c.args in let l = c.loop-i in
-    let fits : SFits w16 (get_or a.part.now l.i (pos 0)) = sfits_of c.small-arg-1.given in
-    let own = c.small-good.ensures ∙ ap (λ z. leb (nat_abs z) 1000) (to_z-of_z fits) in (
-      refl,
-      omega arith,
-      ap (λ b. (l.good && b) && all_small (drop (l.i + 1) a.part.now)) own
-          ∙ fold_next (λ z. leb (nat_abs z) 1000) a.part.now l.i l.good (pos 0) (omega arith) l.invariant.2,
-    )
+pub loop-coef-preserved : goal.loop-coef-preserved
+loop-coef-preserved c =
+    let part = c.args.part.now in let l = c.loop-coef in
+    let fits : SFits w16 (get_or part l.coef-index (pos 0)) = search rules in
+    ap (λ b. (l.good && b) && all_small (drop (l.coef-index + 1) part)) (c.small-good.ensures ∙ ap (λ z. leb (nat_abs z) 1000) (to_z-of_z fits))
+    ∙ fold_next (λ z. leb (nat_abs z) 1000) part l.coef-index l.good (pos 0) (omega arith) l.invariant
 
 pub returns : goal.returns
-returns c =
-    let a = c.args in let l = c.loop-i in
-    fold_end (λ z. leb (nat_abs z) 1000) a.part.now l.i l.good (omega arith) l.invariant.2
+returns c = fold_end (λ z. leb (nat_abs z) 1000) c.args.part.now c.loop-coef.coef-index c.loop-coef.good (omega arith) c.loop-coef.invariant
