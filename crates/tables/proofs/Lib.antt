@@ -1,5 +1,6 @@
 pub mod Tests
 pub mod Whole
+pub mod Positions
 pub mod Cut
 pub mod Shapes
 pub mod Placing

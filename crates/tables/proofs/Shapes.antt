@@ -3,15 +3,13 @@
 use Prim.Native.Nat.{ℕ, suc, ◌+◌, ◌-◌, ◌≤◌, ◌<◌}
 use native.Mathlib.Omega.{arith}
 use mathlib.Core.Logic.{◌≢◌}
-use mathlib.Core.Bool.{Bool, true, false, cond, not, ◌&&◌, and-true, and-false}
+use mathlib.Core.Bool.{Bool, true, false, ◌&&◌, and-true, and-false}
 use mathlib.Core.List.{List, [], ◌∷◌}
 use mathlib.Core.Path.{◌≡◌, refl, sym, ap, ap₂, ◌∙◌}
 use lib.Dec.{eqb, leb, ltb}
 use lib.ListN.{length, take}
 use lib.Seq.{length-take-le, get_or-take}
-use borrow.Author.Tests.{ltb-true, ltb-false, leb-true, leb-false, eqb-true, eqb-false, ne_eqb, lt-ltb, lt-leb, le-leb}
-use Rattle.std.specs.Prelude.{Option, Some, None, is_some}
-use Rattle.integers.specs.Below.{if_below}
+use borrow.Author.Tests.{ltb-true, leb-true, leb-false, eqb-true, eqb-false, ne_eqb, lt-ltb}
 use Rattle.paper.specs.Lists.{all, between, greatest, total, nat, first_fail, all_below}
 use Rattle.paper.specs.Tables.{Tables}
 use Rattle.paper.specs.Checks.{arity, shape_good}
@@ -70,17 +68,6 @@ all_first p l = go (leb (length l) (first_fail good (length l))) refl (all p l) 
     go false q true h = let low = leb-false (length l) (first_fail good (length l)) q in clash (all-at p l h (first_fail good (length l)) 0 low) (first_fail-fails good (length l) low)
     go false q false h = refl
     go true q a h = let high = leb-true (length l) (first_fail good (length l)) q in sym h ∙ all-each p l (λ i low. first_fail-before good (length l) i (omega arith))
-
--- no entry fails
-pub all-below-none : (n : ℕ) (l : List ℕ) (at : Option ℕ) → at ≡ if_below (length l) (first_fail (λ i. ltb (nat l i) n) (length l)) → not (is_some at) ≡ all (λ v. ltb v n) l
-all-below-none n l at e = ap (λ x. not (is_some x)) e ∙ go (ltb k (length l)) refl ∙ sym (all_first (λ v. ltb v n) l)
-  where
-    k : ℕ
-    k = first_fail (λ i. ltb (nat l i) n) (length l)
-
-    go : (b : Bool) → ltb k (length l) ≡ b → not (is_some (cond b (Some k) None)) ≡ leb (length l) k
-    go true q = let low = ltb-true k (length l) q in sym (lt-leb (length l) k low)
-    go false q = let high = ltb-false k (length l) q in sym (le-leb (length l) k (omega arith))
 
 -- the greatest decides
 all-greatest : (n : ℕ) (l : List ℕ) → greatest l < n → all (λ v. ltb v n) l ≡ true

@@ -34,10 +34,7 @@ pub fn first_bad_kind(tables: &Tables) -> Option<usize>
     if kinds_good(tables) {
         return None;
     }
-    for row in 0..tables.m {
-        if !kind_good(tables.kinds[row]) {
-            return Some(row);
-        }
-    }
-    None
+    tables.kinds[..tables.m]
+        .iter()
+        .position(|&kind| !kind_good(kind))
 }

@@ -26,12 +26,7 @@ pub fn first_unknown(n: usize, count: usize, vars: &[u16]) -> Option<usize>
     requires { count ≤ length vars.now }
     ensures { result ≡ if_below count (first_fail (λ i. ltb (nat vars.now i) n) count) }
 {
-    for i in 0..count {
-        if n <= wide(vars[i]) {
-            return Some(i);
-        }
-    }
-    None
+    vars[..count].iter().position(|&v| n <= wide(v))
 }
 
 // The greatest of these variables, 0 if there are none. No variable stops the loop, so that it takes several at a time.
@@ -91,7 +86,7 @@ fn row_good(n: usize, kind: u16, made: u16, count: u16) -> bool
 fn inputs_good(n: usize, part: &[u16]) -> bool
     ensures { result ≡ all (λ v. ltb v n) part.now }
 {
-    first_unknown(n, part.len(), part).is_none()
+    part.iter().all(|&v| wide(v) < n)
 }
 
 // The first row that has a variable not below n, a count that does not suit its kind, or a part that does not begin where those before it end

@@ -23,12 +23,12 @@ returns-then-not-good c =
     let t = lent_tables c.args.tables.now in let r = c.loop-row.row in
     let fits : SFits w32 (get_or t.params r (pos 0)) = search rules in
     let linear : c.if-ones.linear ≡ (c.all_one-ones.result || all_small t.coefs) = elim c.if-ones.branch [
-      then-ones w ↦ or-known _ _ _ w.if-ones.true w.linear-is
-    | else-ones w ↦ or-looked _ _ _ w.if-ones.false (w.linear-is ∙ w.all_small-linear.ensures)
+      | then-ones w ↦ or-known _ _ _ w.if-ones.true w.linear-is
+      | else-ones w ↦ or-looked _ _ _ w.if-ones.false (w.linear-is ∙ w.all_small-linear.ensures)
     ] in
     let suit : c.if-known.good ≡ ((c.all_one-ones.result || (c.if-ones.linear && eqb (nat t.kinds r) 1)) || coefs_good (nat t.kinds r) c.part_of-part.result.now) = elim c.if-known.branch [
-      then-known w ↦ or-known _ _ _ w.if-known.true w.good-is
-    | else-known w ↦ or-looked _ _ _ w.if-known.false (w.good-is ∙ w.coefs_good.ensures)
+      | then-known w ↦ or-known _ _ _ w.if-known.true w.good-is
+      | else-known w ↦ or-looked _ _ _ w.if-known.false (w.good-is ∙ w.coefs_good.ensures)
     ] in
     scan-some _ _ _ c.loop-row.invariant (omega arith)
     (sym (row-good t r _ _ _ _ _ c.all_one-ones.ensures linear c.part_of-part.ensures suit (c.param_good.ensures ∙ ap (param_good (nat t.kinds r)) (to_z-of_z fits))) ∙ c.if-not-good.true)
@@ -38,12 +38,12 @@ loop-row-preserved c =
     let t = lent_tables c.args.tables.now in let r = c.loop-row.row in
     let fits : SFits w32 (get_or t.params r (pos 0)) = search rules in
     let linear : c.if-ones.linear ≡ (c.all_one-ones.result || all_small t.coefs) = elim c.if-ones.branch [
-      then-ones w ↦ or-known _ _ _ w.if-ones.true w.linear-is
-    | else-ones w ↦ or-looked _ _ _ w.if-ones.false (w.linear-is ∙ w.all_small-linear.ensures)
+      | then-ones w ↦ or-known _ _ _ w.if-ones.true w.linear-is
+      | else-ones w ↦ or-looked _ _ _ w.if-ones.false (w.linear-is ∙ w.all_small-linear.ensures)
     ] in
     let suit : c.if-known.good ≡ ((c.all_one-ones.result || (c.if-ones.linear && eqb (nat t.kinds r) 1)) || coefs_good (nat t.kinds r) c.part_of-part.result.now) = elim c.if-known.branch [
-      then-known w ↦ or-known _ _ _ w.if-known.true w.good-is
-    | else-known w ↦ or-looked _ _ _ w.if-known.false (w.good-is ∙ w.coefs_good.ensures)
+      | then-known w ↦ or-known _ _ _ w.if-known.true w.good-is
+      | else-known w ↦ or-looked _ _ _ w.if-known.false (w.good-is ∙ w.coefs_good.ensures)
     ] in
     scan-next _ _ _ c.loop-row.invariant (omega arith)
     (sym (row-good t r _ _ _ _ _ c.all_one-ones.ensures linear c.part_of-part.ensures suit (c.param_good.ensures ∙ ap (param_good (nat t.kinds r)) (to_z-of_z fits))) ∙ c.if-not-good.false)

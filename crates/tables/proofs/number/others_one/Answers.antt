@@ -27,9 +27,9 @@ pub loop-row-preserved : goal.loop-row-preserved
 loop-row-preserved c =
     let t = lent_tables c.args.tables.now in
     elim c.if-tables-row-eq1.branch [
-      then-tables-row-eq1 w ↦ sifted-linear t c.requires.m_in_bounds.counts c.requires.coefs_value _ _ _ c.loop-row.invariant (omega arith) w.if-tables-row-eq1.true
+      | then-tables-row-eq1 w ↦ sifted-linear t c.requires.m_in_bounds.counts c.requires.coefs_value _ _ _ c.loop-row.invariant (omega arith) w.if-tables-row-eq1.true
           _ w.wide-first.result w.wide.result _ _ w.good-is w.from-is w.wide-first.ensures.0 w.wide.ensures.0 w.all_one-good.ensures
-    | else-tables-row-eq1 w ↦ sifted-other t c.requires.m_in_bounds.counts c.requires.coefs_value _ _ _ c.loop-row.invariant (omega arith) w.if-tables-row-eq1.false _ _ w.good-is w.from-is
+      | else-tables-row-eq1 w ↦ sifted-other t c.requires.m_in_bounds.counts c.requires.coefs_value _ _ _ c.loop-row.invariant (omega arith) w.if-tables-row-eq1.false _ _ w.good-is w.from-is
     ]
 
 pub returns : goal.returns
