@@ -16,6 +16,7 @@ use rows::copies::copy_values;
 use tables::lent::{Index, Tables};
 
 // The new value where the flag is set, else the old one.
+// Stays: a choice between two values, and not whether to store, leaves the loop over the rows without a branch (speed).
 fn pick(flag: u8, new: i32, old: i32) -> i32
     ensures { result ≡ cond (eqb flag 1) new old }
 {

@@ -30,6 +30,7 @@ fn look(v: usize, work: &[u16], tables: &Tables, values: &[i32], flags: &mut [u8
     let first = wide(tables.firsts[r]);
     let last = first + wide(tables.counts[r]);
     let mut i = first;
+    // Stays: the place looked at next need not be the one behind, so no `for` goes along them.
     while i < last {
         let u = wide(tables.vars[i]);
         look(u, work, tables, values, flags);

@@ -16,8 +16,8 @@ pub fn work_out(tables: &Tables, order: &[u16], values: &mut [i32])
     requires room { tables.now.n ≤ length values.old }
     ensures { values.new ≡ over tables.now.n (afresh (net (lent_tables tables.now)) (values_in (lent_tables tables.now) values.old) tables.now.n) values.old }
 {
-    for j in 0..tables.m {
-        let r = wide(order[j]);
+    for &row in &order[..tables.m] {
+        let r = wide(row);
         let v = wide(tables.makes[r]);
         values[v] = row_value(r, tables, values);
     }

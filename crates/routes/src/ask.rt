@@ -49,6 +49,7 @@ fn value_of_row(
     let first = wide(tables.firsts[r]);
     let last = first + wide(tables.counts[r]);
     let mut i = first;
+    // Stays: the place asked next need not be the one behind, so no `for` goes along them.
     while i < last {
         let u = wide(tables.vars[i]);
         if waits(u, work, flags) {

@@ -25,6 +25,7 @@ fn flag_readers(v: usize, makes: &[u16], index: &Index, flags: &mut [u8])
 }
 
 // Flags what the readers of each variable that moved make.
+// Stays: no plainer as one with `mark_moved`, which would be handed the walk as a closure over the row and what it promises as laws.
 fn flag_moved(
     moves: &[u16],
     makes: &[u16],
@@ -86,7 +87,7 @@ pub fn input_to_output(
     ensures { Routed (lent_tables tables.now) input-to-output stored.now trial.old flags.old [] trial.new flags.new }
 {
     flag_moved(moves, tables.makes, index, stored, trial, flags);
-    for j in 0..tables.m {
-        turn(wide(order[j]), tables, index, stored, trial, flags);
+    for &row in &order[..tables.m] {
+        turn(wide(row), tables, index, stored, trial, flags);
     }
 }
