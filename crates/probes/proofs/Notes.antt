@@ -15,7 +15,7 @@ use Rattle.paper.proofs.Count.{size-add, size-le}
 use Rattle.paper.specs.Net.{differs}
 use Rattle.rows.specs.Changes.{values_of}
 use Rattle.routes.proofs.Passing.{Passed, passed-yes, passed-no}
-use Rattle.closed_routes.proofs.Walks.{walked-reached}
+use Rattle.routes.proofs.Marking.{walked-reached}
 use Rattle.probes.specs.Touched.{Listed, Noted, WalkedIf}
 use Rattle.probes.specs.Rest.{Unmarked}
 

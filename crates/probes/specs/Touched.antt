@@ -1,7 +1,7 @@
 -- What the walk along the readers has touched, as a list. Assumes nothing.
 use Rattle.std.specs.Prelude.{ℕ, ◌≤◌, ◌<◌, Bool, true, false, cond, List, ◌≡◌, eqb, length}
 use Rattle.paper.specs.Lists.{nat, size}
-use Rattle.closed_routes.specs.Walk.{Walked}
+use Rattle.routes.specs.Walk.{Walked}
 
 -- u stands at one of the places from i to the end of the list
 pub record Listed (touched : List ℕ) (i count u : ℕ) : Type 0 where
