@@ -6,13 +6,10 @@ ghost use Rattle.frequencies.specs.Scan.{Scannable, headed_by, goes_on, stays_in
 use formulas::inputs::one_if;
 
 // Whether byte x stands at place i.
-fn stands(bytes: &[u8], i: usize, x: u8) -> bool
+pub fn stands(bytes: &[u8], i: usize, x: u8) -> bool
     ensures { result ≡ headed_by x (drop i bytes.now) }
 {
-    if bytes.len() <= i {
-        return false;
-    }
-    x == bytes[i]
+    i < bytes.len() && x == bytes[i]
 }
 
 // Whether the byte at place i is one of a field without quotes. Most are greater than a comma, and no other byte that ends a field is.

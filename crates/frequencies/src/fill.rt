@@ -12,23 +12,12 @@ use crate::parts::{Span, part};
 use crate::rows::{Columns, RowScan, scan_row};
 use crate::values::{exact_of, headway_of, time_of};
 
-// Whether a quote is among these bytes.
-fn has_quote(bytes: &[u8]) -> bool
-    ensures { result ≡ any is_quote bytes.now }
-{
-    let mut found = false;
-    for &byte in bytes {
-        found = found | (b'"' == byte);
-    }
-    found
-}
-
 // 1 if a quote is among the bytes of a part, and otherwise 0.
 fn doubled_at(bytes: &[u8], span: Span) -> u8
     requires { span.at + span.size ≤ length bytes.now }
     ensures { result ≡ cond (any is_quote (take span.size (drop span.at bytes.now))) 1 0 }
 {
-    u8::from(has_quote(part(bytes, span)))
+    u8::from(part(bytes, span).contains(&b'"'))
 }
 
 // Puts the window of a scanned row, which begins on this line, at place i.

@@ -104,23 +104,20 @@ pub fn headway_of(bytes: &[u8]) -> i32
 pub fn exact_of(bytes: &[u8]) -> u8
     ensures { result ≡ specs.exact bytes.now }
 {
-    let size = bytes.len();
-    if size == 0 {
-        return 0;
+    match bytes {
+        [] => 0,
+        [byte] => zero_or_one(*byte),
+        _ => 2,
     }
-    if size > 1 {
-        return 2;
-    }
-    zero_or_one(bytes[0])
 }
 
 // What the one byte of exact_times says.
-fn zero_or_one(b: u8) -> u8
-    ensures { result ≡ specs.exact (b ∷ []) }
+fn zero_or_one(byte: u8) -> u8
+    ensures { result ≡ specs.exact (byte ∷ []) }
 {
-    if b == 48 {
+    if byte == b'0' {
         0
-    } else if b == 49 {
+    } else if byte == b'1' {
         1
     } else {
         2
@@ -138,13 +135,5 @@ pub fn both(a: bool, b: bool) -> bool
 pub fn same(a: &[u8], b: &[u8]) -> bool
     ensures { result ≡ specs.same a.now b.now }
 {
-    if a.len() != b.len() {
-        return false;
-    }
-    for i in 0..a.len() {
-        if a[i] != b[i] {
-            return false;
-        }
-    }
-    true
+    a == b
 }
