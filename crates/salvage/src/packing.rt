@@ -2,5 +2,5 @@
 mod copy;
 mod number;
 
-pub use copy::{pack, pack_coefs, pack_shape, pack_signed};
+pub use copy::{pack, pack_parts, pack_shape};
 pub use number::drop_rows;

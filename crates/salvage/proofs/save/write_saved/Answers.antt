@@ -2,8 +2,8 @@
 use native.Mathlib.Omega.{arith}
 use mathlib.Core.Bool.{false}
 use mathlib.Core.Path.{refl}
-use lib.ListN.{get_or, length}
-use Rattle.paper.specs.Tables.{lent}
+use lib.ListN.{get_or}
+use Rattle.tables.specs.Lent.{lent_tables}
 use Rattle.damage.specs.Flags.{flag_wanted}
 use Rattle.damage.proofs.Stored.{those-most}
 use Rattle.salvage.proofs.Outcome.{ready-sized, ready-few, ready-short, ready-done}
@@ -12,38 +12,44 @@ use Rattle.salvage.proofs.save.write_saved.Goals as goal
 pub overflow_mul-length-2 : goal.overflow_mul-length-2
 overflow_mul-length-2 c =
     let a = c.args in
-    let t = lent a.n (length a.makes.now) (length a.vars.now) a.kinds.now a.makes.now a.params.now a.firsts.now a.counts.now a.vars.now a.coefs.now in
+    let t = lent_tables a.tables.now in
+    let h = ready-sized _ _ t _ _ _ c.requires.ready in omega arith
+
+pub overflow_mul-length-3 : goal.overflow_mul-length-3
+overflow_mul-length-3 c =
+    let a = c.args in
+    let t = lent_tables a.tables.now in
     let h = ready-sized _ _ t _ _ _ c.requires.ready in omega arith
 
 pub overflow_add-length-2 : goal.overflow_add-length-2
 overflow_add-length-2 c =
     let a = c.args in
-    let t = lent a.n (length a.makes.now) (length a.vars.now) a.kinds.now a.makes.now a.params.now a.firsts.now a.counts.now a.vars.now a.coefs.now in
+    let t = lent_tables a.tables.now in
     let h = ready-sized _ _ t _ _ _ c.requires.ready in omega arith
 
 pub overflow_add-length-3 : goal.overflow_add-length-3
 overflow_add-length-3 c =
     let a = c.args in
-    let t = lent a.n (length a.makes.now) (length a.vars.now) a.kinds.now a.makes.now a.params.now a.firsts.now a.counts.now a.vars.now a.coefs.now in
+    let t = lent_tables a.tables.now in
     let h = ready-sized _ _ t _ _ _ c.requires.ready in omega arith
 
 pub overflow_add-fits : goal.overflow_add-fits
 overflow_add-fits c =
     let a = c.args in
-    let t = lent a.n (length a.makes.now) (length a.vars.now) a.kinds.now a.makes.now a.params.now a.firsts.now a.counts.now a.vars.now a.coefs.now in
+    let t = lent_tables a.tables.now in
     let h = ready-sized _ _ t _ _ _ c.requires.ready in let f = ready-few _ _ t _ _ _ c.requires.ready in
     let p = c.count_flagged-rows.ensures in let q = c.count_flagged-values.ensures in
-    omega (arith, those-most (λ i. flag_wanted false (get_or a.row.now i false)) a.m, those-most (λ i. flag_wanted false (get_or a.taken.now i false)) a.n)
+    omega (arith, those-most (λ i. flag_wanted false (get_or a.row.now i false)) a.m, those-most (λ i. flag_wanted false (get_or a.taken.now i false)) a.tables.now.n)
 
 pub returns-then-not-fits : goal.returns-then-not-fits
 returns-then-not-fits c =
     let a = c.args in
-    let t = lent a.n (length a.makes.now) (length a.vars.now) a.kinds.now a.makes.now a.params.now a.firsts.now a.counts.now a.vars.now a.coefs.now in
-    ready-short _ _ t _ _ _ c.requires.ready a.file.now a.list.now refl c.count_flagged-rows.ensures c.count_flagged-values.ensures c.if-not-fits.true
+    let t = lent_tables a.tables.now in
+    rw c.refused.ensures (ready-short _ _ t _ _ _ c.requires.ready a.file.now a.list.now refl c.count_flagged-rows.ensures c.count_flagged-values.ensures c.if-not-fits.true)
 
 pub returns : goal.returns
 returns c =
     let a = c.args in
-    let t = lent a.n (length a.makes.now) (length a.vars.now) a.kinds.now a.makes.now a.params.now a.firsts.now a.counts.now a.vars.now a.coefs.now in
+    let t = lent_tables a.tables.now in
     ready-done _ _ t _ _ _ c.requires.ready a.file.now a.list.now refl c.count_flagged-rows.ensures c.count_flagged-values.ensures c.if-not-fits.false
     c.list_unset.ensures c.write.ensures
