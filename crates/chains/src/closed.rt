@@ -32,12 +32,9 @@ fn level_candidate(r: usize, tables: &Tables, numbers: &[u16]) -> bool
     let number = numbers[wide(tables.makes[r])];
     let first = wide(tables.firsts[r]);
     let stop = first + wide(tables.counts[r]);
-    for &i in &tables.vars[first + 1..stop] {
-        if number <= numbers[wide(i)] {
-            return true;
-        }
-    }
-    false
+    tables.vars[first + 1..stop]
+        .iter()
+        .any(|&i| number <= numbers[wide(i)])
 }
 
 // Whether some chain of inputs closes. Where no row is ELEMENT none does.
@@ -46,13 +43,5 @@ pub fn some_closes(tables: &Tables, numbers: &[u16]) -> bool
     requires right { Grouped (kinded_lent tables.now) numbers.now }
     ensures { result ≡ closes (kinded_lent tables.now) }
 {
-    if !some_element(tables) {
-        return false;
-    }
-    for r in 0..tables.m {
-        if level_candidate(r, tables, numbers) {
-            return true;
-        }
-    }
-    false
+    some_element(tables) && (0..tables.m).any(|r| level_candidate(r, tables, numbers))
 }

@@ -15,12 +15,7 @@ fn leads_back(v: usize, links: &Links, marks: &[u16; 4096]) -> bool
     ensures { result ≡ leads_back (links_of links.now) marks.now v }
 {
     let mark = marks[v];
-    for i in wide(links.begins[v])..wide(links.stops[v]) {
-        if mark == marks[wide(links.vars[i])] {
-            return true;
-        }
-    }
-    false
+    (wide(links.begins[v])..wide(links.stops[v])).any(|i| mark == marks[wide(links.vars[i])])
 }
 
 // The least variable with a link to its own mark, if there is one.
@@ -28,10 +23,5 @@ pub fn first_back(links: &Links, marks: &[u16; 4096]) -> Option<usize>
     requires laid { Laid links.now }
     ensures { result ≡ if_below links.now.n (first_fail (λ v. not (leads_back (links_of links.now) marks.now v)) links.now.n) }
 {
-    for v in 0..links.n {
-        if leads_back(v, links, marks) {
-            return Some(v);
-        }
-    }
-    None
+    (0..links.n).find(|&v| leads_back(v, links, marks))
 }

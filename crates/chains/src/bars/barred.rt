@@ -45,10 +45,5 @@ pub fn first_barred(n: usize, marks: &[u16; 4096], barred: &[bool; 65536]) -> Op
     requires { n ≤ 4096 }
     ensures { result ≡ if_below n (first_fail (λ v. not (get_or barred.now (nat marks.now v) false)) n) }
 {
-    for v in 0..n {
-        if barred[wide(marks[v])] {
-            return Some(v);
-        }
-    }
-    None
+    marks[..n].iter().position(|&mark| barred[wide(mark)])
 }

@@ -25,7 +25,7 @@ fn groups_right(tables: &Tables, by: &[u16], numbers: &[u16], order: &[u16]) -> 
     let mut rows = [0u16; 4096];
     let barred = find_shared(tables, by, &mut shared);
     write_shared_order(tables, &shared, &mut rows);
-    barred.is_none() & ((numbers[..n] == shared[..n]) & (order[..m] == rows[..m]))
+    barred.is_none() && numbers[..n] == shared[..n] && order[..m] == rows[..m]
 }
 
 // Check 8 of numbers and order: if it is passed, whether some chain closes. Where none does numbers and order themselves show that they are right, `due`
@@ -46,8 +46,5 @@ pub fn shared_right(
     if numbered_right(tables, by, numbers, order, due) {
         return Some(false);
     }
-    if groups_right(tables, by, numbers, order) {
-        return Some(true);
-    }
-    None
+    groups_right(tables, by, numbers, order).then_some(true)
 }
