@@ -3,7 +3,7 @@ use Prim.Native.Nat.{ℕ, ◌+◌, ◌≤◌, ◌<◌}
 use native.Mathlib.Nat.{le_refl, lt_irrefl}
 use native.Mathlib.Omega.{arith}
 use mathlib.Core.Bool.{Bool, true, false, cond, not, ◌||◌, or-false, or_assoc}
-use mathlib.Core.List.{List, ◌∷◌}
+use mathlib.Core.List.{List, [], ◌∷◌, map}
 use mathlib.Core.Path.{◌≡◌, refl, ap, ap₂, sym, ◌∙◌, subst, fun_ext}
 use borrow.Author.Tests.{ltb-true, ltb-false, le-leb, lt-leb, eqb-true, eqb-false}
 use lib.Dec.{eqb, ltb, leb}
@@ -66,6 +66,16 @@ module _ {p : ℤ → Bool} {xs : List ℤ} {first : ℕ} where
 -- a comparison of bits, as a test of the definition
 pub same_bits : (x z : ℤ) → SFits w32 x → SFits w32 z → eqb (of_z w32 x) (of_z w32 z) ≡ eq_z x (to_z w32 (of_z w32 z))
 same_bits x z f g = eqb-bits w32 x z f g ∙ ap (eq_z x) (sym (to_z-of_z g))
+
+-- what is said of each of the four that an array holds
+pub map-four : {A : Type 0} {a b c d : A} (f : ℤ → A) (four : List ℤ) → length four ≡ 4 → a ≡ f (get_or four 0 (pos 0)) → b ≡ f (get_or four 1 (pos 0))
+    → c ≡ f (get_or four 2 (pos 0)) → d ≡ f (get_or four 3 (pos 0)) → (a ∷ b ∷ c ∷ d ∷ []) ≡ map f four
+map-four f [] e p q r s = absurd (omega arith)
+map-four f (w ∷ []) e p q r s = absurd (omega arith)
+map-four f (w ∷ x ∷ []) e p q r s = absurd (omega arith)
+map-four f (w ∷ x ∷ y ∷ []) e p q r s = absurd (omega arith)
+map-four f (w ∷ x ∷ y ∷ z ∷ []) e p q r s = simp (p, q, r, s)
+map-four f (w ∷ x ∷ y ∷ z ∷ v ∷ l) e p q r s = absurd (omega arith)
 
 -- ── what the other places decide ──
 eq_z-back : (a b : ℤ) → eq_z a b ≡ eq_z b a

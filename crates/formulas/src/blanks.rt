@@ -5,7 +5,7 @@ ghost use Rattle.paper.specs.Formula.{blank, fit};
 ghost use Rattle.paper.specs.Calls.{blanks_among};
 
 // No value.
-pub const BLANK: i32 = -2147483648;
+pub const BLANK: i32 = i32::MIN;
 
 // Whether a value is blank.
 pub fn is_blank(value: i32) -> bool
@@ -19,9 +19,9 @@ pub fn blanks_among(n: usize, values: &[i32]) -> u32
     requires { (n ≤ length values.now) × (n ≤ 4096) }
     ensures { result ≡ blanks_among n (λ v. get_or values.now v (pos 0)) }
 {
-    let mut count: u32 = 0;
-    for v in 0..n {
-        if is_blank(values[v]) {
+    let mut count = 0;
+    for &value in &values[..n] {
+        if is_blank(value) {
             count += 1;
         }
     }
@@ -32,10 +32,7 @@ pub fn blanks_among(n: usize, values: &[i32]) -> u32
 pub fn fitted(exact: i64) -> i32
     ensures { result ≡ fit exact }
 {
-    if exact < -2147483647 {
-        return BLANK;
-    }
-    if exact <= 2147483647 {
+    if -2147483647 <= exact && exact <= 2147483647 {
         exact as i32
     } else {
         BLANK
