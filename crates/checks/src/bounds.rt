@@ -10,9 +10,9 @@ ghost use Rattle.checks.specs.Allowed.{BoundsLong, bound_of};
 use tables::lent::Bounds;
 
 // The full range.
-pub const LOWEST: i32 = -2147483647;
+pub const LOWEST: i32 = -i32::MAX;
 
-pub const HIGHEST: i32 = 2147483647;
+pub const HIGHEST: i32 = i32::MAX;
 
 // A value lies from the lowest to the highest.
 pub fn between(low: i32, value: i32, high: i32) -> bool

@@ -46,12 +46,9 @@ pub fn first_blank(mv: &Move) -> Option<usize>
     requires { mv.now.pairs ≤ length mv.now.values.now }
     ensures { result ≡ if_below mv.now.pairs (first_fail (has_value (lent_move mv.now)) mv.now.pairs) }
 {
-    for pair in 0..mv.pairs {
-        if is_blank(mv.values[pair]) {
-            return Some(pair);
-        }
-    }
-    None
+    mv.values[..mv.pairs]
+        .iter()
+        .position(|&value| is_blank(value))
 }
 
 // The first pair whose new value lies outside its variable's bounds.

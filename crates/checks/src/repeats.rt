@@ -12,11 +12,10 @@ fn named_before(seen: &[bool], vars: &[u16], i: usize) -> bool
     requires { i < length vars.now }
     ensures { result ≡ named_before seen.now vars.now i }
 {
-    let v = wide(vars[i]);
-    if v < seen.len() {
-        return seen[v];
+    match seen.get(wide(vars[i])) {
+        Some(&marked) => marked,
+        None => vars[..i].contains(&vars[i]),
     }
-    vars[..i].contains(&vars[i])
 }
 
 // Marks the variable, unless it is too great to have a mark.
@@ -24,10 +23,9 @@ pub fn mark(v: u16, seen: &mut [bool])
     ensures { seen.new ≡ set seen.old v true }
 {
     let at = wide(v);
-    if seen.len() <= at {
-        return;
+    if at < seen.len() {
+        seen[at] = true;
     }
-    seen[at] = true;
 }
 
 // The first of m places that names what an earlier one names, by marks: one look at a place, but a row of marks to clear.
