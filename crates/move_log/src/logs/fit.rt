@@ -39,10 +39,5 @@ pub fn log_good(n: usize, by: &[u16], bounds: &Bounds, kept: u32, log: &Log) -> 
     if (kept as usize) < held {
         return false;
     }
-    for k in 0..held {
-        if !logged_good(n, by, bounds, log, k) {
-            return false;
-        }
-    }
-    true
+    (0..held).all(|k| logged_good(n, by, bounds, log, k))
 }

@@ -1,10 +1,12 @@
 -- It holds no more moves than it may, and each is good. Assumes nothing.
 use native.Mathlib.Omega.{arith}
-use mathlib.Core.Path.{sym, ◌∙◌}
-use Rattle.paper.proofs.Scan.{scan-start, scan-next}
+use mathlib.Core.Bool.{true, false}
+use borrow.Author.Rules.{rules}
+use borrow.Author.Tests.{tests}
+use Rattle.std.proofs.lemmas.Iterator.{cases_from_all, YieldsList-from_range}
 use Rattle.tables.specs.Lent.{lent_bounds, lent_log}
 use Rattle.move_log.proofs.Room.{log-long}
-use Rattle.move_log.proofs.Good.{log-many, log-more, log-bad, log-all}
+use Rattle.move_log.proofs.Good.{log-many, log-more, Says, log-told}
 use Rattle.move_log.proofs.logs.fit.log_good.Goals as goal
 
 pub bounds-log-0 : goal.bounds-log-0
@@ -18,24 +20,9 @@ returns-then-kept-held c = record {
   of = λ t e q. log-more (lent_log c.args.log.now) t (lent_bounds c.args.bounds.now) _ (omega (arith, c.wide-held.ensures.0)) (omega (arith, c.wide-held.ensures.0));
 }
 
-pub loop-k-init : goal.loop-k-init
-loop-k-init c = record { of = λ t e q. scan-start _ _ }
-
-pub returns-then-not-logged_good : goal.returns-then-not-logged_good
-returns-then-not-logged_good c =
-    let w = c.wide-held.ensures.0 in record {
-      of = λ t e q.
-          log-bad (lent_log c.args.log.now) t (lent_bounds c.args.bounds.now) _ (omega arith) (omega arith) c.loop-k.k (c.loop-k.invariant.of t e q) (omega arith)
-          (sym (c.logged_good.ensures.of t e q) ∙ c.if-not-logged_good.true);
-    }
-
-pub loop-k-preserved : goal.loop-k-preserved
-loop-k-preserved c =
-    let w = c.wide-held.ensures.0 in
-    record { of = λ t e q. scan-next _ _ c.loop-k.k (c.loop-k.invariant.of t e q) (omega arith) (sym (c.logged_good.ensures.of t e q) ∙ c.if-not-logged_good.false) }
-
 pub returns : goal.returns
 returns c =
-    let w = c.wide-held.ensures.0 in record {
-      of = λ t e q. log-all (lent_log c.args.log.now) t (lent_bounds c.args.bounds.now) _ (omega arith) (omega arith) c.loop-k.k (c.loop-k.invariant.of t e q) (omega arith);
-    }
+    let a = c.args in let l = lent_log a.log.now in let bs = lent_bounds a.bounds.now in let held = c.wide-held.result in let w = c.wide-held.ensures.0 in
+    log-told l bs a.kept a.n a.by.now held w (omega arith) (omega arith) _
+    (cases_from_all _ _ _ (Says l bs a.kept a.n a.by.now true) (Says l bs a.kept a.n a.by.now false) c.all.ensures.ran (YieldsList-from_range 0 held held (cc) (omega arith))
+    (λ x q k. search (rules, tests)) (λ x q k. search (rules, tests)))
