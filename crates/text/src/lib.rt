@@ -10,7 +10,7 @@ ghost use Rattle.io.specs.Counts.{IsPrefixLen};
 ghost use Rattle.text.specs.Buffer.{Put, Shows};
 ghost use Rattle.text.specs.Lines as Lines;
 
-use crate::buffers::{least, put, put_all};
+use crate::buffers::{put, put_all};
 use crate::numbers::put_decimal;
 use crate::reasons::{put_field, reason_at};
 
@@ -45,7 +45,7 @@ fn put_lines(
 ) -> usize
     ensures { Put (Lines.lines reasons n numbers.now values.now row.now) out.old 0 out.new result }
 {
-    let count = least(n, least(numbers.len(), values.len()));
+    let count = n.min(numbers.len().min(values.len()));
     let mut at = 0;
     for v in 0..count {
         at = put_line(

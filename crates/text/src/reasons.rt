@@ -12,7 +12,7 @@ use formulas::blanks::is_blank;
 pub fn reason_at(row: &[u8], v: usize) -> u8
     ensures { result ≡ nat row.now v }
 {
-    if v < row.len() { row[v] } else { 0 }
+    row.get(v).copied().unwrap_or(0)
 }
 
 // Puts a value, or `blank:` followed by the reason if it is blank.
