@@ -1,4 +1,5 @@
 pub mod Judging
+pub mod Handed
 pub mod Scratch
 pub mod Low
 pub mod Laid

@@ -8,7 +8,7 @@ pub returns : goal.returns
 returns c =
     let a = c.args in
     ap (λ (x : Bool). joined x (
-    leb a.asked 32 ∷ leb a.asked (length a.asked_vars.now) ∷ leb a.asked (length a.results.now) ∷ leb a.n (length a.trial.now)
-    ∷ leb a.n (length a.flags.now) ∷ leb a.asked (length a.why.now) ∷ []))
+    leb a.asked.now.count 32 ∷ leb a.asked.now.count (length a.asked.now.vars.now) ∷ leb a.asked.now.count (length a.results.now) ∷ leb a.n (length a.trial.now)
+    ∷ leb a.n (length a.flags.now) ∷ leb a.asked.now.count (length a.why.now) ∷ []))
     c.move_sizes.ensures
     ∙ joined-every _ _
