@@ -4,8 +4,8 @@ use Rattle.build.proofs.building.build_core.Goals as goal
 
 pub build_over-requires : goal.build_over-requires
 build_over-requires c =
-    let clean = clean-new c.args.n 256 c.if-n-le256.true in
+    let clean = clean-new c.args.tables.now.n 256 c.if-tables-le256.true in
     record { makers = λ _. clean.long; numbers = λ _. clean }
 
 pub build_over-requires-2 : goal.build_over-requires-2
-build_over-requires-2 c = record { makers = λ few. (clean-new c.args.n 4096 few).long; numbers = λ few. clean-new c.args.n 4096 few }
+build_over-requires-2 c = record { makers = λ few. (clean-new c.args.tables.now.n 4096 few).long; numbers = λ few. clean-new c.args.tables.now.n 4096 few }
