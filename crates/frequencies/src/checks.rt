@@ -85,12 +85,9 @@ pub(crate) fn first_bad_headway(windows: &Windows) -> Option<usize>
     requires { AllLent windows.now }
     ensures { result ≡ if_below windows.now.count (first_fail (headway_good_at windows.now.count [] (lent_windows windows.now)) windows.now.count) }
 {
-    for i in 0..windows.count {
-        if !headway_good(windows.headways[i]) {
-            return Some(i);
-        }
-    }
-    None
+    windows.headways[..windows.count]
+        .iter()
+        .position(|&headway| !headway_good(headway))
 }
 
 // The first window with an exact_times that is neither 0 nor 1.
@@ -98,12 +95,9 @@ pub(crate) fn first_bad_exact(windows: &Windows) -> Option<usize>
     requires { AllLent windows.now }
     ensures { result ≡ if_below windows.now.count (first_fail (exact_good_at windows.now.count [] (lent_windows windows.now)) windows.now.count) }
 {
-    for i in 0..windows.count {
-        if 1 < windows.exacts[i] {
-            return Some(i);
-        }
-    }
-    None
+    windows.exacts[..windows.count]
+        .iter()
+        .position(|&exact| 1 < exact)
 }
 
 // The name has a byte, and stands among the lent ones.
