@@ -15,7 +15,7 @@ fn some_element(tables: &Tables) -> bool
 {
     let mut some = false;
     for &kind in &tables.kinds[..tables.m] {
-        some = some | (kind == 4);
+        some |= kind == 4;
     }
     some
 }

@@ -9,6 +9,7 @@ use rows::steps::next_place;
 use tables::lent::Tables;
 
 // The state of v after its visit: 2 if its value stands, or 1 if it waits for itself or for one that does.
+// Stays: the states are numbers, since the contract says of the row of states, which other crates read, that it holds 2 where a value stands.
 pub fn visit(
     v: usize,
     tables: &Tables,
@@ -36,6 +37,7 @@ pub fn visit(
     let first = wide(tables.firsts[r]);
     let last = first + wide(tables.counts[r]);
     let mut i = first;
+    // Stays: the next place jumps, over the candidates that are not chosen.
     while i < last {
         let u = wide(tables.vars[i]);
         if visit(u, tables, by, values, states) == 1 {

@@ -34,9 +34,7 @@ pub fn bar_groups(
     ensures { BarredFlags (back_in kinds.now by.now links.now marks.now) marks.now links.now.n barred.new }
 {
     for v in 0..links.n {
-        let mark = wide(marks[v]);
-        let back = index_back(v, kinds, by, links, marks);
-        barred[mark] = barred[mark] | back;
+        barred[wide(marks[v])] |= index_back(v, kinds, by, links, marks);
     }
 }
 

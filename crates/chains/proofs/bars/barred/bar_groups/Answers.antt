@@ -5,7 +5,7 @@ use Rattle.chains.proofs.bars.barred.bar_groups.Goals as goal
 
 pub loop-v-preserved : goal.loop-v-preserved
 loop-v-preserved c =
-    let w = c.wide-mark.ensures in barred-next _ _ _ _ _ _ c.loop-v.invariant w.0 w.1 c.index_back-back.ensures
+    let w = c.wide.ensures in barred-next _ _ _ _ _ _ c.loop-v.invariant w.0 w.1 c.index_back.ensures
 
 pub returns : goal.returns
 returns c =
