@@ -1,19 +1,5 @@
-// Numbers without a sign: the larger and the smaller of two, and the number of moves kept, which goes up and down by one below a ceiling where it stays.
-ghost use Rattle.std.specs.Prelude.{◌≡◌, cond, suc, pred, min, max, ltb};
-
-// The larger of the two.
-pub fn larger(a: usize, b: usize) -> usize
-    ensures { result ≡ max a b }
-{
-    a.max(b)
-}
-
-// The smaller of the two.
-pub fn smaller(a: usize, b: usize) -> usize
-    ensures { result ≡ min a b }
-{
-    a.min(b)
-}
+// The number of moves kept, which goes up and down by one below a ceiling where it stays.
+ghost use Rattle.std.specs.Prelude.{◌≡◌, cond, suc, pred, min, ltb};
 
 // The number of moves kept, with one more; the greatest number stays.
 pub fn kept_once_more(kept: u32) -> u32
