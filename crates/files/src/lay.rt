@@ -49,6 +49,7 @@ fn judge_reading(
 }
 
 // Lays the model that a file holds over the lent rows.
+// Stays: the rows are written, and of a struct of rows lent to be written a clause has no names for what they hold at exit.
 pub fn read_as(
     version: Version,
     bytes: &[u8],

@@ -56,6 +56,7 @@ pub fn write_bounded(
 }
 
 // Lays the model that a file of version 1 holds over the lent rows.
+// Stays: the rows are written, and of a struct of rows lent to be written a clause has no names for what they hold at exit.
 pub fn read(
     bytes: &[u8],
     starts: &mut [i32],
@@ -91,6 +92,7 @@ pub fn read(
 }
 
 // Lays the model with bounds that a file of version 2 holds over the lent rows.
+// Stays: the rows are written, and of a struct of rows lent to be written a clause has no names for what they hold at exit.
 pub fn read_bounded(
     bytes: &[u8],
     starts: &mut [i32],

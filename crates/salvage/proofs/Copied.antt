@@ -1,14 +1,15 @@
 -- Lists one after another, and parts copied, as loops store them. Assumes nothing.
 use Prim.Native.Nat.{ℕ, ◌+◌, ◌≤◌, ◌<◌}
 use native.Mathlib.Omega.{arith}
-use mathlib.Core.Bool.{Bool, true, false, ◌&&◌}
+use mathlib.Core.Bool.{Bool, true, false, cond, ◌&&◌}
+use lib.IntN.{ℤ, pos}
 use mathlib.Core.List.{List, map}
 use mathlib.Core.Path.{◌≡◌, refl, ap, ap₂, sym, ◌∙◌, subst}
-use lib.ListN.{length, get_or, take, drop, length-map}
-use lib.Seq.{sets, take_all, take_at, get_or-drop, ext_get_or}
+use lib.ListN.{length, get_or, take, drop, length-map, set}
+use lib.Seq.{sets, take_all, take_at, get_or-drop, ext_get_or, set-get_or}
 use Rattle.paper.specs.Lists.{nat, total, those, joined, below, over}
 use Rattle.paper.specs.Tables.{Tables, ends}
-use Rattle.paper.proofs.Buffers.{length-below, get_d-below, over-front, over-same, Filled}
+use Rattle.paper.proofs.Buffers.{length-below, get_d-below, over-front, over-same, Filled, filled_next}
 use Rattle.paper.proofs.Bytes.{sets-front}
 use Rattle.paper.proofs.Scan.{part_length}
 use Rattle.tables.specs.Makers.{AllBelow}
@@ -67,6 +68,16 @@ pub filled-here : {A : Type 0} (f : ℕ → A) (before l : List A) (i : ℕ) (d 
 filled-here f before l i d s =
     let z : i + 0 ≡ i = omega arith in
     ap (λ k. get_or l k d) (sym z) ∙ sym (get_or-drop i l 0 d) ∙ ap (λ k. get_or k 0 d) s.back ∙ get_or-drop i before 0 d ∙ ap (λ k. get_or before k d) z
+
+-- a loop that puts 0 in the place of values that are not kept: one that is not, and one that is
+module _ (f : ℕ → Bool) {before l : List ℤ} {v : ℕ} (s : Filled (λ u. cond (f u) (get_or before u (pos 0)) (pos 0)) before l v) (low : v < length before) where
+  pub value-cleared : false ≡ f v → Filled (λ u. cond (f u) (get_or before u (pos 0)) (pos 0)) before (set l v (pos 0)) (v + 1)
+  value-cleared e = filled_next _ _ _ _ s low (ap (λ b. cond b (get_or before v (pos 0)) (pos 0)) e)
+
+  pub value-kept : true ≡ f v → Filled (λ u. cond (f u) (get_or before u (pos 0)) (pos 0)) before l (v + 1)
+  value-kept e =
+      subst (λ z. Filled (λ u. cond (f u) (get_or before u (pos 0)) (pos 0)) before z (v + 1)) (set-get_or l v (pos 0))
+      (filled_next _ _ _ _ s low (filled-here _ before l v (pos 0) s ∙ ap (λ b. cond b (get_or before v (pos 0)) (pos 0)) e))
 
 -- ── the parts of rows that can be packed ──
 module _ (firsts counts rows : List ℕ) {A : Type 0} (entries : List A) (P : Packable firsts counts (length entries) rows) where

@@ -5,16 +5,6 @@ ghost use Rattle.salvage.specs.Saving.{start_taken};
 
 use damage::admissions::start_good;
 
-// The value, or 0 if it is not kept.
-fn value_if(kept: bool, value: i32) -> i32
-    ensures { result ≡ cond kept value (pos 0) }
-{
-    if kept {
-        return value;
-    }
-    0
-}
-
 // Says which start values are kept, and puts 0 in the place of the others. `by` is the row of makers.
 pub(crate) fn keep_starts(size: usize, n: usize, by: &[u16], starts: &mut [i32], taken: &mut [bool])
     requires { (n ≤ 4096) × (n ≤ length by.now) × (n ≤ length starts.old) × (n ≤ length taken.old) }
@@ -24,6 +14,8 @@ pub(crate) fn keep_starts(size: usize, n: usize, by: &[u16], starts: &mut [i32],
     for v in 0..n {
         let kept = start_good(24 + 4 * (v + 1) <= size, by[v] != 0, starts[v]);
         taken[v] = kept;
-        starts[v] = value_if(kept, starts[v]);
+        if !kept {
+            starts[v] = 0;
+        }
     }
 }
