@@ -5,13 +5,12 @@ ghost use Rattle.formulas.specs.Buckets.{bucket_of, Bucketed};
 
 use crate::inputs::one_if;
 use crate::shares::sharing_pairs;
-use integers::bits32;
 
 // The bucket of a value.
 fn bucket(x: i32) -> usize
     ensures { (result ≡ bucket_of x) × (result < 2048) }
 {
-    let bits = bits32(x) as usize;
+    let bits = x.cast_unsigned() as usize;
     bits * 2654435769 / 2097152 % 2048
 }
 
