@@ -64,18 +64,13 @@ pub fn first_bad_value(
     if all_values_good(whose, n, by, bounds, values) {
         return None;
     }
-    for v in 0..n {
-        if !value_good(
-            whose,
-            by[v] != 0,
-            bounds.lows[v],
-            values[v],
-            bounds.highs[v],
-        ) {
-            return Some(v);
-        }
-    }
-    None
+    (0..n).find(|&v| !value_good(
+        whose,
+        by[v] != 0,
+        bounds.lows[v],
+        values[v],
+        bounds.highs[v],
+    ))
 }
 
 // Checks 19 and 7 of stored values: `blanks` is how many of them are blank, and no search variable is, or lies outside its bounds.

@@ -52,12 +52,7 @@ pub fn first_bad_bound(n: usize, by: &[u16], bounds: &Bounds) -> Option<usize>
     if all_bounds_good(n, by, bounds) {
         return None;
     }
-    for v in 0..n {
-        if !bound_good(by[v] != 0, bounds.lows[v], bounds.highs[v]) {
-            return Some(v);
-        }
-    }
-    None
+    (0..n).find(|&v| !bound_good(by[v] != 0, bounds.lows[v], bounds.highs[v]))
 }
 
 // A value is one that the variable may have; a bound that is not lent is 0.

@@ -29,16 +29,10 @@ pub fn first_unmovable(n: usize, by: &[u16], mv: &Move) -> Option<usize>
     ensures least { OfMakers n by.now (λ t. result ≡ if_below mv.now.pairs (first_fail (movable (lent_move mv.now) t) mv.now.pairs)) }
     ensures below { IfSome result (λ pair. pair < mv.now.pairs) }
 {
-    for pair in 0..mv.pairs {
+    (0..mv.pairs).find(|&pair| {
         let v = wide(mv.vars[pair]);
-        if n <= v {
-            return Some(pair);
-        }
-        if by[v] != 0 {
-            return Some(pair);
-        }
-    }
-    None
+        n <= v || by[v] != 0
+    })
 }
 
 // The first pair whose new value is blank.
@@ -56,12 +50,7 @@ pub fn first_outside(mv: &Move, bounds: &Bounds) -> Option<usize>
     requires { (mv.now.pairs ≤ length mv.now.vars.now) × (mv.now.pairs ≤ length mv.now.values.now) }
     ensures { result ≡ if_below mv.now.pairs (first_fail (pair_within (lent_move mv.now) (lent_bounds bounds.now)) mv.now.pairs) }
 {
-    for pair in 0..mv.pairs {
-        if !within(bounds, wide(mv.vars[pair]), mv.values[pair]) {
-            return Some(pair);
-        }
-    }
-    None
+    (0..mv.pairs).find(|&pair| !within(bounds, wide(mv.vars[pair]), mv.values[pair]))
 }
 
 // Checks 10 to 12 and 17, each over all pairs before the next.

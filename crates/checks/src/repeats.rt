@@ -48,12 +48,7 @@ fn first_compared(m: usize, vars: &[u16]) -> Option<usize>
     requires { m ≤ length vars.now }
     ensures { result ≡ if_below m (first_fail (made_once (makes_rows vars.now)) m) }
 {
-    for place in 0..m {
-        if vars[..place].contains(&vars[place]) {
-            return Some(place);
-        }
-    }
-    None
+    (0..m).find(|&place| vars[..place].contains(&vars[place]))
 }
 
 // The first of m places that names what an earlier one names. Few places are compared sooner than a row of marks is cleared.

@@ -40,12 +40,7 @@ fn first_made_again(tables: &Tables, by: &[u16]) -> Option<usize>
     requires { Made tables.now.n tables.now.m tables.now.makes.now by.now }
     ensures { result ≡ if_below tables.now.m (first_fail (made_once (lent_tables tables.now)) tables.now.m) }
 {
-    for row in 0..tables.m {
-        if wide(by[wide(tables.makes[row])]) <= row {
-            return Some(row);
-        }
-    }
-    None
+    (0..tables.m).find(|&row| wide(by[wide(tables.makes[row])]) <= row)
 }
 
 // Checks 2 to 5, the bounds after the rows of check 4; if all are passed, `by` holds the makers.

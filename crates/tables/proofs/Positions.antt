@@ -1,4 +1,4 @@
--- The first entry of a list that fails a test, as `position` finds it, and whether all pass, as `all` says it. Assumes nothing.
+-- The first entry of a list that fails a test, as `position` finds it, the first number below a bound, as `find` does, and whether all pass, as `all` says it. Assumes nothing.
 use Prim.Native.Nat.{ℕ, suc, ◌≤◌, ◌<◌}
 use native.Mathlib.Nat.{le_refl}
 use native.Mathlib.Omega.{arith}
@@ -46,3 +46,9 @@ module _ {A : Type 0} (p : A → Bool) (d : A) where
       scan-some (λ j. p (get_or xs j d)) m i
       (record { low = omega arith; good = λ j l. ap p (sym (get_or-take m xs j d (omega arith))) ∙ h.2 j d (omega arith) l }) (omega arith)
       (ap p (sym (get_or-take m xs i d (omega arith))) ∙ h.1 d)
+
+-- the first number below a bound that fails a test, as `find` finds it
+pub first-found : (p : ℕ → Bool) (m : ℕ) (r : Option ℕ)
+    → MatchOption r ((k : ℕ) → 0 ≤ k → k < m → p k ≡ true) (λ i. (0 ≤ i) × (i < m) × (p i ≡ false) × ((k : ℕ) → 0 ≤ k → k < i → p k ≡ true)) → r ≡ if_below m (first_fail p m)
+first-found p m None h = scan-none p m m (record { low = le_refl m; good = λ j l. h j (omega arith) l }) (le_refl m)
+first-found p m (Some i) h = let low = h.1 in scan-some p m i (record { low = omega arith; good = λ j l. h.3 j (omega arith) l }) low h.2
