@@ -3,16 +3,15 @@ use Prim.Native.Nat.{ℕ}
 use mathlib.Core.Bool.{Bool, true, false, not}
 use mathlib.Core.List.{List}
 use mathlib.Core.Path.{◌≡◌, refl, sym, ap, ◌∙◌}
-use Rattle.std.specs.Prelude.{Result, Err}
+use Rattle.std.specs.Prelude.{Result}
 use Rattle.paper.specs.Lists.{first_fail}
 use Rattle.paper.specs.Tables.{Tables, is_made}
 use Rattle.paper.specs.Checks.{Verdict, accepted, Bounds, low, high, bound_good, bounds_good, row_lines, table_lines, by_lines}
 use Rattle.paper.proofs.Scan.{first_fail-same}
-use Rattle.paper.proofs.Verdicts.{refused-not, and_then, lines_then}
+use Rattle.paper.proofs.Verdicts.{and_then, lines_then}
 use Rattle.tables.specs.Answers.{answer_of}
 use Rattle.tables.specs.Makers.{Makers}
 use Rattle.tables.specs.declared.Refusal.{Refusal}
-use Rattle.tables.proofs.Answered.{refused-is}
 use Rattle.tables.proofs.Judged.{from_bounds}
 use Rattle.tables.proofs.Made.{maker-zero}
 use Rattle.checks.specs.Allowed.{bound_of}
@@ -22,11 +21,6 @@ module _ (t : Tables) (bs : Bounds) (by : List ℕ) where
   -- what comes of the rows and then of the rest
   rows-said : (v : Verdict) → by_lines (row_lines t) accepted ≡ v → by_lines (table_lines t bs) accepted ≡ and_then v (from_bounds t accepted bs)
   rows-said v e = lines_then (row_lines t) (from_bounds t accepted bs) ∙ ap (λ z. and_then z (from_bounds t accepted bs)) e
-
-  pub rows-refused : (r : Refusal) → Err r ≡ answer_of {A = Unit {0}} tt (by_lines (row_lines t) accepted) → TablesJudged t bs by (Err r)
-  rows-refused r e =
-      let stop = rows-said _ (refused-is {A = Unit {0}} tt r (by_lines (row_lines t) accepted) (sym e)) in
-      record { verdict = ap (answer_of tt) (sym stop); makers = λ q. refused-not (sym stop ∙ q) }
 
   module _ (k : Makers t by) where
     pub rows-passed : (r : Result Unit Refusal) → by_lines (row_lines t) accepted ≡ accepted → r ≡ answer_of tt (from_bounds t accepted bs) → TablesJudged t bs by r

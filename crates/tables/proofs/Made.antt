@@ -62,9 +62,6 @@ module _ (n m : ℕ) (makes before : List ℕ) where
         rw none (e ∙ sym (over-over (λ v. 0) n old (λ v. 0)) ∙ ap (over n (λ v. 0)) (sym e));
   }
 
-  pub filling-long : (by : List ℕ) (row : ℕ) → Filling n m makes before by row → length by ≡ length before
-  filling-long by row f = ap length f.is ∙ over-length (maker_from m makes row) n before f.room
-
   -- row r is written over those after it
   pub filling-next : (by : List ℕ) (row r x v : ℕ) → Filling n m makes before by row → row ≡ suc r → m ≤ length makes → x ≡ row → v ≡ nat makes r → v < n
       → Filling n m makes before (set by v x) r

@@ -61,9 +61,6 @@ module _ (t : Tables) where
     pub from-before : row < t.m → (from ≤ nat t.firsts row) × (nat t.firsts row ≤ length t.coefs)
     from-before l = let past = S.past in let at = begins l in let end = fits in (omega arith, omega arith)
 
-    pub from-within : from ≤ length t.coefs
-    from-within = let past = S.past in let end = fits in omega arith
-
     -- a LINEAR part is small; another one is 1 if the coefficients up to its end are
     sifted-next : row < t.m → (k g : Bool) (first from' : ℕ) → k ≡ eqb (nat t.kinds row) 1 → first ≡ nat t.firsts row → g ≡ (not k || span from first)
         → from' ≡ cond k (nat t.firsts row + nat t.counts row) from → Sifted (row + 1) (good && g) from'

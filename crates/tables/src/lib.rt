@@ -1,5 +1,5 @@
 // What is checked before anything is worked out: check 1 of the tables, checks 2 to 4 one by one, the maker of each variable, and the answer of a
-// call. A check answers the least place that fails, or its bound if none does. Nothing here trusts its caller.
+// call. A check answers the least place that fails, or none. Nothing here trusts its caller.
 #![tactic(auto)]
 
 mod kind;
