@@ -2,7 +2,6 @@
 use Rattle.std.specs.Prelude.{ℕ, ◌+◌, ◌*◌, cond, List, [], ◌∷◌, ◌≡◌, leb, ltb, length, take, drop}
 use Rattle.std.specs.Borrow.{Bor}
 use Rattle.paper.specs.Lists.{every, nat}
-use Rattle.tables.specs.declared.lent.Tables as code-tables
 use Rattle.tables.specs.declared.parts.Part.{Part}
 
 -- the part of a row, for a caller who asks: its first entry and how many it has; 0 and 0 if there is no such row or its part ends after e
@@ -10,10 +9,6 @@ abbrev pub part_asked : ℕ → ℕ → List ℕ → List ℕ → List ℕ → �
 part_asked m e firsts counts vars row =
     let end = nat firsts row + nat counts row in
     cond (every (ltb row m ∷ ltb row (length firsts) ∷ ltb row (length counts) ∷ leb end e ∷ leb end (length vars) ∷ [])) (nat firsts row, nat counts row) (0, 0)
-
--- the same of lent tables
-abbrev pub part_of_lent : code-tables.Tables → ℕ → ℕ × ℕ
-part_of_lent t row = part_asked t.m t.e t.firsts.now t.counts.now t.vars.now row
 
 -- a part as it is named: its first place and how many it has
 abbrev pub part_named : ℕ × ℕ → Part

@@ -4,9 +4,9 @@ ghost use Rattle.std.specs.Prelude.{◌≡◌};
 ghost use Rattle.tables.specs.Entries.{step_at, went_on};
 
 #[derive(Clone, Copy)]
-pub struct Walker<'a> {
+pub struct Walker<'a, 'b> {
     pub vars: &'a [u16],
-    pub coefs: &'a [i16],
+    pub coefs: &'b [i16],
     pub at: usize,
 }
 
@@ -40,9 +40,9 @@ pub fn entry_at(vars: &[u16], coefs: &[i16], at: usize) -> Step
     Step { found: None, at }
 }
 
-impl<'a> Walker<'a> {
+impl<'a, 'b> Walker<'a, 'b> {
     // A walker over the lent entry table, at a place.
-    pub fn new(vars: &'a [u16], coefs: &'a [i16], at: usize) -> Walker<'a>
+    pub fn new(vars: &'a [u16], coefs: &'b [i16], at: usize) -> Walker<'a, 'b>
         ensures { result ≡ record { vars = vars.entry; coefs = coefs.entry; at = at } }
     {
         Walker { vars, coefs, at }

@@ -7,27 +7,27 @@ use Rattle.tables.proofs.parts.part_of_row.Goals as goal
 
 pub returns-then-not-there : goal.returns-then-not-there
 returns-then-not-there c =
-    let t = c.args.tables.now in
-    ap part_named (asked t.m t.e t.firsts.now t.counts.now t.vars.now c.args.row _ _ refl refl false _ c.if-not-there.true refl)
+    let t = c.args in
+    ap part_named (asked t.m t.e t.firsts.now t.counts.now t.vars.now t.row _ _ refl refl false _ c.if-not-there.true refl)
 
-pub bounds-tables-row : goal.bounds-tables-row
-bounds-tables-row c =
-    let t = c.args.tables.now in
-    (row-there t.m t.e t.firsts.now t.counts.now t.vars.now c.args.row c.if-not-there.false).0
+pub bounds-firsts-row : goal.bounds-firsts-row
+bounds-firsts-row c =
+    let t = c.args in
+    (row-there t.m t.e t.firsts.now t.counts.now t.vars.now t.row c.if-not-there.false).0
 
-pub bounds-tables-row-2 : goal.bounds-tables-row-2
-bounds-tables-row-2 c =
-    let t = c.args.tables.now in
-    (row-there t.m t.e t.firsts.now t.counts.now t.vars.now c.args.row c.if-not-there.false).1
+pub bounds-counts-row : goal.bounds-counts-row
+bounds-counts-row c =
+    let t = c.args in
+    (row-there t.m t.e t.firsts.now t.counts.now t.vars.now t.row c.if-not-there.false).1
 
 pub returns-then-not-inside : goal.returns-then-not-inside
 returns-then-not-inside c =
-    let t = c.args.tables.now in
+    let t = c.args in
     ap part_named
-    (asked t.m t.e t.firsts.now t.counts.now t.vars.now c.args.row _ _ c.wide-first.ensures.0 c.wide-count.ensures.0 true false c.if-not-there.false c.if-not-inside.true)
+    (asked t.m t.e t.firsts.now t.counts.now t.vars.now t.row _ _ c.wide-first.ensures.0 c.wide-count.ensures.0 true false c.if-not-there.false c.if-not-inside.true)
 
 pub returns : goal.returns
 returns c =
-    let t = c.args.tables.now in
+    let t = c.args in
     ap part_named
-    (asked t.m t.e t.firsts.now t.counts.now t.vars.now c.args.row _ _ c.wide-first.ensures.0 c.wide-count.ensures.0 true true c.if-not-there.false c.if-not-inside.false)
+    (asked t.m t.e t.firsts.now t.counts.now t.vars.now t.row _ _ c.wide-first.ensures.0 c.wide-count.ensures.0 true true c.if-not-there.false c.if-not-inside.false)
