@@ -3,10 +3,8 @@ ghost use Rattle.std.specs.Prelude.{true, suc, ◌≤◌, ◌<◌, length};
 ghost use Rattle.routes.specs.Reach.{Reaching};
 ghost use Rattle.routes.specs.Sections.{made_from};
 ghost use Rattle.routes.specs.Readers.{variables, LeadsUp, Markable, Movable, Moved, none};
-ghost use Rattle.paper.specs.Net.{differs};
-ghost use Rattle.rows.specs.Changes.{values_of};
 ghost use Rattle.routes.specs.Walk.{Walked};
-ghost use Rattle.probes.specs.Touched.{Noted, WalkedIf};
+ghost use Rattle.probes.specs.Touched.{Noted};
 
 use integers::wide;
 use rows::steps::moved;
@@ -47,32 +45,6 @@ fn touch(
     listed
 }
 
-// Touches v if it moved.
-fn touch_if_moved(
-    v: usize,
-    makes: &[u16],
-    index: &Index,
-    by: &[u16],
-    stored: &[i32],
-    trial: &[i32],
-    marks: &mut [u8],
-    work: &mut [u16],
-    touched: &mut [u16],
-    count: usize,
-) -> usize
-    requires upward { LeadsUp makes.now index.now.starts.now index.now.places.now }
-    requires there { (suc v < length index.now.starts.now) × (length index.now.starts.now ≤ suc (length marks.old)) × (v < 65536) }
-    requires rows { (v < length stored.now) × (v < length trial.now) }
-    requires noted { Noted (variables index.now.starts.now) by.now marks.old work.old touched.old count }
-    ensures walked { WalkedIf (made_from makes.now index.now.starts.now index.now.places.now) (differs (values_of trial.now) (values_of stored.now) v) v marks.old marks.new }
-    ensures noted { Noted (variables index.now.starts.now) by.now marks.new work.new touched.new result }
-{
-    if !moved(v, stored, trial) {
-        return count;
-    }
-    touch(v, makes, index, by, marks, work, touched, count)
-}
-
 // Touches every variable that moved, and what is made from it; answers how many are listed.
 pub fn touch_moved(
     moves: &[u16],
@@ -94,18 +66,10 @@ pub fn touch_moved(
 {
     let mut count = 0;
     for &m in moves {
-        count = touch_if_moved(
-            wide(m),
-            makes,
-            index,
-            by,
-            stored,
-            trial,
-            marks,
-            work,
-            touched,
-            count,
-        );
+        let v = wide(m);
+        if moved(v, stored, trial) {
+            count = touch(v, makes, index, by, marks, work, touched, count);
+        }
     }
     count
 }
