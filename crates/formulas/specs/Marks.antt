@@ -12,10 +12,6 @@ all_bits = 4294967295
 abbrev pub among_four : ℤ → ℤ → ℤ → ℤ → ℤ → Bool
 among_four a b c d x = eq_z x a || eq_z x b || eq_z x c || eq_z x d
 
--- x is one of the four that an array holds
-abbrev pub among : List ℤ → ℤ → Bool
-among four = among_four (get_or four 0 (pos 0)) (get_or four 1 (pos 0)) (get_or four 2 (pos 0)) (get_or four 3 (pos 0))
-
 -- the places from first to before end have been tested: one that passes is marked, and the other marks are as before
 pub record PlacesMarked (p : ℤ → Bool) (xs : List ℤ) (first end : ℕ) (before after : List ℕ) : Type 0 where
   pub long : length after ≡ length before

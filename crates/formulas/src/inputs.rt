@@ -69,6 +69,7 @@ impl<'a> Inputs<'a> {
 }
 
 // 1 for a place that passes.
+// Stays: `usize::from` alone is no plainer, since it says of its result that it is the byte of a `bool`, and the definitions count by `cond`.
 pub fn one_if(passes: bool) -> usize
     ensures { result ≡ cond passes 1 0 }
 {

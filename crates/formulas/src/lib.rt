@@ -31,6 +31,7 @@ pub fn formula(kind: u16, param: i32, coefs: &[i16], row: Inputs) -> Option<i32>
     requires { Row kind coefs.now row.vars.now }
     ensures { result ≡ worked kind param coefs.now (inputs_of row.entry) }
 {
+    // Stays: a kind is a number of the lent tables (the C interface), and the closing range refuses each that no formula has.
     match kind {
         1 => Some(linear(param, coefs, row)),
         2 => Some(least(row)),

@@ -4,7 +4,7 @@ ghost use Rattle.std.specs.Prelude.{◌+◌, ◌≤◌, ◌≡◌, cond, ◌||�
 ghost use Rattle.integers.specs.Integers.{eq_z};
 ghost use Rattle.paper.specs.Lists.{any};
 ghost use Rattle.paper.specs.Formula as Formula;
-ghost use Rattle.formulas.specs.Marks.{all_bits, among, PlacesMarked, TurnsTaken};
+ghost use Rattle.formulas.specs.Marks.{all_bits, PlacesMarked, TurnsTaken};
 
 use crate::inputs::one_if;
 
@@ -15,44 +15,25 @@ fn marked(holds: bool, mark: u32) -> u32
     if holds { u32::MAX } else { mark }
 }
 
-// Marks the places from `first` on that hold z: whether one does. No place stops the loop, so that it takes several at a time.
-fn mark_places(z: i32, first: usize, held: &[i32], marks: &mut [u32]) -> bool
+// Marks the places from `first` on that hold one of N values, and of these each that they hold. Each place and each mark is read once, and no place stops
+// the loop, so that it takes several at a time.
+fn mark<const N: usize>(values: [i32; N], first: usize, held: &[i32], marks: &mut [u32]) -> [u32; N]
     requires { (first ≤ length held.now) × (length held.now ≤ length marks.old) }
-    ensures { (result ≡ any (λ x. eq_z x z) (drop first held.now)) × PlacesMarked (λ x. eq_z x z) held.now first (length held.now) marks.old marks.new }
+    ensures marked { PlacesMarked (λ x. any (eq_z x) values.entry) held.now first (length held.now) marks.old marks.new }
+    ensures found { result ≡ map (λ z. cond (any (λ x. eq_z x z) (drop first held.now)) all_bits 0) values.entry }
 {
-    let mut found = false;
-    for j in first..held.len() {
-        let same = held[j] == z;
-        marks[j] = marked(same, marks[j]);
-        found |= same;
-    }
-    found
-}
-
-// Marks the places from `first` on that hold one of four values: of each of these, whether they hold it. Each place and each mark is read once.
-fn mark_four(four: [i32; 4], first: usize, held: &[i32], marks: &mut [u32]) -> [bool; 4]
-    requires { (first ≤ length held.now) × (length held.now ≤ length marks.old) }
-    ensures marked { PlacesMarked (among four) held.now first (length held.now) marks.old marks.new }
-    ensures found { result ≡ map (λ z. any (λ x. eq_z x z) (drop first held.now)) four }
-{
-    let [a, b, c, d] = four;
-    let mut in_a = false;
-    let mut in_b = false;
-    let mut in_c = false;
-    let mut in_d = false;
+    let mut found = [0; N];
     for j in first..held.len() {
         let x = held[j];
-        let same_a = x == a;
-        let same_b = x == b;
-        let same_c = x == c;
-        let same_d = x == d;
-        marks[j] = marked(same_a | same_b | same_c | same_d, marks[j]);
-        in_a |= same_a;
-        in_b |= same_b;
-        in_c |= same_c;
-        in_d |= same_d;
+        let mut same = false;
+        for k in 0..N {
+            let here = x == values[k];
+            same |= here;
+            found[k] = marked(here, found[k]);
+        }
+        marks[j] = marked(same, marks[j]);
     }
-    [in_a, in_b, in_c, in_d]
+    found
 }
 
 // 1 for a place that holds z, if an earlier place, one of three others or a later place holds it too.
@@ -75,11 +56,11 @@ fn four_places(n: usize, i: usize, held: &[i32], marks: &mut [u32]) -> usize
     let mark_b = marks[i + 1] != 0;
     let mark_c = marks[i + 2] != 0;
     let mark_d = marks[i + 3] != 0;
-    let [in_a, in_b, in_c, in_d] = mark_four([a, b, c, d], i + 4, held, marks);
-    let one_a = one_of_four(a, mark_a, b, c, d, in_a);
-    let one_b = one_of_four(b, mark_b, a, c, d, in_b);
-    let one_c = one_of_four(c, mark_c, a, b, d, in_c);
-    let one_d = one_of_four(d, mark_d, a, b, c, in_d);
+    let [in_a, in_b, in_c, in_d] = mark([a, b, c, d], i + 4, held, marks);
+    let one_a = one_of_four(a, mark_a, b, c, d, in_a != 0);
+    let one_b = one_of_four(b, mark_b, a, c, d, in_b != 0);
+    let one_c = one_of_four(c, mark_c, a, b, d, in_c != 0);
+    let one_d = one_of_four(d, mark_d, a, b, c, in_d != 0);
     n + one_a + one_b + one_c + one_d
 }
 
@@ -91,8 +72,8 @@ fn last_places(before: usize, first: usize, held: &[i32], marks: &mut [u32]) -> 
     let mut n = before;
     for i in first..held.len() {
         let earlier = marks[i] != 0;
-        let later = mark_places(held[i], i + 1, held, marks);
-        n += one_if(earlier | later);
+        let [later] = mark([held[i]], i + 1, held, marks);
+        n += one_if(earlier | (later != 0));
     }
     n
 }
@@ -105,6 +86,7 @@ pub fn sharing_pairs(held: &[i32]) -> usize
     let mut marks = [0u32; 256];
     let mut n = 0;
     let mut i = 0;
+    // Stays: a turn goes on by four places, and no `for` does.
     while i + 4 <= held.len() {
         n = four_places(n, i, held, &mut marks);
         i += 4;

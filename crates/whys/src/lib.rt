@@ -118,6 +118,7 @@ fn why(kind: u16, row: Inputs) -> Cause
     requires { arity kind (length row.vars.now) ≡ true }
     ensures { code result ≡ Reason.why kind (inputs_of row.entry) }
 {
+    // Stays: a kind is a number of the lent tables (the C interface).
     match kind {
         2 | 3 => of_inputs(all_blank(row)),
         4 => of_element(row),

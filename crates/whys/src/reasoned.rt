@@ -85,6 +85,7 @@ pub fn note_blanks(tables: &Tables, by: &[u16], values: &[i32], flags: &[u8], re
     ensures { reasons.new ≡ over tables.now.n (λ v. blank_now tables.now values.now by.now flags.now (nat reasons.old v) v) reasons.old }
 {
     let mut v = 0;
+    // Stays: it goes on by 64 variables, and no `for` does.
     while v < tables.n {
         let end = (v + 64).min(tables.n);
         if blanks_among(end - v, &values[v..end]) != 0 {

@@ -1,29 +1,27 @@
 -- Each of the four shares its value exactly if an earlier place, one of the other three or a later place holds it (`turned-four`). Assumes nothing.
 use Prim.Native.Nat.{◌+◌}
 use native.Mathlib.Omega.{arith}
-use mathlib.Core.Bool.{Bool, false}
-use mathlib.Core.List.{List}
-use mathlib.Core.Path.{ap}
+use mathlib.Core.Path.{refl}
 use borrow.Author.Rules.{rules}
 use lib.IntN.{pos}
 use lib.ListN.{get_or}
 use mir.Syntax.{w32}
 use mir.Val.{SFits}
 use mir.Facts.{to_z-of_z}
-use Rattle.formulas.proofs.Pairs.{turned-four, turned-most}
+use Rattle.formulas.proofs.Pairs.{marked_all, four-any, told-at, turned-four, turned-most}
 use Rattle.formulas.proofs.shares.four_places.Goals as goal
 
 pub returns : goal.returns
 returns c =
-    let held = c.args.held.now in let i = c.args.i in let found = c.mark_four.ensures.found in
+    let held = c.args.held.now in let i = c.args.i in let found = c.mark.ensures.found in
     let fa : SFits w32 (get_or held i (pos 0)) = search rules in let fb : SFits w32 (get_or held (i + 1) (pos 0)) = search rules in
     let fc : SFits w32 (get_or held (i + 2) (pos 0)) = search rules in let fd : SFits w32 (get_or held (i + 3) (pos 0)) = search rules in
     turned-four held c.requires.2 c.requires.0 (to_z-of_z fa) (to_z-of_z fb) (to_z-of_z fc) (to_z-of_z fd) (
-      c.mark_four.ensures.marked,
-      ap (λ (l : List Bool). get_or l 0 false) found,
-      ap (λ (l : List Bool). get_or l 1 false) found,
-      ap (λ (l : List Bool). get_or l 2 false) found,
-      ap (λ (l : List Bool). get_or l 3 false) found,
+      marked_all (four-any _ _ _ _) refl c.mark.ensures.marked,
+      told-at 0 found refl,
+      told-at 1 found refl,
+      told-at 2 found refl,
+      told-at 3 found refl,
       c.one_of_four-one_a.ensures,
       c.one_of_four-one_b.ensures,
       c.one_of_four-one_c.ensures,
