@@ -18,8 +18,8 @@ use Rattle.rows.specs.Asking.{next_place}
 use Rattle.routes.specs.Reach.{Closed, Reaching}
 use Rattle.routes.proofs.Members.{at_place}
 use Rattle.routes.proofs.Reach.{reaching-start, reaching-step, reaching-skip}
-use Rattle.routes.specs.Walk.{unmarked, Walked, Walking}
-use Rattle.routes.proofs.Marking.{walking_start, walking-step, walking-long, walking-end, walking-less, walked-reached}
+use Rattle.closed_routes.specs.Walk.{unmarked, Walked, Walking}
+use Rattle.closed_routes.proofs.Walks.{walking_start, walking-step, walking-long, walking-end, walking-less, walked-reached}
 use Rattle.routes.specs.Rows.{values_of}
 use Rattle.routes.specs.Work.{works_out, asked_from}
 use Rattle.routes.proofs.Places.{asked-start, asked-end, asked-next}

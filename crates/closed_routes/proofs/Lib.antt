@@ -1,3 +1,5 @@
+pub mod Walks
+pub mod Readers
 pub mod InTurn
 pub mod Changed
 pub mod Plans

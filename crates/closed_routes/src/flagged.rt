@@ -11,8 +11,8 @@ ghost use Rattle.closed_routes.specs.Following.{Renewed, Flagged};
 
 use crate::changes::flag_changed;
 use crate::looks::look_all;
+use crate::reaches::spread_moved;
 use routes::Route;
-use routes::marks::mark_moved;
 use rows::steps::plan_work;
 use tables::lent::{Index, Tables};
 
@@ -41,7 +41,7 @@ fn flag_marked(
         places: index.places,
     };
     let mut marks = [0u8; 4096];
-    mark_moved(moves, tables.makes, &index, stored, trial, &mut marks);
+    spread_moved(moves, tables.makes, &index, stored, trial, &mut marks);
     let mut work = [0u16; 4096];
     plan_work(tables.n, by, &marks, &mut work);
     look_all(asked, &work[..tables.n], tables, values, flags);

@@ -5,3 +5,4 @@ pub mod changes;
 pub mod flagged;
 pub mod followed;
 pub mod looks;
+pub mod reaches;

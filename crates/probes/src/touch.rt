@@ -2,8 +2,9 @@
 ghost use Rattle.std.specs.Prelude.{true, suc, ◌≤◌, ◌<◌, length};
 ghost use Rattle.routes.specs.Reach.{Reaching};
 ghost use Rattle.routes.specs.Sections.{made_from};
-ghost use Rattle.routes.specs.Readers.{variables, LeadsUp, Markable, Movable, Moved, none};
-ghost use Rattle.routes.specs.Walk.{Walked};
+ghost use Rattle.routes.specs.Readers.{variables, Markable, Movable, Moved, none};
+ghost use Rattle.closed_routes.specs.Readers.{LeadsUp};
+ghost use Rattle.closed_routes.specs.Walk.{Walked};
 ghost use Rattle.probes.specs.Touched.{Noted};
 
 use integers::wide;

@@ -1,6 +1,5 @@
 pub mod Members
 pub mod Reach
-pub mod Marking
 pub mod Readers
 pub mod Passing
 pub mod Walks

@@ -8,15 +8,15 @@ use mathlib.Core.List.Memᴰ
 use mathlib.Core.List.{List, [], map, Memᴰ}
 use mathlib.Core.Logic.{◌⊎◌, inl, inr}
 use mathlib.Core.Path.{◌≡◌, refl, ap, ap₂, sym, ◌∙◌, subst}
-use lib.Dec.{ltb}
+use lib.Dec.{eqb, ltb}
 use lib.IntN.{ℤ, pos}
 use lib.ListN.{length, take, length-take, get_or-eq_default}
 use lib.Seq.{get_or-take, length-take-le}
-use borrow.Author.Tests.{ltb-true, ltb-false}
+use borrow.Author.Tests.{ltb-true, ltb-false, eqb-true}
 use Rattle.integers.specs.Integers.{eq_z}
 use Rattle.integers.proofs.Order.{eq_z-self}
 use Rattle.paper.specs.Lists.{any, nat}
-use Rattle.paper.specs.Net.{Values, runs, differs, marked}
+use Rattle.paper.specs.Net.{Values, runs, able, differs, marked}
 use Rattle.paper.specs.Tables.{Tables, net, is_made, inputs_of, values_in}
 use Rattle.paper.specs.Checks.{Sound}
 use Rattle.paper.proofs.Lists.{clash, any-in, any-has}
@@ -24,13 +24,15 @@ use Rattle.paper.proofs.Sizes.{sized-facts}
 use Rattle.paper.proofs.Accept.{sound-row, made-below, inputs-below}
 use Rattle.paper.proofs.Lawful.{lawful}
 use Rattle.paper.proofs.Marks.{marked-equation}
+use Rattle.paper.proofs.Those.{those-in}
 use Rattle.order.specs.Numbering.{Clean}
 use Rattle.order.proofs.Visits.{left-none}
 use Rattle.index.specs.Index.{Indexed}
 use Rattle.routes.specs.Sections.{section, made_from}
 use Rattle.routes.specs.Reach.{Follows, Either, Reaching}
-use Rattle.routes.specs.Readers.{LeadsUp, Markable, Movable, Moved, none}
+use Rattle.routes.specs.Readers.{variables, read_from, Upward, Markable, Movable, Moved, none}
 use Rattle.routes.proofs.Members.{mapped}
+use Rattle.routes.proofs.Readers.{able-fewer}
 use Rattle.routes.specs.Rows.{values_of}
 use Rattle.routes.specs.Routed.{Begun, Named}
 use Rattle.routes.proofs.Read.{input-made, section-reads, section-input, input-section}
@@ -92,8 +94,23 @@ module _ (t : Tables) (d : Sound t) (starts places : List ℕ) (x : Indexed t st
   pub below : (v r : ℕ) → Memᴰ r (section front places v) → suc (nat t.makes r) < length front
   below v r m = let h = (sound-row t d r (section-low v r m)).makes in let long = front_long in omega arith
 
-  pub upward : LeadsUp t.makes front places
-  upward = record { inside = inside; row = row; below = below }
+  -- and upward, where every chain ends
+  pub upward : ((v : ℕ) → able (inputs_of t) t.n v ≡ true) → Upward t.makes front places
+  unfolding read_from
+  upward chains = record {
+    inside = inside;
+    row = row;
+    below = below;
+    ends = λ v.
+        let n : t.n ≡ variables front = let long = front_long in omega arith in
+        subst (λ k. able (read_from t.makes front places) k v ≡ true) n (able-fewer (inputs_of t) (read_from t.makes front places) fewer t.n v (chains v));
+  }
+    where
+      mem : (u : ℕ) (xs : List ℕ) → any (eqb u) xs ≡ true → Memᴰ u xs
+      mem u xs h = let (y, m, q) = any-has (eqb u) xs h in subst (λ z. Memᴰ z xs) (sym (eqb-true u y q)) m
+
+      fewer : (u v : ℕ) → Memᴰ v (read_from t.makes front places u) → Memᴰ v (inputs_of t u)
+      fewer u v m = from-input v u (mem u (from v) (those-in (λ w. any (eqb u) (from w)) (variables front) v m).1)
 
   -- no mark is set yet, so none lacks what is made from it
   pub clean-markable : (marks : List ℕ) → Clean t.n marks → Markable t.makes front places marks

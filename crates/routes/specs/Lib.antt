@@ -1,6 +1,5 @@
 pub mod Reach
 pub mod Sections
-pub mod Walk
 pub mod Readers
 pub mod Rows
 pub mod Routed

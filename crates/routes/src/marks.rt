@@ -1,24 +1,23 @@
-// Route 3's marks: from each search variable that moved to those made from it, and from these again. Chains may close.
-ghost use Rattle.std.specs.Prelude.{true, suc, ◌≤◌, ◌<◌, length};
-ghost use Rattle.routes.specs.Reach.{Reaching};
+// Route 3's marks: from each search variable that moved to those made from it, and from these again.
+ghost use Rattle.std.specs.Prelude.{true, suc, ◌<◌, length};
+ghost use Rattle.routes.specs.Reach.{Reached, Reaching};
 ghost use Rattle.routes.specs.Sections.{made_from};
-ghost use Rattle.routes.specs.Walk.{Walked};
-ghost use Rattle.routes.specs.Readers.{LeadsUp, Markable, Movable, Moved, none};
+ghost use Rattle.routes.specs.Readers.{Upward, Markable, Movable, Moved, none};
 
 use integers::wide;
 use rows::steps::moved;
 use tables::lent::Index;
 
-// Marks v, and then what its readers make: a chain that comes back to v finds it marked.
+// Marks what the readers of v make, and after it v itself.
 fn mark(v: usize, makes: &[u16], index: &Index, marks: &mut [u8])
-    requires upward { LeadsUp makes.now index.now.starts.now index.now.places.now }
-    requires there { (suc v < length index.now.starts.now) × (length index.now.starts.now ≤ suc (length marks.old)) }
-    ensures { Walked (λ u. true) (made_from makes.now index.now.starts.now index.now.places.now) v marks.old marks.new }
+    requires upward { Upward makes.now index.now.starts.now index.now.places.now }
+    requires there { suc v < length index.now.starts.now }
+    requires markable { Markable makes.now index.now.starts.now index.now.places.now marks.old }
+    ensures { Reached (λ u. true) (made_from makes.now index.now.starts.now index.now.places.now) v marks.old marks.new }
 {
     if marks[v] == 1 {
         return;
     }
-    marks[v] = 1;
     let end = wide(index.starts[v + 1]);
     for i in wide(index.starts[v])..end {
         let u = wide(makes[wide(index.places[i])]);
@@ -26,9 +25,10 @@ fn mark(v: usize, makes: &[u16], index: &Index, marks: &mut [u8])
             mark(u, makes, index, marks);
         }
     }
+    marks[v] = 1;
 }
 
-// Marks every variable that moved, and what is made from it.
+// Marks every variable that moved, each after what is made from it.
 pub fn mark_moved(
     moves: &[u16],
     makes: &[u16],
@@ -37,7 +37,7 @@ pub fn mark_moved(
     trial: &[i32],
     marks: &mut [u8],
 )
-    requires upward { LeadsUp makes.now index.now.starts.now index.now.places.now }
+    requires upward { Upward makes.now index.now.starts.now index.now.places.now }
     requires movable { Movable index.now.starts.now moves.now stored.now trial.now }
     requires markable { Markable makes.now index.now.starts.now index.now.places.now marks.old }
     ensures { Reaching (λ u. true) (made_from makes.now index.now.starts.now index.now.places.now) (Moved moves.now stored.now trial.now) none marks.old marks.new }

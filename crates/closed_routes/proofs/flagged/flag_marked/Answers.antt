@@ -20,12 +20,12 @@ use Rattle.routes.specs.Sections.{made_from}
 use Rattle.routes.specs.Readers.{Moved, none}
 use Rattle.routes.specs.Routed.{Begun, Named}
 use Rattle.routes.proofs.Planned.{over-fits, front-is}
-use Rattle.routes.proofs.Marked.{upward, clean-markable, marks-long}
+use Rattle.routes.proofs.Marked.{clean-markable, marks-long}
 use Rattle.closed_routes.specs.Looking.{shapes, looks_at, Lookable, AllLooked}
 use Rattle.closed_routes.specs.Following.{Renewed, Flagged}
 use Rattle.closed_routes.proofs.Plans.{plan-marked, laid}
 use Rattle.closed_routes.proofs.Flags.{clear-closed, looked-flagged}
-use Rattle.closed_routes.proofs.Marks.{marks-work}
+use Rattle.closed_routes.proofs.Marks.{upward, marks-work}
 use Rattle.closed_routes.proofs.flagged.flag_marked.Goals as goal
 
 -- no mark is set in the new row
@@ -66,13 +66,13 @@ module _ (t : Tables) (stored trial values : List ℤ) (R : Renewed t stored tri
       (marks-work t R.steady.sound starts places x stored trial flags moves B N _ marks (clean t R.steady.sound) r) (λ v. refl) flags'
       (subst (λ (l : List ℕ). AllLooked (shaped t) l values asked flags flags') front a)
 
-pub mark_moved-requires-clause-upward : goal.mark_moved-requires-clause-upward
-mark_moved-requires-clause-upward c =
+pub spread_moved-requires-clause-upward : goal.spread_moved-requires-clause-upward
+spread_moved-requires-clause-upward c =
     let t = lent_tables c.args.tables.now in
     upward t c.requires.renewed.steady.sound _ _ c.requires.index
 
-pub mark_moved-requires-clause-markable : goal.mark_moved-requires-clause-markable
-mark_moved-requires-clause-markable c =
+pub spread_moved-requires-clause-markable : goal.spread_moved-requires-clause-markable
+spread_moved-requires-clause-markable c =
     let t = lent_tables c.args.tables.now in
     let d = c.requires.renewed.steady.sound in clean-markable t d _ _ c.requires.index (replicate 4096 0) (clean t d)
 
@@ -81,7 +81,7 @@ plan_work-requires c =
     let t = lent_tables c.args.tables.now in
     let d = c.requires.renewed.steady.sound in
     let long = marks-long t d c.args.index.now.starts.now c.args.index.now.places.now c.requires.index c.args.stored.now c.args.trial.now c.args.flags.now c.args.moves.now
-    c.requires.begun c.requires.named _ _ (clean t d) c.mark_moved.ensures in
+    c.requires.begun c.requires.named _ _ (clean t d) c.spread_moved.ensures in
     (c.requires.makers.long, long, (sized-facts t d.sized).n-most)
 
 pub slice_bounds-work-end : goal.slice_bounds-work-end
@@ -116,4 +116,4 @@ pub returns : goal.returns
 returns c =
     let t = lent_tables c.args.tables.now in
     flagged-over t c.args.stored.now c.args.trial.now c.args.values.now c.requires.renewed c.args.asked.now c.args.flags.now c.requires.begun c.requires.asked c.args.by.now c.requires.makers
-    _ _ c.plan_work.ensures c.args.index.now.starts.now c.args.index.now.places.now c.requires.index c.args.moves.now c.requires.named c.mark_moved.ensures _ c.look_all.ensures
+    _ _ c.plan_work.ensures c.args.index.now.starts.now c.args.index.now.places.now c.requires.index c.args.moves.now c.requires.named c.spread_moved.ensures _ c.look_all.ensures

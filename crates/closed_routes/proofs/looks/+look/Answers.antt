@@ -9,7 +9,7 @@ use Rattle.routes.specs.Rows.{values_of}
 use Rattle.routes.proofs.Asks.{idle}
 use Rattle.routes.proofs.InTurn.{turn-less}
 use Rattle.closed_routes.specs.Looking.{shapes, shapes_lent, Lookable}
-use Rattle.routes.proofs.Marking.{walked-still}
+use Rattle.closed_routes.proofs.Walks.{walked-still}
 use Rattle.closed_routes.proofs.InTurn.{Known, turn-start, turn_end, turn-call, turn-next}
 use Rattle.closed_routes.proofs.looks.+look.Goals as goal
 

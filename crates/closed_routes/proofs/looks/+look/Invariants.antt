@@ -1,7 +1,7 @@
 -- v is flagged before what its formula looks at (`InTurn`), so each call finds fewer unflagged variables than this one met. Assumes nothing.
 use Rattle.std.proofs.Common.{◌-◌, length}
 use Rattle.paper.specs.Lists.{size}
-use Rattle.routes.specs.Walk.{unmarked}
+use Rattle.closed_routes.specs.Walk.{unmarked}
 use Rattle.closed_routes.specs.Looking.{shapes_lent}
 use Rattle.closed_routes.proofs.InTurn.{InTurn}
 use Rattle.closed_routes.proofs.looks.+look.Given as goal

@@ -2,9 +2,9 @@ use Rattle.std.proofs.Common.{arith, rules, refl, suc, ◌<◌, ◌≤◌, ℕ, 
 use mathlib.Core.Logic.{◌≢◌}
 use Rattle.paper.specs.Lists.{nat}
 use Rattle.routes.specs.Readers.{variables}
-use Rattle.routes.specs.Readers.{LeadsUp}
-use Rattle.routes.proofs.Marking.{walked-still}
-use Rattle.routes.proofs.Readers.{Begun, going_start, going_end, going-row, going-call, going_step}
+use Rattle.closed_routes.specs.Readers.{LeadsUp}
+use Rattle.closed_routes.proofs.Walks.{walked-still}
+use Rattle.closed_routes.proofs.Readers.{Begun, going_start, going_end, going-row, going-call, going_step}
 use Rattle.probes.specs.Touched.{Noted}
 use Rattle.probes.proofs.Notes.{note-room, note-next}
 use Rattle.probes.proofs.touch.+touch.Goals as goal

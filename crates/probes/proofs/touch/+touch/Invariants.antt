@@ -1,8 +1,8 @@
 -- v is marked, listed and planned before what its readers make (`Going`, `Noted`), so each call finds fewer unmarked variables than this one met. Assumes nothing.
 use Rattle.paper.specs.Lists.{size}
 use Rattle.routes.specs.Readers.{variables}
-use Rattle.routes.specs.Walk.{unmarked}
-use Rattle.routes.proofs.Readers.{Going}
+use Rattle.closed_routes.specs.Walk.{unmarked}
+use Rattle.closed_routes.proofs.Readers.{Going}
 use Rattle.probes.specs.Touched.{Noted}
 use Rattle.probes.proofs.touch.+touch.Given as goal
 

@@ -1,6 +1,6 @@
 use Rattle.std.proofs.Common.{arith, suc, ◌<◌, length, sym, subst}
 use Rattle.routes.proofs.Members.{at_place}
-use Rattle.routes.proofs.Marking.{walked-reached}
+use Rattle.closed_routes.proofs.Walks.{walked-reached}
 use Rattle.routes.proofs.Passing.{passed-yes, passed-no, passed-end}
 use Rattle.probes.proofs.touch.touch_moved.Goals as goal
 use Rattle.probes.proofs.touch.touch_moved.Goals.{then-moved, else-moved}

@@ -14,7 +14,7 @@ use Rattle.routes.proofs.output.mark_guided.Goals as goal
 pub mark_moved-requires-clause-upward : goal.mark_moved-requires-clause-upward
 mark_moved-requires-clause-upward c =
     let t = lent_tables c.args.tables.now in
-    upward t c.requires.ended.sound _ _ c.requires.index
+    upward t c.requires.ended.sound _ _ c.requires.index c.requires.ended.chains
 
 pub mark_moved-requires-clause-markable : goal.mark_moved-requires-clause-markable
 mark_moved-requires-clause-markable c =

@@ -13,7 +13,7 @@ use Rattle.paper.specs.Lists.{nat, size}
 use Rattle.paper.proofs.Lists.{clash}
 use Rattle.paper.proofs.Count.{size-more}
 use Rattle.routes.specs.Reach.{Closed, Either, Reached}
-use Rattle.routes.specs.Walk.{unmarked, Walked, Walking}
+use Rattle.closed_routes.specs.Walk.{unmarked, Walked, Walking}
 
 module _ (works : ℕ → Bool) (to : ℕ → List ℕ) where
   -- ── nothing to do ──
