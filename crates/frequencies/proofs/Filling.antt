@@ -2,15 +2,13 @@
 use Prim.Native.Nat.{ℕ, suc, ◌+◌, ◌-◌, ◌≤◌, ◌<◌}
 use native.Mathlib.Numerals.{add-one}
 use native.Mathlib.Omega.{arith}
-use mathlib.Core.Bool.{true, cond}
+use mathlib.Core.Bool.{cond}
 use mathlib.Core.List.{List, [], ◌∷◌, ◌++◌, append_assoc}
 use mathlib.Core.Path.{◌≡◌, refl, ap, sym, ◌∙◌}
 use lib.IntN.{ℤ}
 use lib.ListN.{length, take, drop, set, length-set, take-append-drop}
 use lib.Seq.{take-suc-set, drop-set-lt}
-use borrow.Author.Tests.{leb-true}
 use Rattle.paper.specs.Lists.{any}
-use Rattle.paper.proofs.Lists.{each}
 use Rattle.frequencies.specs.Csv.{is_quote, Row, row_of, front}
 use Rattle.frequencies.specs.Values.{time, headway, exact}
 use Rattle.frequencies.specs.Reading.{Windows, windows_in, windows_of, laid_over, room_for}
@@ -53,21 +51,6 @@ module _ (c : reading.Columns) where
   windows-last i w =
       windows-same (windows_from i c [] w) (laid-last i w.name_places) (laid-last i w.name_lengths) (laid-last i w.name_doubled) (laid-last i w.starts)
       (laid-last i w.ends) (laid-last i w.headways) (laid-last i w.exacts) (laid-last i w.lines)
-
--- where there is room for so many, each lent row has them
-pub room-lent : (k : ℕ) (w : Windows) → room_for k w ≡ true → Room k w
-room-lent k w e =
-    let t = each _ e in
-    record {
-      name-places = leb-true _ _ t.0;
-      name-lengths = leb-true _ _ t.1.0;
-      name-doubled = leb-true _ _ t.1.1.0;
-      starts = leb-true _ _ t.1.1.1.0;
-      ends = leb-true _ _ t.1.1.1.1.0;
-      headways = leb-true _ _ t.1.1.1.1.1.0;
-      exacts = leb-true _ _ t.1.1.1.1.1.1.0;
-      lines = leb-true _ _ t.1.1.1.1.1.1.1.0;
-    }
 
 -- ── the next row ──
 module _ (bytes : List ℕ) (c : Columns) (next line : ℕ) (here : Scannable bytes next line) (r : RowScan) (s : RowScanned bytes next line c r) where

@@ -4,6 +4,7 @@ use native.Mathlib.Numerals.{add-one}
 use native.Mathlib.Omega.{arith}
 use mathlib.Core.Bool.{Bool, true, false, cond, not, ◌&&◌, ◌||◌, true≢false, false≢true}
 use mathlib.Core.List.{List, [], ◌∷◌}
+use mir.Val.{bool_byte}
 use mathlib.Core.Path.{◌≡◌, refl, ap, sym, ◌∙◌}
 use lib.Dec.{eqb, ltb}
 use lib.ListN.{length, take, drop, drop_of_length-le}
@@ -17,6 +18,11 @@ use Rattle.frequencies.specs.declared.fields.Closing.{Closing}
 use Rattle.frequencies.specs.declared.fields.Plain.{Plain}
 use Rattle.frequencies.specs.declared.fields.Behind.{Behind}
 use Rattle.frequencies.specs.declared.fields.Behind.TheVariants.{Comma, Line, File}
+
+-- 1 for a test that is passed
+pub one-or-none : (b : Bool) → bool_byte b ≡ cond b 1 0
+one-or-none true = refl
+one-or-none false = refl
 
 -- ── the first byte ──
 -- where a test of the bytes that are left is passed, and nothing does not pass it, there is one

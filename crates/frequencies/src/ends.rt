@@ -22,7 +22,7 @@ fn ends_line(bytes: &[u8], at: usize) -> bool
     requires { at < length bytes.now }
     ensures { result ≡ (is_line_feed (nat bytes.now at) || (is_return (nat bytes.now at) && line_feed_next (drop (at + 1) bytes.now))) }
 {
-    10 == bytes[at] || (13 == bytes[at] && stands(bytes, at + 1, 10))
+    b'\n' == bytes[at] || (b'\r' == bytes[at] && stands(bytes, at + 1, b'\n'))
 }
 
 // Where the line ends at the end of the file begin.

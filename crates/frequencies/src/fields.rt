@@ -3,8 +3,6 @@
 ghost use Rattle.std.specs.Prelude.{◌≤◌, ◌≡◌, true, false, length, drop};
 ghost use Rattle.frequencies.specs.Scan.{Scannable, headed_by, goes_on, stays_in, QuotesClosed, PlainEnded, EndPassed, FieldScanned, row_behind};
 
-use formulas::inputs::one_if;
-
 // Whether byte x stands at place i.
 pub fn stands(bytes: &[u8], i: usize, x: u8) -> bool
     ensures { result ≡ headed_by x (drop i bytes.now) }
@@ -20,13 +18,13 @@ fn goes_on(bytes: &[u8], i: usize) -> bool
         return false;
     }
     let b = bytes[i];
-    if 44 < b {
+    if b',' < b {
         return true;
     }
-    if 13 == b {
-        return !stands(bytes, i + 1, 10);
+    if b'\r' == b {
+        return !stands(bytes, i + 1, b'\n');
     }
-    (44 != b) & (10 != b)
+    (b',' != b) & (b'\n' != b)
 }
 
 // Whether the byte at place i is one between quotes: behind a quote, another.
@@ -36,7 +34,7 @@ fn stays_in(bytes: &[u8], i: usize, closing: bool) -> bool
     if bytes.len() <= i {
         return false;
     }
-    !closing | (34 == bytes[i])
+    !closing | (b'"' == bytes[i])
 }
 
 // A place among a file's bytes, and the line that it is on.
@@ -81,8 +79,8 @@ fn pass_quotes(bytes: &[u8], from: Place) -> Closing
     let mut closing = false;
     while stays_in(bytes, i, closing) {
         let b = bytes[i];
-        closing = !closing & (34 == b);
-        lines += one_if(10 == b);
+        closing = !closing & (b'"' == b);
+        lines += usize::from(b'\n' == b);
         i += 1;
     }
     Closing {
@@ -106,7 +104,7 @@ fn pass_plain(bytes: &[u8], at: usize) -> Plain
     let mut i = at;
     let mut quote = false;
     while goes_on(bytes, i) {
-        quote = quote | (34 == bytes[i]);
+        quote = quote | (b'"' == bytes[i]);
         i += 1;
     }
     Plain { end: i, quote }
@@ -123,13 +121,13 @@ fn pass_end(bytes: &[u8], end: Place) -> Behind
         return Behind::File;
     }
     let b = bytes[at];
-    if 44 == b {
+    if b',' == b {
         return Behind::Comma(Place {
             at: at + 1,
             line: end.line,
         });
     }
-    let size = 1 + one_if(13 == b);
+    let size = 1 + usize::from(b'\r' == b);
     Behind::Line(Place {
         at: at + size,
         line: end.line + 1,
@@ -204,7 +202,7 @@ pub fn scan_field(bytes: &[u8], from: Place) -> FieldScan
     requires { Scannable bytes.now from.at from.line }
     ensures { FieldScanned bytes.now from.at from.line result }
 {
-    if stands(bytes, from.at, 34) {
+    if stands(bytes, from.at, b'"') {
         return scan_quoted(bytes, from);
     }
     scan_plain(bytes, from)

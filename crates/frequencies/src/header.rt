@@ -7,8 +7,7 @@ ghost use Rattle.frequencies.specs.declared.fields.Behind.TheVariants.{Comma};
 use crate::fields::{Behind, Place, row_behind, scan_field};
 use crate::parts::{Span, part};
 use crate::rows::{Columns, held, scan_row};
-use crate::values::{both, same};
-use formulas::inputs::one_if;
+use crate::values::same;
 
 // A name looked for among fields: the place of the first one that has it or how many there were, how many have it, and what is behind.
 #[derive(Clone, Copy)]
@@ -27,14 +26,14 @@ fn find_next(bytes: &[u8], name: &[u8], sought: Named, from: Place) -> Named
 {
     let f = scan_field(bytes, from);
     let span = Span {
-        at: from.at + one_if(f.quoted),
+        at: from.at + usize::from(f.quoted),
         size: held(f.quoted, f.end - from.at),
     };
     let named = same(part(bytes, span), name);
-    let passed = both(sought.count == 0, !named);
+    let passed = (sought.count == 0) & !named;
     Named {
-        column: sought.column + one_if(passed),
-        count: sought.count + one_if(named),
+        column: sought.column + usize::from(passed),
+        count: sought.count + usize::from(named),
         behind: f.behind,
     }
 }

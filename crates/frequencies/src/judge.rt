@@ -7,7 +7,7 @@ ghost use Rattle.frequencies.specs.Judging.{first_bad, Started, JudgedNext, Judg
 use crate::fields::{Place, row_behind};
 use crate::parts::part;
 use crate::rows::{Columns, scan_row};
-use crate::values::{both, exact_of, headway_of, time_of};
+use crate::values::{exact_of, headway_of, time_of};
 use formulas::blanks::is_blank;
 
 // Of the rows judged: how many there are, and for each check the line of the first that does not pass it, if any does not; and where the next row begins, if
@@ -28,7 +28,7 @@ pub struct Judged {
 fn both_values(a: i32, b: i32) -> bool
     ensures { result ≡ (not (eq_z a blank) && not (eq_z b blank)) }
 {
-    both(!is_blank(a), !is_blank(b))
+    !is_blank(a) & !is_blank(b)
 }
 
 // The line of the first row that does not pass a check, with one row more.

@@ -5,7 +5,6 @@ ghost use Rattle.frequencies.specs.declared.fields.Behind.TheVariants.{Comma};
 
 use crate::fields::{Behind, Place, scan_field};
 use crate::parts::Span;
-use formulas::inputs::one_if;
 
 // The columns of the fields that are read, as the header has them; a number past the last one, if it has none.
 #[derive(Clone, Copy)]
@@ -54,7 +53,7 @@ fn scan_next(bytes: &[u8], row: RowScan, from: Place, columns: Columns) -> RowSc
     let f = scan_field(bytes, from);
     let k = row.width;
     let span = Span {
-        at: from.at + one_if(f.quoted),
+        at: from.at + usize::from(f.quoted),
         size: held(f.quoted, f.end - from.at),
     };
     RowScan {

@@ -138,13 +138,6 @@ fn zero_or_one(byte: u8) -> u8
     }
 }
 
-// Both are so.
-pub fn both(a: bool, b: bool) -> bool
-    ensures { result ≡ (a && b) }
-{
-    a && b
-}
-
 // Two fields are the same.
 pub fn same(a: &[u8], b: &[u8]) -> bool
     ensures { result ≡ specs.same a.now b.now }

@@ -4,6 +4,7 @@ use mathlib.Core.Bool.{cond}
 use mathlib.Core.Path.{◌≡◌, refl, ap, ◌∙◌}
 use lib.Dec.{eqb}
 use Rattle.frequencies.specs.declared.parts.Span.{Span}
+use Rattle.frequencies.proofs.Scanning.{one-or-none}
 use Rattle.frequencies.proofs.ByField.{OneMore, part-next, less-next}
 use Rattle.frequencies.proofs.rows.scan_next.Goals as goal
 
@@ -13,7 +14,7 @@ span-same p q = rw (p, q)
 pub returns : goal.returns
 returns c =
     let a = c.args in let row = a.row in let col = a.columns in let f = c.scan_field-f in
-    let span = span-same (ap (a.from.at +◌) c.one_if.ensures) c.held.ensures in
+    let span = span-same (ap (a.from.at +◌) (c.from.ensures ∙ one-or-none _)) c.held.ensures in
     let more : OneMore a.bytes.now col row a.from c.requires.next f.result f.ensures _ =
     record {
       width = refl;
