@@ -5,7 +5,6 @@ ghost use Rattle.io.specs.Counts.{IsPrefixLen};
 
 use report::{build_file, read_full};
 use std::fs::Files;
-use tables::Answer;
 
 // The text for a file, with reasons or without, in front of the buffer, and how many bytes it has.
 fn put_text(reasons: bool, file: &[u8], out: &mut [u8; 98304]) -> usize
@@ -15,11 +14,10 @@ fn put_text(reasons: bool, file: &[u8], out: &mut [u8; 98304]) -> usize
     let mut stored = [0i32; 4096];
     let mut row = [0u8; 4096];
     let built = build_file(file, &mut numbers, &mut stored, &mut row);
-    let answer = built.answer;
-    let Answer::Refused { number, place } = answer else {
+    let Err(refusal) = built.answer else {
         return text::lines(reasons, built.n, &numbers, &stored, &row, out);
     };
-    text::refusal(number, place, out)
+    text::refusal(refusal.number, refusal.place, out)
 }
 
 // Prints the text for a file, with reasons or without.

@@ -7,7 +7,6 @@ ghost use Rattle.io.specs.Counts.{IsPrefixLen};
 ghost use Rattle.report.specs.Printed.{printed};
 
 use report::{build_file, read_full};
-use tables::Answer;
 
 // Room for every text.
 const ROOM: usize = 98304;
@@ -23,11 +22,10 @@ fn show(file: &[u8], out: &mut [u8; ROOM]) -> usize
     let mut stored = [0i32; 4096];
     let mut row = [0u8; 4096];
     let built = build_file(file, &mut numbers, &mut stored, &mut row);
-    let answer = built.answer;
-    let Answer::Refused { number, place } = answer else {
+    let Err(refusal) = built.answer else {
         return text::lines(false, built.n, &numbers, &stored, &row, out);
     };
-    text::refusal(number, place, out)
+    text::refusal(refusal.number, refusal.place, out)
 }
 
 fn main(rt: HostRuntime) -> std::io::Result<()> {
