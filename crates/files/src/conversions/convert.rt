@@ -31,12 +31,7 @@ fn first_narrow(bytes: &[u8], at: usize, count: usize) -> Option<usize>
     requires { (at < 1048576) × (at + 8 * count ≤ length bytes.now) }
     ensures { result ≡ if_below count (first_fail (full_at bytes.now at) count) }
 {
-    for v in 0..count {
-        if !full(bytes, at, v) {
-            return Some(v);
-        }
-    }
-    None
+    (0..count).find(|&v| !full(bytes, at, v))
 }
 
 // Stores full bounds.
