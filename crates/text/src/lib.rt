@@ -15,6 +15,7 @@ use crate::numbers::put_decimal;
 use crate::reasons::{put_field, reason_at};
 
 // Puts a line of the list, with reasons or without.
+// Stays: of a struct that holds the buffer and the place a clause has no names for what the buffer holds at exit.
 fn put_line(
     reasons: bool,
     out: &mut [u8],
@@ -73,6 +74,7 @@ fn put_refusal(number: u32, place: u32, out: &mut [u8]) -> usize
 }
 
 // The list of the variables below n, with the reasons of a row or without: its text in front of the buffer, and how many bytes that is.
+// Stays: the two programs' texts differ in this flag alone, and the definition of the text takes it; an option of a row would be no plainer.
 pub fn lines(
     reasons: bool,
     n: usize,

@@ -14,9 +14,9 @@ use fields::places::Size;
 fn fill(bytes: &[u8], out: &mut [u8])
     ensures { out.new ≡ below (nat bytes.now) (length out.new) }
 {
-    for i in 0..out.len() {
-        out[i] = bytes.get(i).copied().unwrap_or(0);
-    }
+    let len = bytes.len().min(out.len());
+    out[..len].copy_from_slice(&bytes[..len]);
+    out[len..].fill(0);
 }
 
 // Lays the tables and start values that the file gives over scratch rows. The longest file that counts can ask for has 131,096 bytes.
