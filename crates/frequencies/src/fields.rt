@@ -70,6 +70,7 @@ pub struct Closing {
 }
 
 // Passes the bytes between the quotes of a field, from behind the first one on.
+// Stays: counted by `while`, since its test reads on from the place to which it has come; no form of std's is plainer.
 fn pass_quotes(bytes: &[u8], from: Place) -> Closing
     requires { Scannable bytes.now from.at from.line }
     ensures { QuotesClosed bytes.now from.at from.line result }
@@ -97,6 +98,7 @@ pub struct Plain {
 }
 
 // Passes the bytes of a field without quotes.
+// Stays: counted by `while`, since its test reads on from the place to which it has come; no form of std's is plainer.
 fn pass_plain(bytes: &[u8], at: usize) -> Plain
     requires { at ≤ length bytes.now }
     ensures { PlainEnded bytes.now at result }

@@ -10,6 +10,7 @@ use crate::rows::{Columns, held, scan_row};
 use crate::values::same;
 
 // A name looked for among fields: the place of the first one that has it or how many there were, how many have it, and what is behind.
+// Stays: a number for none, which the definition of `column` gives and no row has a field at.
 #[derive(Clone, Copy)]
 pub struct Named {
     pub column: usize,

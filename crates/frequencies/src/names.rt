@@ -59,6 +59,7 @@ fn doubled_size(name: &[u8]) -> usize
 }
 
 // How many bytes stand between the quotes.
+// Stays: `double` is the number of the lent row, as the definitions take it.
 fn inside_size(double: u8, name: &[u8]) -> usize
     requires { length name.now ≤ 4294967295 }
     ensures { (result ≡ length (cond (eqb double 0) (doubled name.now) name.now)) × (result ≤ 2 * length name.now) }

@@ -126,6 +126,7 @@ pub fn exact_of(bytes: &[u8]) -> u8
 }
 
 // What the one byte of exact_times says.
+// Stays: by `if`, since a `match` on the byte leaves the goal `returns-in_default` without what the arms before it exclude.
 fn zero_or_one(byte: u8) -> u8
     ensures { result ≡ specs.exact (byte ∷ []) }
 {

@@ -1,15 +1,13 @@
 // Checks 1 to 3 of the windows that a departure board is lent: all are lent, their numbers are good, and no two overlap. A check over the windows
 // answers the least that fails, if any does.
 ghost use Rattle.std.specs.Prelude.{[], ◌≡◌, not, ◌≤◌, ◌<◌, length};
-ghost use Rattle.integers.specs.Integers.{eq_z};
 ghost use Rattle.integers.specs.Below.{if_below};
 ghost use Rattle.paper.specs.Lists.{first_fail};
-ghost use Rattle.paper.specs.Formula.{blank};
 ghost use Rattle.times.specs.Windows.{windows_fit, window_good, numbers_good, shared, overlap, apart};
 ghost use Rattle.times.specs.Lent.{lent_windows, Timed};
 
 use crate::Windows;
-use formulas::blanks::BLANK;
+use formulas::blanks::is_blank;
 
 // There are at most 64 windows, and all of them are lent.
 pub fn windows_fit(windows: &Windows) -> bool
@@ -22,18 +20,11 @@ pub fn windows_fit(windows: &Windows) -> bool
         & (count <= windows.headways.len())
 }
 
-// The number is not blank.
-fn has_value(number: i32) -> bool
-    ensures { result ≡ not (eq_z number blank) }
-{
-    number != BLANK
-}
-
 // No number of the window is blank, and its headway is above 0.
 fn window_good(start: i32, end: i32, headway: i32) -> bool
     ensures { result ≡ window_good start end headway }
 {
-    has_value(start) & has_value(end) & has_value(headway) & (0 < headway)
+    !is_blank(start) & !is_blank(end) & !is_blank(headway) & (0 < headway)
 }
 
 // The first window with a blank number or a headway of 0 or less.
