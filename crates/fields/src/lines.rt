@@ -25,16 +25,17 @@ pub fn put_starts(bytes: &mut [u8], head: usize, n: usize, starts: &[i32])
     }
 }
 
-// Stores one row.
-fn put_row(bytes: &mut [u8], at: usize, kind: u16, made: u16, param: i32, first: u16, count: u16)
-    requires { at + 12 ≤ length bytes.old }
-    ensures { bytes.new ≡ sets bytes.old at (bytes_of 2 kind ++ bytes_of 2 made ++ bytes_of 4 (of_z w32 param) ++ bytes_of 2 first ++ bytes_of 2 count) }
+// Stores row r.
+fn put_row(bytes: &mut [u8], at: usize, tables: &Tables, r: usize)
+    requires sized { HasRows tables.now × (r < tables.now.m) }
+    requires room { at + 12 ≤ length bytes.old }
+    ensures { bytes.new ≡ sets bytes.old at (bytes_of_row tables.now r) }
 {
-    kind.write(bytes, at);
-    made.write(bytes, at + 2);
-    param.write(bytes, at + 4);
-    first.write(bytes, at + 8);
-    count.write(bytes, at + 10);
+    tables.kinds[r].write(bytes, at);
+    tables.makes[r].write(bytes, at + 2);
+    tables.params[r].write(bytes, at + 4);
+    tables.firsts[r].write(bytes, at + 8);
+    tables.counts[r].write(bytes, at + 10);
 }
 
 // Stores the rows.
@@ -45,25 +46,18 @@ pub fn put_rows(bytes: &mut [u8], head: usize, tables: &Tables)
 {
     let at = rows_at(head, tables.n);
     for r in 0..tables.m {
-        put_row(
-            bytes,
-            at + 12 * r,
-            tables.kinds[r],
-            tables.makes[r],
-            tables.params[r],
-            tables.firsts[r],
-            tables.counts[r],
-        );
+        put_row(bytes, at + 12 * r, tables, r);
     }
 }
 
-// Stores one entry.
-fn put_entry(bytes: &mut [u8], at: usize, var: u16, coef: i16)
-    requires { at + 4 ≤ length bytes.old }
-    ensures { bytes.new ≡ sets bytes.old at (bytes_of 2 var ++ bytes_of 2 (of_z w16 coef)) }
+// Stores entry i.
+fn put_entry(bytes: &mut [u8], at: usize, tables: &Tables, i: usize)
+    requires sized { HasEntries tables.now × (i < tables.now.e) }
+    requires room { at + 4 ≤ length bytes.old }
+    ensures { bytes.new ≡ sets bytes.old at (bytes_of_entry tables.now i) }
 {
-    var.write(bytes, at);
-    coef.write(bytes, at + 2);
+    tables.vars[i].write(bytes, at);
+    tables.coefs[i].write(bytes, at + 2);
 }
 
 // Stores the entries.
@@ -74,6 +68,6 @@ pub fn put_entries(bytes: &mut [u8], head: usize, tables: &Tables)
 {
     let at = entries_at(head, tables.n, tables.m);
     for i in 0..tables.e {
-        put_entry(bytes, at + 4 * i, tables.vars[i], tables.coefs[i]);
+        put_entry(bytes, at + 4 * i, tables, i);
     }
 }

@@ -16,14 +16,14 @@ use fields::numbers::Number;
 use fields::places::{Size, Version, bounded_count, bounds_at, ends_at, head_length};
 use tables::{Refusal, none_fails, refused};
 
-// The bounds of a variable are full: their bits are those of -2,147,483,647 and 2,147,483,647.
+// The bounds of a variable are full: -2,147,483,647 and 2,147,483,647.
 fn full(bytes: &[u8], at: usize, v: usize) -> bool
     requires { (at < 1048576) × (at + 8 * v + 8 ≤ length bytes.now) }
     ensures { result ≡ full_at bytes.now at v }
 {
-    let low = u32::read(bytes, at + 8 * v);
-    let high = u32::read(bytes, at + 4 + 8 * v);
-    (low == 2147483649) & (high == 2147483647)
+    let low = i32::read(bytes, at + 8 * v);
+    let high = i32::read(bytes, at + 4 + 8 * v);
+    (low == -i32::MAX) & (high == i32::MAX)
 }
 
 // The first variable whose bounds are not full.
@@ -40,7 +40,7 @@ fn put_full(file: &mut [u8], at: usize, count: usize)
     ensures { file.new ≡ sets file.old at (joined File.full_bytes count) }
 {
     for v in 0..count {
-        put_bound(file, at + 8 * v, -2147483647, 2147483647);
+        put_bound(file, at + 8 * v, -i32::MAX, i32::MAX);
     }
 }
 
