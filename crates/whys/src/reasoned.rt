@@ -110,6 +110,7 @@ pub fn ask_by(
     requires asked_value { all (λ v. ltb v tables.now.n) asked.now ≡ true }
     ensures { out.new ≡ over (length asked.now) (λ i. reason_now tables.now values.now by.now flags.now (nat stored.now (nat asked.now i)) (nat asked.now i)) out.old }
 {
+    // Stays: by `out.iter_mut().zip(asked)` an invariant has no name for what has been written so far (`returns`).
     for i in 0..asked.len() {
         let v = wide(asked[i]);
         out[i] = reason_now(tables, by, values, flags, v, stored[v]);
