@@ -1,11 +1,9 @@
 // A file stored: its header, and behind it start values, rows and entries, one line behind the other.
-ghost use Rattle.std.specs.Prelude.{◌≡◌, ◌++◌, ◌+◌, ◌≤◌, ◌<◌, length};
+ghost use Rattle.std.specs.Prelude.{◌≡◌, ◌+◌, ◌≤◌, ◌<◌, length};
 ghost use Rattle.std.proofs.lemmas.List.Edits.{sets};
-ghost use Rattle.std.specs.Int.{w16, w32};
-ghost use Rattle.std.proofs.Common.{of_z};
 ghost use Rattle.paper.specs.Lists.{joined};
 ghost use Rattle.fields.specs.Rows.{HasRows, HasEntries, bytes_of_row, bytes_of_entry};
-ghost use Rattle.paper.specs.File.{bytes_of, start_bytes, rows_from, entries_from, bounds_from};
+ghost use Rattle.paper.specs.File.{start_bytes, rows_from, entries_from, bounds_from};
 
 use crate::numbers::Number;
 use crate::places::{entries_at, rows_at};

@@ -1,5 +1,5 @@
 // The header of a file, stored.
-ghost use Rattle.std.specs.Prelude.{◌≡◌, ◌≤◌, ◌<◌, length, ◌++◌};
+ghost use Rattle.std.specs.Prelude.{◌≡◌, ◌≤◌, length, ◌++◌};
 ghost use Rattle.std.proofs.lemmas.List.Edits.{sets};
 ghost use Rattle.paper.specs.File.{bytes_of, head_of, head_bytes};
 ghost use Rattle.fields.specs.Places.{version_in, Small};
