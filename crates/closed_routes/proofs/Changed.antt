@@ -1,5 +1,5 @@
 -- The inputs of a row: those that its part of the entries names. Assumes nothing.
-use Prim.Native.Nat.{ℕ, suc, ◌+◌, ◌-◌, ◌≤◌, ◌<◌}
+use Prim.Native.Nat.{ℕ, suc, ◌+◌, ◌-◌, ◌<◌}
 use native.Mathlib.Omega.{arith}
 use mathlib.Core.Bool.{Bool, true, false, ◌||◌}
 use mathlib.Core.List.{List, [], ◌∷◌, Memᴰ}
@@ -36,9 +36,6 @@ sees-none changes firsts counts vars by v e =
     sym (ap (any changes) ((lawful-work (shapes [] firsts counts vars) by).bare v (idle (shapes [] firsts counts vars) by v e)))
 
 module _ {firsts counts vars by : List ℕ} {v r first last : ℕ} (K : Row firsts counts vars by v r first last) where
-  pub row-inside : last ≤ length vars
-  row-inside = let h = K.parts.inside v r K.row in let z = K.last-is in omega arith
-
   part-is : entries vars first last ≡ part_of (nat firsts r) (nat counts r) vars
   part-is = let z = K.last-is in let f = K.first-is in let d : last - first ≡ nat counts r = omega arith in rw (d, f)
 
