@@ -11,6 +11,7 @@ use rows::steps::moved;
 use tables::lent::Index;
 
 // Marks v, and then what its readers make: a chain that comes back to v finds it marked.
+// Stays: where chains end, `routes::marks` marks v last, and that it ends is a theorem on the numbers of variables that may not change.
 fn spread(v: usize, makes: &[u16], index: &Index, marks: &mut [u8])
     requires upward { LeadsUp makes.now index.now.starts.now index.now.places.now }
     requires there { (suc v < length index.now.starts.now) × (length index.now.starts.now ≤ suc (length marks.old)) }
@@ -30,6 +31,7 @@ fn spread(v: usize, makes: &[u16], index: &Index, marks: &mut [u8])
 }
 
 // Marks every variable that moved, and what is made from it.
+// Stays: no plainer as one with `mark_moved`, which would be handed the walk as a closure over the row and what it promises as laws.
 pub fn spread_moved(
     moves: &[u16],
     makes: &[u16],

@@ -1,6 +1,7 @@
 -- What the walk along the readers has touched, as a list. Assumes nothing.
-use Rattle.std.specs.Prelude.{ℕ, ◌≤◌, ◌<◌, cond, List, ◌≡◌, eqb, length}
+use Rattle.std.specs.Prelude.{ℕ, ◌≤◌, ◌<◌, Bool, true, false, cond, List, ◌≡◌, eqb, length}
 use Rattle.paper.specs.Lists.{nat, size}
+use Rattle.closed_routes.specs.Walk.{Walked}
 
 -- u stands at one of the places from i to the end of the list
 pub record Listed (touched : List ℕ) (i count u : ℕ) : Type 0 where
@@ -18,3 +19,8 @@ pub record Noted (n : ℕ) (by marks work touched : List ℕ) (count : ℕ) : Ty
   pub low : (i : ℕ) → i < count → nat touched i < n
   pub listed : (u : ℕ) → nat marks u ≡ 1 → Listed touched 0 count u
   pub planned : (u : ℕ) → u < n → nat work u ≡ cond (eqb (nat marks u) 1) (nat by u) 0
+
+-- the walk from v if it is to be walked, and else nothing
+pub record WalkedIf (to : ℕ → List ℕ) (walks : Bool) (v : ℕ) (before after : List ℕ) : Type 0 where
+  pub walked : walks ≡ true → Walked (λ u. true) to v before after
+  pub still : walks ≡ false → after ≡ before

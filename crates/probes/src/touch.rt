@@ -12,7 +12,7 @@ use rows::steps::moved;
 use tables::lent::Index;
 
 // Marks v, lists it and plans its work, and then does so with what its readers make; answers how many are listed.
-// Stays: no plainer as one with the walk of `routes::marks`, which has no list and no work: each would be handed the steps of the other.
+// Stays: no plainer as one with the walk of `closed_routes::reaches`, which has no list and no work: each would be handed the steps of the other.
 fn touch(
     v: usize,
     makes: &[u16],
