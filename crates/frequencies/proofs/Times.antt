@@ -132,8 +132,3 @@ unfolding exact
 exact-many [] h = absurd (omega arith)
 exact-many (b ∷ []) h = absurd (omega arith)
 exact-many (b ∷ c ∷ bs) h = refl
-
-pub exact_one : (bs : List ℕ) → 0 < length bs → length bs ≤ 1 → exact (nat bs 0 ∷ []) ≡ exact bs
-exact_one [] h k = absurd (omega arith)
-exact_one (b ∷ []) h k = refl
-exact_one (b ∷ c ∷ bs) h k = absurd (omega arith)

@@ -78,29 +78,10 @@ module _ (n b : ℕ) (bs : List ℕ) where
       go true true q e = cc
       go true false q e = let low = leb-false m 2147483647 q in let h = from_le m bs in said-no (all is_digit bs) (number_from m bs) (omega arith)
 
--- a byte that is no digit
-pub no-digit-low : (b : ℕ) → b < 48 → is_digit b ≡ false
-no-digit-low b h = rw (lt-leb 48 b h)
-
-pub no-digit-high : (b : ℕ) → 57 < b → is_digit b ≡ false
-no-digit-high b h = let l = le-leb 48 b (omega arith) in rw (l, lt-leb b 57 h)
-
-pub digit-yes : (b : ℕ) → 48 ≤ b → b ≤ 57 → is_digit b ≡ true
-digit-yes b h k = rw (le-leb 48 b h, le-leb b 57 k)
-
 -- two digits of which the first is at most `most`
 module _ (t o most : ℕ) where
   abbrev pub pair_said : Option ℕ
   pair_said = said (between 48 t most && is_digit o) (number (t ∷ o ∷ []))
-
-  pub pair-low : t < 48 → None ≡ pair_said
-  pair-low h = rw (lt-leb 48 t h)
-
-  pub pair-high : 48 ≤ t → most < t → None ≡ pair_said
-  pair-high l h = rw (le-leb 48 t l, lt-leb t most h)
-
-  pub pair-ones : is_digit o ≡ false → None ≡ pair_said
-  pair-ones e = said-off (between 48 t most && is_digit o) (number (t ∷ o ∷ [])) (ap (between 48 t most &&◌) e ∙ and-false (between 48 t most))
 
   pub pair-yes : 48 ≤ t → t ≤ most → is_digit o ≡ true → 10 * (t - 48) + (o - 48) ≤ 2147483647 → Some (10 * (t - 48) + (o - 48)) ≡ pair_said
   pair-yes l h e small =

@@ -11,14 +11,11 @@ fn next_digit(n: u64, digit: u8) -> Option<u64>
     requires { n ≤ 2147483647 }
     ensures { result ≡ said (specs.is_digit digit) (10 * n + (digit - 48)) }
 {
-    if digit < b'0' {
+    if !digit.is_ascii_digit() {
         return None;
     }
-    if digit > b'9' {
-        return None;
-    }
-    let next = 10 * n + (digit - b'0') as u64;
-    if next <= 2147483647 { Some(next) } else { None }
+    let next = 10 * n + u64::from(digit - b'0');
+    (next <= 2147483647).then_some(next)
 }
 
 // The number that these bytes say, if a value can be it.
@@ -37,19 +34,10 @@ fn pair_of(tens: u8, ones: u8, most: u8) -> Option<u64>
     requires { most ≤ 57 }
     ensures { result ≡ said (between 48 tens most && specs.is_digit ones) (specs.number (tens ∷ ones ∷ [])) }
 {
-    if tens < b'0' {
+    if tens < b'0' || most < tens || !ones.is_ascii_digit() {
         return None;
     }
-    if tens > most {
-        return None;
-    }
-    if ones < b'0' {
-        return None;
-    }
-    if ones > b'9' {
-        return None;
-    }
-    Some(10 * (tens - b'0') as u64 + (ones - b'0') as u64)
+    Some(10 * u64::from(tens - b'0') + u64::from(ones - b'0'))
 }
 
 // The number that the first k bytes say, if a value can be it; hours are mostly two digits.
