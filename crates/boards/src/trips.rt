@@ -27,6 +27,7 @@ fn departures_of(start: i32, end: i32, headway: i32) -> i32
         vars: &[0, 1, 2],
         coefs: &[1, 1, 1],
     };
+    // Stays: rows of a fixed length, since no call allocates.
     let mut stored = [BLANK; 4];
     build_new(
         &tables,

@@ -89,6 +89,7 @@ pub fn build_core(
     ensures { left_by_build result numbers.new order.new stored.new reader_starts.new reader_places.new reasons.new log_sizes.new ≡ build (lent_to_build (record_in session) tables.now (lent_bounds bounds.now) starts.now numbers.old order.old stored.old reader_starts.old reader_places.old reasons.old log_sizes.old) }
 {
     if tables.n <= 256 {
+        // Stays: rows of a fixed length, since no call allocates.
         let mut by = [0u16; 256];
         let mut state = [0u16; 256];
         return build_over(
@@ -139,6 +140,7 @@ pub fn build_new(
 ) -> Done
     ensures { left_by_build result numbers.new order.new stored.new reader_starts.new reader_places.new reasons.new (replicate 65 0) ≡ build (lent_to_build no_record tables.now (bounds_in (replicate 4096 lowest) (replicate 4096 highest)) starts.now numbers.old order.old stored.old reader_starts.old reader_places.old reasons.old (replicate 65 0)) }
 {
+    // Stays: rows of a fixed length, since no call allocates.
     let lows = [LOWEST; 4096];
     let highs = [HIGHEST; 4096];
     let mut log_sizes = [0u16; 65];

@@ -32,6 +32,7 @@ pub fn take_back_core(
 ) -> Done
     ensures { left_by_keep result stored.new reasons.new flags.new log_sizes.new log_vars.now log_values.now ≡ take_back (record_in session) (log_in log_sizes.old log_vars.now log_values.now) (lent_to_model tables.now bounds.now numbers.now order.now stored.old index.now reasons.old) (to_take flags.old) }
 {
+    // Stays: rows of a fixed length, since no call allocates.
     let mut by = [0u16; 4096];
     // Stays: bounds and index as they are written out: `*bounds` beside `*tables` would hold two lifetimes of the signature in one struct, which the check does not cover.
     let judged = {

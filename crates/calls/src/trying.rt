@@ -25,6 +25,7 @@ pub fn trial_core(
 ) -> Done
     ensures { left_by_trial result results.new trial.new flags.new why.new ≡ tried (record_in session) (lent_model model.now) (lent_to_try mv.now asked.now results.old trial.old flags.old why.old) }
 {
+    // Stays: rows of a fixed length, since no call allocates.
     let mut by = [0u16; 4096];
     let judged = judge_trial(
         session.blanks,

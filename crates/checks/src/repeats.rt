@@ -33,6 +33,7 @@ fn first_marked(m: usize, vars: &[u16]) -> Option<usize>
     requires { m ≤ length vars.now }
     ensures { result ≡ if_below m (first_fail (made_once (makes_rows vars.now)) m) }
 {
+    // Stays: rows of a fixed length, since no call allocates.
     let mut seen = [false; 4096];
     for i in 0..m {
         if named_before(&seen, vars, i) {

@@ -26,6 +26,7 @@ pub fn first_stale(tables: &Tables, by: &[u16], stored: &[i32]) -> Option<usize>
     requires there { tables.now.n ≤ length stored.now }
     ensures { result ≡ if_below tables.now.n (first_fail (is_fresh (lent_tables tables.now) stored.now) tables.now.n) }
 {
+    // Stays: rows of a fixed length, since no call allocates.
     let mut values = [0i32; 4096];
     let mut states = [0u8; 4096];
     copy_values(tables.n, stored, &mut values);
@@ -41,6 +42,7 @@ pub fn first_stuck(tables: &Tables, by: &[u16], stored: &[i32], mv: &Move) -> Op
     requires fits { PairsFit tables.now.n (lent_move mv.now) }
     ensures { result ≡ if_below tables.now.n (first_fail (determined (lent_tables tables.now) (moved (pairs_of_move (lent_move mv.now)) (values_in (lent_tables tables.now) stored.now))) tables.now.n) }
 {
+    // Stays: rows of a fixed length, since no call allocates.
     let mut values = [0i32; 4096];
     let mut states = [0u8; 4096];
     copy_values(tables.n, stored, &mut values);

@@ -18,6 +18,7 @@ pub fn work_all(tables: &Tables, numbers: &[u16], order: &[u16], values: &mut [i
     ensures { values.new ≡ over tables.now.n (worth (lent_tables tables.now) (values_in (lent_tables tables.now) values.old)) values.old }
 {
     if some_closes(tables, numbers) {
+        // Stays: rows of a fixed length, since no call allocates.
         let mut by = [0u16; 4096];
         makers(tables.n, tables.m, tables.makes, &mut by);
         let mut states = [0u8; 4096];

@@ -54,6 +54,7 @@ pub fn follow_route(
     requires makers { Makers (lent_tables tables.now) by.now }
     ensures { Routed (lent_tables tables.now) (route_meant route) stored.now trial.old flags.old asked.now trial.new flags.new }
 {
+    // Stays: rows of a fixed length, since no call allocates.
     let mut values = [0i32; 4096];
     copy_values(tables.n, trial, &mut values);
     let mut states = [0u8; 4096];

@@ -99,6 +99,7 @@ fn try_all(
     ensures totals { result ≡ totals (outcomes (record_in session) (unreasoned model.now) asked (batch_lent batch.now)) }
     ensures tallies { by_number.new ≡ tallies (outcomes (record_in session) (unreasoned model.now) asked (batch_lent batch.now)) by_number.old }
 {
+    // Stays: rows of a fixed length, since no call allocates.
     let mut by = [0u16; 4096];
     let mut trial = [0i32; 4096];
     let mut flags = [0u8; 4096];

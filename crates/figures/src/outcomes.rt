@@ -46,6 +46,7 @@ fn try_by(
     requires rows { (length trial.old ≡ 4096) × (length flags.old ≡ 4096) }
     ensures { (result ≡ tried_once (record_in session) (lent_model model.now) asked route (lent_move mv.now)) × (result.number < 22) × (result.evaluations ≤ 4096) × (away result.result ≤ 2147483648) }
 {
+    // Stays: rows of a fixed length, since no call allocates.
     let mut results = [0i32; 1];
     let mut why = [0u8; 1];
     let one = Asked {

@@ -29,6 +29,7 @@ pub fn fill_keep(
     requires closing { closed ≡ closes (lent_tables tables.now) }
     ensures { KeepFilled (lent_tables tables.now) stored.old (lent_to_keep mv.now flags.old) result stored.new flags.new }
 {
+    // Stays: rows of a fixed length, since no call allocates.
     let mut row = [0i32; 4096];
     begin_route(tables.n, stored, mv, &mut row, flags);
     run_route(

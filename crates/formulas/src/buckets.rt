@@ -73,6 +73,7 @@ pub fn sharing_places(held: &[i32]) -> usize
     if held.len() < 48 {
         return sharing_pairs(held);
     }
+    // Stays: rows of a fixed length, since no call allocates.
     let mut counts = [0u16; 2048];
     let later = count_buckets(held, &mut counts);
     if held.len() < 5 * later {

@@ -13,6 +13,7 @@ pub fn shared(row: Inputs) -> i32
     requires { length row.vars.now ≤ 256 }
     ensures { result ≡ unless_blank (λ xs. pos (Formula.sharing xs)) (inputs_of row.entry) }
 {
+    // Stays: rows of a fixed length, since no call allocates.
     let mut held = [0i32; 256];
     let n = row.len();
     row.copy_to(&mut held);

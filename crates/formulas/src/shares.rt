@@ -22,6 +22,7 @@ fn mark<const N: usize>(values: [i32; N], first: usize, held: &[i32], marks: &mu
     ensures marked { PlacesMarked (λ x. any (eq_z x) values.entry) held.now first (length held.now) marks.old marks.new }
     ensures found { result ≡ map (λ z. cond (any (λ x. eq_z x z) (drop first held.now)) all_bits 0) values.entry }
 {
+    // Stays: rows of a fixed length, since no call allocates.
     let mut found = [0; N];
     for j in first..held.len() {
         let x = held[j];
@@ -83,6 +84,7 @@ pub fn sharing_pairs(held: &[i32]) -> usize
     requires { length held.now ≤ 256 }
     ensures { result ≡ Formula.sharing held.now }
 {
+    // Stays: rows of a fixed length, since no call allocates.
     let mut marks = [0u32; 256];
     let mut n = 0;
     let mut i = 0;

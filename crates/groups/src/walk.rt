@@ -73,6 +73,7 @@ pub fn find_groups(links: &Links, marks: &mut [u16; 4096], numbers: &mut [u16; 4
     requires clean { Clean links.now.n marks.old × Clean links.now.n numbers.old }
     ensures { Found links.now.n (links_of links.now) marks.new numbers.new }
 {
+    // Stays: rows of a fixed length, since no call allocates.
     let mut stack = [0u16; 4097];
     visit_all(links, marks, &mut stack, numbers);
 }

@@ -40,6 +40,7 @@ pub fn build_file(file: &[u8], numbers: &mut [u16], stored: &mut [i32], reasons:
     if 65536 < file.len() {
         return unread(refused(1, 0));
     }
+    // Stays: rows of a fixed length, since no call allocates.
     let mut starts = [0i32; 4096];
     let mut kinds = [0u16; 4096];
     let mut makes = [0u16; 4096];
@@ -94,6 +95,7 @@ fn build_tables(
         lows: &[LOWEST; 4096],
         highs: &[HIGHEST; 4096],
     };
+    // Stays: rows of a fixed length, since no call allocates.
     let mut order = [0u16; 4096];
     let mut reader_starts = [0u16; 4097];
     let mut reader_places = [0u16; 16384];

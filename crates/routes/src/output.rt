@@ -54,6 +54,7 @@ pub fn mark_guided(
         starts: &index.starts[..tables.n + 1],
         places: index.places,
     };
+    // Stays: rows of a fixed length, since no call allocates.
     let mut marks = [0u8; 4096];
     mark_moved(moves, tables.makes, &index, stored, trial, &mut marks);
     let mut work = [0u16; 4096];

@@ -60,6 +60,7 @@ fn save_packed(
     requires there { (m ≤ length row.now) × (tables.now.n ≤ length starts.old) }
     ensures { left_by_salvage result file.new list.new ≡ Salvage.salvage (lends_to_salvage bytes.now file.old list.old) }
 {
+    // Stays: rows of a fixed length, since no call allocates.
     let mut by = [0u16; 4096];
     let mut taken = [false; 4096];
     let n = tables.n;
@@ -83,6 +84,7 @@ fn save_rows(
     requires listed { rows.now ≡ flagged true row.now tables.now.m }
     ensures { left_by_salvage result file.new list.new ≡ Salvage.salvage (lends_to_salvage bytes.now file.old list.old) }
 {
+    // Stays: rows of a fixed length, since no call allocates.
     let mut kinds = [0u16; 4096];
     let mut makes = [0u16; 4096];
     let mut params = [0i32; 4096];
@@ -130,6 +132,7 @@ pub(crate) fn save(
     requires there { (tables.now.m ≤ length row.now) × (tables.now.n ≤ length starts.old) }
     ensures { left_by_salvage result file.new list.new ≡ Salvage.salvage (lends_to_salvage bytes.now file.old list.old) }
 {
+    // Stays: rows of a fixed length, since no call allocates.
     let mut rows = [0u16; 4096];
     let k = list_flagged(tables.m, row, true, 0, &mut rows);
     save_rows(bytes, tables, &rows[..k], starts, row, file, list)

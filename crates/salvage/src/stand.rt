@@ -28,6 +28,7 @@ fn salvage_rows(
     requires values { (tables.now.n ≤ length starts.old) × (take tables.now.n starts.old ≡ start_given bytes.now) }
     ensures { left_by_salvage result file.new list.new ≡ Salvage.salvage (lends_to_salvage bytes.now file.old list.old) }
 {
+    // Stays: rows of a fixed length, since no call allocates.
     let mut row = [false; 4096];
     keep_rows(bytes, tables, &mut row);
     drop_rows(tables, &mut row);
@@ -45,6 +46,7 @@ pub(crate) fn salvage_given(
     requires head { by_lines (File.head_lines File.version1 bytes.now) accepted ≡ accepted }
     ensures { left_by_salvage result file.new list.new ≡ Salvage.salvage (lends_to_salvage bytes.now file.old list.old) }
 {
+    // Stays: rows of a fixed length, since no call allocates.
     let mut starts = [0i32; 4096];
     let mut kinds = [0u16; 4096];
     let mut makes = [0u16; 4096];

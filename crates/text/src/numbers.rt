@@ -9,6 +9,7 @@ use formulas::blanks::is_blank;
 pub fn put_decimal(out: &mut [u8], at: usize, n: u64) -> usize
     ensures { Put (Lines.decimal n) out.old at out.new result }
 {
+    // Stays: rows of a fixed length, since no call allocates.
     let mut digits = [0u8; 20];
     let k = io::decimal(n, &mut digits);
     put_all(out, at, &digits[..k])

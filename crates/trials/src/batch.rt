@@ -170,6 +170,7 @@ pub fn trials(
     ) {
         return Err(refused(1, 0));
     }
+    // Stays: rows of a fixed length, since no call allocates.
     let mut by = [0u16; 4096];
     let mut trial = [0i32; 4096];
     let mut flags = [0u8; 4096];

@@ -18,6 +18,7 @@ fn show(file: &[u8], out: &mut [u8; ROOM]) -> usize
     ensures value { result ≡ length (printed false file.now) }
     ensures out_after { out.new ≡ printed false file.now ++ drop result out.old }
 {
+    // Stays: rows of a fixed length: a program that allocates could fail where this one prints.
     let mut numbers = [0u16; 4096];
     let mut stored = [0i32; 4096];
     let mut row = [0u8; 4096];
@@ -29,6 +30,7 @@ fn show(file: &[u8], out: &mut [u8; ROOM]) -> usize
 }
 
 fn main(rt: HostRuntime) -> std::io::Result<()> {
+    // Stays: rows of a fixed length: a program that allocates could fail where this one prints.
     let mut file = [0u8; 65537];
     let got = read_full(&mut rt.stdin(), &mut file);
     let mut out = [0u8; ROOM];

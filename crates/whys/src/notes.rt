@@ -30,6 +30,7 @@ pub fn first_reasons(tables: &Tables, values: &[i32], reasons: &mut [u8])
     requires room { (tables.now.n ≤ length values.now) × (tables.now.n ≤ length reasons.old) }
     ensures { reasons.new ≡ over tables.now.n (shown (lent_tables tables.now) (values_of values.now)) reasons.old }
 {
+    // Stays: rows of a fixed length, since no call allocates.
     let mut by = [0u16; 4096];
     makers(tables.n, tables.m, tables.makes, &mut by);
     let flags = [1u8; 4096];

@@ -19,6 +19,7 @@ fn first_plain(tables: &Tables, by: &[u16]) -> Option<usize>
     requires makers { Makers (kinded_lent tables.now) by.now }
     ensures { result ≡ if_below tables.now.n (first_fail (λ v. not (depends (plain_inputs (kinded_lent tables.now)) tables.now.n v v)) tables.now.n) }
 {
+    // Stays: rows of a fixed length, since no call allocates.
     let mut begins = [0u16; 4096];
     let mut stops = [0u16; 4096];
     let mut marks = [0u16; 4096];
@@ -42,6 +43,7 @@ fn first_round(tables: &Tables, by: &[u16], numbers: &mut [u16]) -> Option<usize
     ensures least { result ≡ if_below tables.now.n (first_fail (λ v. all_below (λ x. not (round_index (kinded_lent tables.now) v x)) tables.now.n) tables.now.n) }
     ensures numbered { Shared (kinded_lent tables.now) numbers.new }
 {
+    // Stays: rows of a fixed length, since no call allocates.
     let mut begins = [0u16; 4096];
     let mut stops = [0u16; 4096];
     let mut marks = [0u16; 4096];

@@ -21,6 +21,7 @@ fn groups_right(tables: &Tables, by: &[u16], numbers: &[u16], order: &[u16]) -> 
 {
     let n = tables.n;
     let m = tables.m;
+    // Stays: rows of a fixed length, since no call allocates.
     let mut shared = [0u16; 4096];
     let mut rows = [0u16; 4096];
     let barred = find_shared(tables, by, &mut shared);

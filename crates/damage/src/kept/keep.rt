@@ -78,6 +78,7 @@ pub fn keep_rows(bytes: &[u8], tables: &Tables, stands: &mut [bool])
     requires m_in_bounds { tables.now.m ≤ length stands.old }
     ensures { KeptFlags bytes.now (lent_tables tables.now) stands.new }
 {
+    // Stays: rows of a fixed length, since no call allocates.
     let mut made = [false; 4096];
     let mut used = 0;
     for row in 0..tables.m {

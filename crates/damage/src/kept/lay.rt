@@ -38,6 +38,7 @@ pub fn lay_given(
     ensures { Laid bytes.now (lent size.n size.m size.e kinds.new makes.new params.new firsts.new counts.new
         vars.new coefs.new) starts.new }
 {
+    // Stays: rows of a fixed length, since no call allocates.
     let mut file = [0u8; 131096];
     fill(bytes, &mut file);
     lay_starts(&file, 24, size.n, starts);

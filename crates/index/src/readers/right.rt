@@ -29,6 +29,7 @@ fn walk_rows<const N: usize>(tables: &Tables, nums: &[u16], index: &Index) -> Op
     requires cells { (tables.now.n ≤ N) × (N ≤ 4096) }
     ensures { RowsWalked (entries_lent tables.now) (bare_lent tables.now) nums.now (lent_index index.now) result }
 {
+    // Stays: rows of a fixed length, since no call allocates.
     let mut cells = [0u32; N];
     begin(tables.n, index.starts, &mut cells);
     let mut due = true;

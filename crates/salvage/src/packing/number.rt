@@ -21,6 +21,7 @@ fn number_packed(tables: &Tables, state: &mut [u16; 4096])
     requires clean { Clean tables.now.n state.old }
     ensures { Known (bare_lent tables.now) state.new }
 {
+    // Stays: rows of a fixed length, since no call allocates.
     let mut by = [0u16; 4096];
     makers(tables.n, tables.m, tables.makes, &mut by);
     find_numbers(tables, &by, state);
@@ -34,6 +35,7 @@ fn number_rows(tables: &Tables, rows: &[u16], state: &mut [u16; 4096])
     requires clean { Clean tables.now.n state.old }
     ensures { Known (shape_of tables.now rows.now) state.new }
 {
+    // Stays: rows of a fixed length, since no call allocates.
     let mut makes = [0u16; 4096];
     let mut firsts = [0u16; 4096];
     let mut counts = [0u16; 4096];
@@ -80,6 +82,7 @@ pub fn drop_rows(tables: &Tables, row: &mut [bool])
         && ends (shape_of tables.now (flagged true row.old tables.now.m)) (nat tables.now.makes.now r))
         row.old }
 {
+    // Stays: rows of a fixed length, since no call allocates.
     let mut rows = [0u16; 4096];
     let mut state = [0u16; 4096];
     let k = list_flagged(tables.m, row, true, 0, &mut rows);
