@@ -7,6 +7,7 @@ use crate::verdict::{judge_file, least_room};
 use tables::Refusal;
 
 // Reads the windows of a file into the lent rows: how many there are. A file that is refused leaves the rows as they are.
+// Stays: the rows that are written are lent one by one, as the C interface lends them; so in `fill`.
 pub fn read_frequencies(
     bytes: &[u8],
     name_places: &mut [u32],

@@ -14,6 +14,7 @@ use crate::rows::Columns;
 use tables::Refusal;
 
 // The least of the lengths of the lent rows.
+// Stays: eight numbers, one for each row that is lent to be written; a loop over an array of them is no plainer.
 pub fn least_room(
     a: usize,
     b: usize,
