@@ -15,6 +15,7 @@ use records::{Done, Session};
 use tables::lent::{Bounds, Index, Tables};
 
 // Build, with the session record taken and given back by value, over two rows for the makers and the numbers.
+// Stays: rows that are written are parameters of their own, here and below: a struct of them would need a clause for each, that it is still the caller's.
 fn build_over(
     session: Session,
     tables: &Tables,

@@ -16,6 +16,7 @@ use tables::lent::Tables;
 use whys::notes::first_reasons;
 
 // Writes the numbers, the order, the index of readers, every value and its reason, and empties the log.
+// Stays: rows that are written are parameters of their own, here and below: a struct of them would need a clause for each, that it is still the caller's.
 pub fn fill_model(
     tables: &Tables,
     starts: &[i32],

@@ -15,6 +15,7 @@ use verdicts::judges::judge_keep;
 use whys::notes::note_reasons;
 
 // Keep, with the session record taken and given back by value. The reason of every variable evaluated is noted.
+// Stays: rows that are written are parameters of their own, here and below: a struct of them would need a clause for each, that it is still the caller's.
 pub fn keep_core(
     session: Session,
     tables: &Tables,

@@ -16,6 +16,7 @@ use verdicts::judges::judge_take_back;
 use whys::notes::note_reasons;
 
 // Taking back the latest kept move, with the session record taken and given back by value. The reason of every variable evaluated is noted.
+// Stays: rows that are written are parameters of their own, here and below: a struct of them would need a clause for each, that it is still the caller's.
 pub fn take_back_core(
     session: Session,
     tables: &Tables,

@@ -13,6 +13,7 @@ use verdicts::judges::judge_trial;
 use whys::notes::asked_reasons;
 
 // Trial, with the session record taken and given back by value. Of every variable asked it gives the reason too: the stored one if the variable is not evaluated.
+// Stays: rows that are written are parameters of their own, here and below: a struct of them would need a clause for each, that it is still the caller's.
 pub fn trial_core(
     session: Session,
     model: &Model,

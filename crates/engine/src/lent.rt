@@ -17,6 +17,7 @@ use tables::lent::{Bounds, Index, Model, Move, Tables};
 use verdicts::asked::Asked;
 
 // Build: numbers, order, values and index of readers of a model whose tables and start values are lent. The reason of every variable is given.
+// Stays: rows that are written are parameters of their own, here and below: a struct of them would need a clause for each, that it is still the caller's.
 pub fn build(
     session: &mut Session,
     tables: &Tables,

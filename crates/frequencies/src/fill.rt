@@ -21,6 +21,7 @@ fn doubled_at(bytes: &[u8], span: Span) -> u8
 }
 
 // Puts the window of a scanned row, which begins on this line, at place i.
+// Stays: rows that are written are parameters of their own, here and below: a struct of them would need a clause for each, that it is still the caller's.
 fn put_window(
     bytes: &[u8],
     row: RowScan,

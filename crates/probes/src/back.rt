@@ -6,6 +6,7 @@ ghost use Rattle.probes.specs.Rest.{AtRest, Astray};
 use integers::wide;
 
 // Gives every listed variable its stored value back, and takes its flag, its mark and its work; answers how many of the first n flags were 1.
+// Stays: rows that are written are parameters of their own, here and below: a struct of them would need a clause for each, that it is still the caller's.
 pub fn put_back(
     n: usize,
     count: usize,

@@ -16,6 +16,7 @@ use tables::lent::{Model, Move};
 use verdicts::asked::Asked;
 
 // Puts the move into the trial row, works out there by route 3 what is asked, and answers how many variables are listed as touched.
+// Stays: rows that are written are parameters of their own, here and below: a struct of them would need a clause for each, that it is still the caller's.
 pub fn fill_guided(
     model: &Model,
     by: &[u16],

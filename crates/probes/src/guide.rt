@@ -14,6 +14,7 @@ use routes::ask::ask_all;
 use tables::lent::{Index, Tables};
 
 // Asks with those marked that moved, and what is made from them; answers how many are listed.
+// Stays: rows that are written are parameters of their own, here and below: a struct of them would need a clause for each, that it is still the caller's.
 pub fn guide(
     tables: &Tables,
     by: &[u16],

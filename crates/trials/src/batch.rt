@@ -46,6 +46,7 @@ fn note(
 }
 
 // Tries a move whose results and reasons have their places from `at` on.
+// Stays: rows that are written are parameters of their own, here and below: a struct of them would need a clause for each, that it is still the caller's.
 fn try_at(
     at: usize,
     judged: &Judged,

@@ -12,6 +12,7 @@ use tables::lent::{Model, Move};
 use verdicts::asked::Asked;
 
 // Tries a move, and answers what a trial of it answers; `results` and `why` are left as the trial leaves them.
+// Stays: rows that are written are parameters of their own, here and below: a struct of them would need a clause for each, that it is still the caller's.
 pub fn try_given(
     judged: &Judged,
     session: Session,

@@ -85,6 +85,7 @@ fn judge_move(
 }
 
 // Tries a move over a judged model, and leaves what a trial leaves.
+// Stays: rows that are written are parameters of their own, here and below: a struct of them would need a clause for each, that it is still the caller's.
 pub fn try_judged(
     judged: &Judged,
     session: Session,

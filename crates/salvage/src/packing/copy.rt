@@ -64,6 +64,7 @@ pub fn pack_parts<T: Copy>(
 }
 
 // Packs the columns that numbers depend on: how many entries the rows have.
+// Stays: rows that are written are parameters of their own, here and below: a struct of them would need a clause for each, that it is still the caller's.
 pub fn pack_shape(
     rows: &[u16],
     tables: &Tables,
