@@ -13,8 +13,8 @@ pub fn pack<T: Copy>(rows: &[u16], column: &[T], out: &mut [T])
     requires { (length rows.now ≤ length out.old) × AllBelow (length rows.now) rows.now (length column.now) }
     ensures { (d : T) → out.new ≡ over (length rows.now) (λ i. get_or column.now (nat rows.now i) d) out.old }
 {
-    for i in 0..rows.len() {
-        out[i] = column[wide(rows[i])];
+    for (i, &row) in rows.iter().enumerate() {
+        out[i] = column[wide(row)];
     }
 }
 
@@ -24,9 +24,9 @@ fn pack_firsts(counts: &[u16], out: &mut [u16]) -> usize
     ensures { (result ≡ total counts.now) × (out.new ≡ over (length counts.now) (λ k. total (take k counts.now)) out.old) }
 {
     let mut first = 0;
-    for i in 0..counts.len() {
+    for (i, &count) in counts.iter().enumerate() {
         out[i] = first as u16;
-        first += wide(counts[i]);
+        first += wide(count);
     }
     first
 }
