@@ -4,10 +4,10 @@ use native.Mathlib.Numerals.{add-one}
 use native.Mathlib.Omega.{arith}
 use mathlib.Core.Bool.{Bool, true, false, cond, beq}
 use mathlib.Core.List.{List, [], ◌∷◌, ◌++◌}
-use mathlib.Core.Path.{◌≡◌, refl, ap, ◌∙◌}
-use lib.ListN.{length, set, length-append}
+use mathlib.Core.Path.{◌≡◌, refl, ap, sym, ◌∙◌}
+use lib.ListN.{length, get_or, take, set, length-append}
 use Rattle.damage.specs.Flags.{flag_wanted}
-use lib.Seq.{sets, length-sets}
+use lib.Seq.{sets, length-sets, get_or-take}
 use Rattle.paper.specs.Lists.{those, joined}
 use Rattle.paper.proofs.Bytes.{go_on}
 use Rattle.paper.proofs.Those.{joined-grown, joined-le}
@@ -72,3 +72,7 @@ wanted-is true true = refl
 wanted-is true false = refl
 wanted-is false true = refl
 wanted-is false false = refl
+
+-- the same of a flag among the first n
+pub wanted-of : (flags : List Bool) (wanted : Bool) (i n : ℕ) → i < n → {b : Bool} → beq (get_or (take n flags) i false) wanted ≡ b → flag_wanted wanted (get_or flags i false) ≡ b
+wanted-of flags wanted i n l e = ap (flag_wanted wanted) (sym (get_or-take n flags i false l)) ∙ wanted-is wanted (get_or (take n flags) i false) ∙ e

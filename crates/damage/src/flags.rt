@@ -9,8 +9,8 @@ pub fn list_flagged(n: usize, flags: &[bool], wanted: bool, at: usize, list: &mu
     ensures { (result ≡ at + length (flagged wanted flags.now n)) × (list.new ≡ sets list.old at (flagged wanted flags.now n)) }
 {
     let mut to = at;
-    for i in 0..n {
-        if flags[i] == wanted {
+    for (i, &flag) in flags[..n].iter().enumerate() {
+        if flag == wanted {
             list[to] = i as u16;
             to += 1;
         }
@@ -24,8 +24,8 @@ pub fn count_flagged(n: usize, flags: &[bool], wanted: bool) -> usize
     ensures { result ≡ length (flagged wanted flags.now n) }
 {
     let mut k = 0;
-    for i in 0..n {
-        if flags[i] == wanted {
+    for &flag in &flags[..n] {
+        if flag == wanted {
             k += 1;
         }
     }
