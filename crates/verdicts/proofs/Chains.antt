@@ -1,14 +1,13 @@
--- The checks that come next, as chains, and those of what is asked, one by one. Assumes nothing.
+-- The checks that come next, as chains. Assumes nothing.
 use Prim.Native.Nat.{ℕ}
-use mathlib.Core.Bool.{Bool, true, false}
-use mathlib.Core.Path.{◌≡◌, ◌∙◌}
+use mathlib.Core.Bool.{Bool}
 use lib.Dec.{ltb}
 use Rattle.paper.specs.Lists.{nat, between}
 use Rattle.paper.specs.Tables.{Tables}
-use Rattle.paper.specs.Checks.{Bounds, Verdict, accepted, refused, check, require, Move}
+use Rattle.paper.specs.Checks.{Bounds, check, require, Move}
 use Rattle.paper.specs.Log.{Log, logged, log_good}
 use Rattle.paper.specs.Calls.{TrialLent}
-use Rattle.paper.proofs.Verdicts.{and_then, Chain, chain-after, check-then, require-then, require-stops, require-next}
+use Rattle.paper.proofs.Verdicts.{Chain, chain-after, check-then, require-then}
 use Rattle.checks.specs.Moves.{pair_checks}
 use Rattle.checks.proofs.MovesJudged.{pair_then}
 use Rattle.verdicts.specs.Chains.{ask_checks, log_checks, keep_checks, take_checks}
@@ -27,14 +26,3 @@ module _ (bs : Bounds) (t : Tables) where
   pub take-then : (l : Log) (kept : ℕ) → Chain (take_checks l kept t bs)
   take-then l kept =
       chain-after (log_checks l t bs kept) (require 15 0 (ltb 0 (logged l))) (require-then 16 0 (log_good l t bs kept)) (require-then 15 0 (ltb 0 (logged l)))
-
--- ── what is asked: checks 9 to 13 ──
-module _ (c : TrialLent) (bs : Bounds) (t : Tables) where
-  abbrev pub from_thirteen : Verdict
-  from_thirteen = check 13 c.asked (λ i. ltb (nat c.asked_vars i) t.n) accepted
-
-  pub stops-9 : between 1 c.route 3 ≡ false → ask_checks c t bs accepted ≡ refused 9 0
-  stops-9 h = require-stops 9 0 (between 1 c.route 3) _ h
-
-  pub past-9 : between 1 c.route 3 ≡ true → ask_checks c t bs accepted ≡ and_then (pair_checks c.move bs t accepted) from_thirteen
-  past-9 h = require-next 9 0 (between 1 c.route 3) _ h ∙ pair_then c.move bs t from_thirteen
