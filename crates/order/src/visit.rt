@@ -13,6 +13,7 @@ use tables::lent::Tables;
 
 // The state of v after its visit: two more than its number, or 1 if it waits for itself or for one that does. An input that has been visited costs a look and
 // no call.
+// Stays: a state is a number, since `NumberVisit` and `Numbered` say the states in the row that the numbers are written over.
 fn visit(v: usize, tables: &Tables, by: &[u16], state: &mut [u16]) -> usize
     requires formed { Formed (bare_lent tables.now) }
     requires makers { Makers (bare_lent tables.now) by.now }
@@ -81,12 +82,7 @@ fn first_open(n: usize, state: &[u16]) -> Option<usize>
     requires { n ≤ length state.now }
     ensures { result ≡ if_below n (first_fail (ended state.now) n) }
 {
-    for v in 0..n {
-        if state[v] < 2 {
-            return Some(v);
-        }
-    }
-    None
+    state[..n].iter().position(|&s| s < 2)
 }
 
 // The least variable that can have no number, or none; with none, `state` holds two more than each variable's number. Whatever the answer, it says

@@ -14,7 +14,7 @@ pub fn write_numbers(tables: &Tables, state: &mut [u16])
     requires there { tables.now.n ≤ length state.old }
     ensures { state.new ≡ over tables.now.n (number (net (bare_lent tables.now)) tables.now.n) state.old }
 {
-    for v in 0..tables.n {
-        state[v] -= 2;
+    for s in &mut state[..tables.n] {
+        *s -= 2;
     }
 }

@@ -1,11 +1,14 @@
-use Rattle.std.proofs.Common.{arith}
-use borrow.Author.Tests.{lt-leb}
-use Rattle.paper.specs.Lists.{nat}
-use Rattle.paper.proofs.Scan.{scan-some, scan-none}
+-- The search finds the first whose visit has not ended (`first-position`). Assumes nothing.
+use Rattle.std.proofs.Common.{◌≡◌, true, false, take, rules}
+use lib.Dec.{leb}
+use borrow.Author.Tests.{tests}
+use Rattle.std.proofs.lemmas.Iterator.{IsFirst-from_position, YieldsList-from_slice}
+use Rattle.tables.proofs.Positions.{first-position}
 use Rattle.order.proofs.visit.first_open.Goals as goal
 
-pub returns-then-state-v-lt2 : goal.returns-then-state-v-lt2
-returns-then-state-v-lt2 c = scan-some _ _ _ c.loop-v.invariant (omega arith) (lt-leb 2 (nat c.args.state.now c.loop-v.v) (omega arith))
-
 pub returns : goal.returns
-returns c = scan-none _ _ _ c.loop-v.invariant (omega arith)
+returns c =
+    let a = c.args in
+    first-position (leb 2) 0 a.n a.state.now _ c.requires
+    (IsFirst-from_position _ _ _ (λ s. leb 2 s ≡ false) (λ s. leb 2 s ≡ true) c.position.ensures.ran (YieldsList-from_slice (take a.n a.state.now) cc)
+    (λ x q k. search (rules, tests)) (λ x q k. search (rules, tests)))
