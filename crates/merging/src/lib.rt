@@ -36,16 +36,11 @@ fn totals_fit(first: Totals, second: Totals) -> bool
 }
 
 // Whether the tallies of two batches can be added.
-// Stays: the tests are joined, and no turn leaves the loop.
 fn tallies_fit(first: &[u32], second: &[u32]) -> bool
     requires { (22 ≤ length first.now) × (22 ≤ length second.now) }
     ensures { result ≡ tallies_fit first.now second.now }
 {
-    let mut fit = true;
-    for k in 0..22 {
-        fit &= counts_fit(first[k], second[k]);
-    }
-    fit
+    (0..22).all(|k| counts_fit(first[k], second[k]))
 }
 
 // The sum of two sums that are at most half as large as fits.
@@ -73,6 +68,7 @@ fn add_totals(first: Totals, second: Totals) -> Totals
 }
 
 // Writes the tallies of both batches.
+// Stays: k picks from three rows.
 fn add_tallies(first: &[u32], second: &[u32], by_number: &mut [u32])
     requires { (22 ≤ length first.now) × (22 ≤ length second.now) × (22 ≤ length by_number.old) × (tallies_fit first.now second.now ≡ true) }
     ensures { by_number.new ≡ over 22 (λ k. nat first.now k + nat second.now k) by_number.old }
