@@ -9,6 +9,7 @@ ghost use Rattle.fields.specs.Columns.{Inside};
 use crate::numbers::Number;
 
 // Lays a column of numbers over a row.
+// Stays: i picks the place that is read too, so an iterator over the row would have to count it.
 pub fn lay_column<N: Number>(bytes: &[u8], at: usize, step: usize, count: usize, out: &mut [N])
     requires inside { Inside (length bytes.now) at step N.width count }
     requires count_in_bounds { count ≤ length out.old }

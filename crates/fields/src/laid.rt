@@ -9,7 +9,7 @@ use crate::columns::lay_column;
 use crate::places::{Size, entries_at, rows_at};
 
 // Lays the five columns of the rows over the lent ones.
-// Stays: the rows are written, and of a struct of rows lent to be written a clause has no names for what they hold at exit.
+// Stays: the rows are written: with a struct of them lent as `&mut` the goal `returns-clause-kinds_after` stayed open, and each row would need a clause that it is still the caller's.
 pub fn lay_rows(
     bytes: &[u8],
     head: usize,

@@ -20,6 +20,7 @@ pub fn put_bound(bytes: &mut [u8], at: usize, low: i32, high: i32)
 }
 
 // Stores the bounds, of as many variables as have them.
+// Stays: v picks from two rows, and the place too.
 pub fn put_bounds(bytes: &mut [u8], at: usize, count: usize, bounds: &Bounds)
     requires { (count ≤ length bounds.now.lows.now) × (count ≤ length bounds.now.highs.now) × (at + 8 * count ≤ length bytes.old) }
     ensures { bytes.new ≡ sets bytes.old at (joined (bound_bytes bounds.now.lows.now bounds.now.highs.now) count) }

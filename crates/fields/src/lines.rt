@@ -18,8 +18,8 @@ pub fn put_starts(bytes: &mut [u8], head: usize, n: usize, starts: &[i32])
     requires { (n ≤ length starts.now) × (rows_from head n ≤ length bytes.old) }
     ensures { bytes.new ≡ sets bytes.old head (joined (start_bytes starts.now) n) }
 {
-    for v in 0..n {
-        starts[v].write(bytes, head + 4 * v);
+    for (v, &start) in starts[..n].iter().enumerate() {
+        start.write(bytes, head + 4 * v);
     }
 }
 
@@ -37,6 +37,7 @@ fn put_row(bytes: &mut [u8], at: usize, tables: &Tables, r: usize)
 }
 
 // Stores the rows.
+// Stays: r picks from five columns, and the place too.
 pub fn put_rows(bytes: &mut [u8], head: usize, tables: &Tables)
     requires sized { HasRows tables.now }
     requires head_bound { (head ≤ 28) × (tables.now.n < 65536) × (tables.now.m < 65536) × (entries_from head tables.now.n tables.now.m ≤ length bytes.old) }
@@ -59,6 +60,7 @@ fn put_entry(bytes: &mut [u8], at: usize, tables: &Tables, i: usize)
 }
 
 // Stores the entries.
+// Stays: i picks from two columns, and the place too.
 pub fn put_entries(bytes: &mut [u8], head: usize, tables: &Tables)
     requires sized { HasEntries tables.now }
     requires head_bound { (head ≤ 28) × (tables.now.n < 65536) × (tables.now.m < 65536) × (bounds_from head tables.now.n tables.now.m tables.now.e ≤ length bytes.old) }
