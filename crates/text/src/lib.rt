@@ -15,7 +15,7 @@ use crate::numbers::put_decimal;
 use crate::reasons::{put_field, reason_at};
 
 // Puts a line of the list, with reasons or without.
-// Stays: of a struct that holds the buffer and the place a clause has no names for what the buffer holds at exit.
+// Stays: the buffer is written: a struct of it and the place would need a clause at each call that it is still the caller's, as rows in a struct lent as `&mut` do.
 fn put_line(
     reasons: bool,
     out: &mut [u8],
@@ -29,7 +29,7 @@ fn put_line(
 {
     let a = put_decimal(out, at, v as u64);
     let b = put(out, a, b' ');
-    let c = put_decimal(out, b, number as u64);
+    let c = put_decimal(out, b, u64::from(number));
     let d = put(out, c, b' ');
     let e = put_field(reasons, out, d, value, reason);
     put(out, e, b'\n')
@@ -67,9 +67,9 @@ fn put_refusal(number: u32, place: u32, out: &mut [u8]) -> usize
     ensures { Put (Lines.refusal number place) out.old 0 out.new result }
 {
     let a = put_all(out, 0, b"refused ");
-    let b = put_decimal(out, a, number as u64);
+    let b = put_decimal(out, a, u64::from(number));
     let c = put(out, b, b' ');
-    let d = put_decimal(out, c, place as u64);
+    let d = put_decimal(out, c, u64::from(place));
     put(out, d, b'\n')
 }
 

@@ -21,7 +21,7 @@ fn put_reasoned(out: &mut [u8], at: usize, value: i32, reason: u8) -> usize
 {
     if is_blank(value) {
         let next = put_all(out, at, b"blank:");
-        return put_decimal(out, next, reason as u64);
+        return put_decimal(out, next, u64::from(reason));
     }
     put_value(out, at, value)
 }

@@ -5,5 +5,5 @@ use Rattle.text.proofs.put_line.Goals as goal
 
 pub returns : goal.returns
 returns c =
-    put_then (put_then (put_then (put_then (put_then c.put_decimal-a.ensures c.put-b.ensures) c.put_decimal-c.ensures) c.put-d.ensures)
+    put_then (put_then (put_then (put_then (put_then c.put_decimal-a.ensures c.put-b.ensures) (simp (c.from.ensures) at c.put_decimal-c.ensures)) c.put-d.ensures)
     (simp (to_z-of_z c.ranges.value) at c.put_field-e.ensures)) c.put.ensures

@@ -5,4 +5,4 @@ use Rattle.text.proofs.put_refusal.Goals as goal
 
 pub returns : goal.returns
 unfolding refusal
-returns c = put_then (put_then (put_then (put_then c.put_all-a.ensures c.put_decimal-b.ensures) c.put-c.ensures) c.put_decimal-d.ensures) c.put.ensures
+returns c = put_then (put_then (put_then (put_then c.put_all-a.ensures (simp (c.from.ensures) at c.put_decimal-b.ensures)) c.put-c.ensures) (simp (c.from-2.ensures) at c.put_decimal-d.ensures)) c.put.ensures

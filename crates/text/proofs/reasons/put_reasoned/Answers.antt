@@ -6,7 +6,7 @@ use Rattle.text.proofs.reasons.put_reasoned.Goals as goal
 
 pub returns-then-is_blank : goal.returns-then-is_blank
 returns-then-is_blank c =
-    put-reason c.args.value c.args.reason (simp (to_z-of_z c.ranges.value) at (sym c.is_blank.ensures ∙ c.if-is_blank.true)) (put_then c.put_all-next.ensures c.put_decimal.ensures)
+    put-reason c.args.value c.args.reason (simp (to_z-of_z c.ranges.value) at (sym c.is_blank.ensures ∙ c.if-is_blank.true)) (put_then c.put_all-next.ensures (simp (c.from.ensures) at c.put_decimal.ensures))
 
 pub returns : goal.returns
 returns c =
