@@ -49,7 +49,7 @@ fn judge_reading(
 }
 
 // Lays the model that a file holds over the lent rows.
-// Stays: the rows are written, and of a struct of rows lent to be written a clause has no names for what they hold at exit.
+// Stays: the rows are written: with a struct of them lent as `&mut` the goal `returns-clause-kinds_after` of lay_rows stayed open, and each row would need a clause that it is still the caller's.
 pub fn read_as(
     version: Version,
     bytes: &[u8],

@@ -56,7 +56,7 @@ pub fn write_bounded(
 }
 
 // Lays the model that a file of version 1 holds over the lent rows.
-// Stays: the rows are written, and of a struct of rows lent to be written a clause has no names for what they hold at exit.
+// Stays: the rows are written: with a struct of them lent as `&mut` the goal `returns-clause-kinds_after` of lay_rows stayed open, and each row would need a clause that it is still the caller's.
 pub fn read(
     bytes: &[u8],
     starts: &mut [i32],
@@ -92,7 +92,7 @@ pub fn read(
 }
 
 // Lays the model with bounds that a file of version 2 holds over the lent rows.
-// Stays: the rows are written, and of a struct of rows lent to be written a clause has no names for what they hold at exit.
+// Stays: the rows are written: with a struct of them lent as `&mut` the goal `returns-clause-kinds_after` of lay_rows stayed open, and each row would need a clause that it is still the caller's.
 pub fn read_bounded(
     bytes: &[u8],
     starts: &mut [i32],

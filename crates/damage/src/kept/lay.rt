@@ -20,7 +20,7 @@ fn fill(bytes: &[u8], out: &mut [u8])
 }
 
 // Lays the tables and start values that the file gives over scratch rows. The longest file that counts can ask for has 131,096 bytes.
-// Stays: the rows are written, and of a struct of rows lent to be written a clause has no names for what they hold at exit.
+// Stays: the rows are written: with a struct of them lent as `&mut` the goal `returns-clause-kinds_after` of lay_rows stayed open, and each row would need a clause that it is still the caller's.
 pub fn lay_given(
     bytes: &[u8],
     size: Size,
