@@ -8,6 +8,7 @@ ghost use Rattle.tables.specs.Lent.{lent_tables};
 use crate::lent::Tables;
 
 // The kind code picks a formula.
+// Stays: kinds are numbers in the tables, here and in every crate that reads them, since C lends them so and the paper's definitions say which is which.
 fn kind_good(kind: u16) -> bool
     ensures { result ≡ between 1 kind 9 }
 {
@@ -19,11 +20,9 @@ fn kinds_good(tables: &Tables) -> bool
     requires { tables.now.m ≤ length tables.now.kinds.now }
     ensures { result ≡ all_below (kind_good (lent_tables tables.now)) tables.now.m }
 {
-    let mut good = true;
-    for &kind in &tables.kinds[..tables.m] {
-        good = good & kind_good(kind);
-    }
-    good
+    tables.kinds[..tables.m]
+        .iter()
+        .fold(true, |good, &kind| good & kind_good(kind))
 }
 
 // The first row whose kind code picks no formula.

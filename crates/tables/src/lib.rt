@@ -1,5 +1,5 @@
 // What is checked before anything is worked out: check 1 of the tables, checks 2 to 4 one by one, the maker of each variable, and the answer of a
-// call. A check answers the least place that fails, or none. Nothing here trusts its caller.
+// call. A check answers the least place that fails, or none, and asks of its caller that rows are as long as it reads them.
 #![tactic(auto)]
 
 mod kind;
@@ -21,6 +21,7 @@ pub use shape::{first_bad_shape, first_unknown, total_of};
 pub use size::sizes;
 
 // What refuses a call: its number and its place.
+// Stays: a number, not an enum of checks, since callers from C are handed it and the paper's definitions number the checks.
 #[derive(Clone, Copy)]
 pub struct Refusal {
     pub number: u32,

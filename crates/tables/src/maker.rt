@@ -13,6 +13,7 @@ pub fn makers(n: usize, m: usize, makes: &[u16], by: &mut [u16])
     ensures { by.new ≡ over n (maker_of m makes.now) by.old }
 {
     by[..n].fill(0);
+    // Stays: by the row's number, which is what is written; `iter().enumerate().rev()` over a cut slice is no plainer.
     for row in (0..m).rev() {
         by[wide(makes[row])] = (row + 1) as u16;
     }

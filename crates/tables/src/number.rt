@@ -21,22 +21,14 @@ fn small(coef: i16) -> bool
 fn all_small(part: &[i16]) -> bool
     ensures { result ≡ all_small part.now }
 {
-    let mut good = true;
-    for &coef in part {
-        good = good & small(coef);
-    }
-    good
+    part.iter().fold(true, |good, &coef| good & small(coef))
 }
 
 // All these coefficients are 1.
 fn all_one(part: &[i16]) -> bool
     ensures { result ≡ all_one part.now }
 {
-    let mut good = true;
-    for &coef in part {
-        good = good & (coef == 1);
-    }
-    good
+    part.iter().fold(true, |good, &coef| good & (coef == 1))
 }
 
 // A row of this kind may have these coefficients.
@@ -63,6 +55,7 @@ fn params_good(tables: &Tables) -> bool
     ensures { result ≡ all_params_good tables.now.m tables.now.kinds.now tables.now.params.now }
 {
     let mut good = true;
+    // Stays: two columns at one row; a `zip` of two cut slices is no plainer.
     for row in 0..tables.m {
         good = good & param_good(tables.kinds[row], tables.params[row]);
     }

@@ -13,7 +13,8 @@ pub struct Part {
 }
 
 // The part of a row's inputs: empty if there is no such row or its part ends after e.
-// Stays: rows of their own, here and below, since a caller may hold these three alone, and what is given back may outlive the other two.
+// Stays: an empty part for none, since C is handed a `Part`, and `part_asked` with `part_named` says so.
+// Stays: rows of their own, here and below, since docs/LINKING names `inputs_of_row`, whose caller may hold these three alone, and what is given back may outlive the other two.
 pub fn part_of_row(
     m: usize,
     e: usize,

@@ -33,11 +33,7 @@ pub fn first_unknown(n: usize, count: usize, vars: &[u16]) -> Option<usize>
 fn greatest_of(vars: &[u16]) -> u16
     ensures { result ≡ greatest vars.now }
 {
-    let mut best: u16 = 0;
-    for &v in vars {
-        best = best.max(v);
-    }
-    best
+    vars.iter().fold(0, |best, &v| best.max(v))
 }
 
 // The greatest of the first variables of a list is below n.
@@ -54,6 +50,7 @@ fn counts_good(tables: &Tables) -> bool
     ensures { result ≡ all_below (λ row. arity (nat tables.now.kinds.now row) (nat tables.now.counts.now row)) tables.now.m }
 {
     let mut good = true;
+    // Stays: two columns at one row; a `zip` of two cut slices is no plainer.
     for row in 0..tables.m {
         good = good & arity_good(tables.kinds[row], tables.counts[row]);
     }
@@ -68,9 +65,9 @@ pub fn parts_good(tables: &Tables, entries: usize) -> bool
     let mut good = true;
     let mut before: u32 = 0;
     for row in 0..tables.m {
-        let first = tables.firsts[row] as u32;
+        let first = u32::from(tables.firsts[row]);
         good = good & (first == before);
-        before = first + (tables.counts[row] as u32);
+        before = first + u32::from(tables.counts[row]);
     }
     good & ((before as usize) <= entries)
 }

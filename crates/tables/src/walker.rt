@@ -56,6 +56,7 @@ impl<'a, 'b> Walker<'a, 'b> {
     }
 
     // The next entry: the walker is lent, yields what stands at the place reached, and goes on to the place after it.
+    // Stays: no `impl Iterator`, since docs/STATEMENTS says what this method promises, `went_on`.
     pub fn next(&mut self) -> Option<Entry>
         ensures { went_on self.old self.new result }
     {
@@ -66,6 +67,7 @@ impl<'a, 'b> Walker<'a, 'b> {
 }
 
 // What a walker finds at a place, and the place after it, for a caller that holds the slices alone.
+// Stays: beside `entry_at`, which promises the same, since docs/ARCHITECTURE names both.
 pub fn entry_from(vars: &[u16], coefs: &[i16], at: usize) -> Step
     ensures { result ≡ step_at vars.now coefs.now at }
 {
