@@ -1,25 +1,25 @@
 // The thin functions that set a lent session record.
-// Stays: one for each counter, and not `*session = to` alone, since the record's thin functions are a rule of the project.
+// Stays: one for each counter, and not `*session = to` alone, since the specification asks for thin functions, one for each counter.
 ghost use Rattle.std.specs.Prelude.{◌≡◌};
 
 use records::Session;
 
 // Sets the moves kept.
-fn set_kept(session: &mut Session, kept: u32)
+pub fn set_kept(session: &mut Session, kept: u32)
     ensures { session.new ≡ record { kept = kept; evaluations = session.old.evaluations; blanks = session.old.blanks } }
 {
     session.kept = kept;
 }
 
 // Sets the evaluations of the last accepted call.
-fn set_evaluations(session: &mut Session, evaluations: u32)
+pub fn set_evaluations(session: &mut Session, evaluations: u32)
     ensures { session.new ≡ record { kept = session.old.kept; evaluations = evaluations; blanks = session.old.blanks } }
 {
     session.evaluations = evaluations;
 }
 
 // Sets the number of blanks.
-fn set_blanks(session: &mut Session, blanks: u32)
+pub fn set_blanks(session: &mut Session, blanks: u32)
     ensures { session.new ≡ record { kept = session.old.kept; evaluations = session.old.evaluations; blanks = blanks } }
 {
     session.blanks = blanks;
