@@ -10,6 +10,7 @@ use fields::numbers::Number;
 use fields::places::{
     Size, Version, bounds_at, ends_at, entries_at, head_length, rows_at, version_number,
 };
+use integers::wide;
 use tables::{Refusal, refused};
 
 // The field at a place is right, or the file is refused.
@@ -33,9 +34,9 @@ pub fn counts_as(bytes: &[u8], version: Version) -> Result<Size, Refusal>
         return Err(refused(14, bytes.len()));
     }
     let number = u16::read(bytes, 0);
-    let n = u16::read(bytes, 2) as usize;
-    let m = u16::read(bytes, 4) as usize;
-    let e = u16::read(bytes, 6) as usize;
+    let n = wide(u16::read(bytes, 2));
+    let m = wide(u16::read(bytes, 4));
+    let e = wide(u16::read(bytes, 6));
     right(0, number == version_number(version))?;
     right(2, (1 <= n) & (n <= 4096))?;
     right(4, m <= n)?;
@@ -56,6 +57,7 @@ fn bounds_right(bytes: &[u8], version: Version, size: Size) -> bool
 }
 
 // The size that a file states, or the first field of its header that is wrong.
+// Stays: `as usize` for 32 bits, since std has no `From<u32>` for `usize`.
 pub fn header_as(bytes: &[u8], version: Version) -> Result<Size, Refusal>
     ensures { result ≡ answer bytes.now (File.header (version_in version) bytes.now) }
 {

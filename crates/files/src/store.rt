@@ -13,6 +13,7 @@ use tables::lent::{Bounds, Tables};
 use tables::{Refusal, refused};
 
 // Stores the file of a model in front of the lent bytes.
+// Stays: a version beside bounds that version 1 leaves empty, as `File.write` and `File.unbounded_contents` have it.
 pub fn write_as(
     version: Version,
     tables: &Tables,
