@@ -8,7 +8,7 @@ ghost use Rattle.damage.specs.Scratch.{Laid};
 
 use fields::columns::lay_starts;
 use fields::laid::{lay_entries, lay_rows};
-use fields::places::Size;
+use fields::places::{Size, Version, head_length};
 
 // Fills a buffer with the bytes of a file, and with 0 where the file has ended.
 fn fill(bytes: &[u8], out: &mut [u8])
@@ -41,7 +41,8 @@ pub fn lay_given(
     // Stays: rows of a fixed length, since no call allocates.
     let mut file = [0u8; 131096];
     fill(bytes, &mut file);
-    lay_starts(&file, 24, size.n, starts);
-    lay_rows(&file, 24, size, kinds, makes, params, firsts, counts);
-    lay_entries(&file, 24, size, vars, coefs);
+    let head = head_length(Version::One);
+    lay_starts(&file, head, size.n, starts);
+    lay_rows(&file, head, size, kinds, makes, params, firsts, counts);
+    lay_entries(&file, head, size, vars, coefs);
 }
