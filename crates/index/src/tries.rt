@@ -7,6 +7,7 @@ use integers::wide;
 
 // Whether row r stands where the readers of v have reached, which then go on behind it. A row that reads v twice stands there once: a cell holds the
 // place that its variable's readers have reached, and 65536 times one more than the last row found among them.
+// Stays: a cell is one number of two, as `found_from` and `behind` of `Walk` say it: two rows of cells would be cleared and read for each check.
 fn reader_right(r: usize, v: usize, places: &[u16], cells: &mut [u32]) -> bool
     requires { (r < 4096) × (v < length cells.old) × (length places.now ≤ 16384) }
     ensures { ReadersTried r v places.now cells.old cells.new result }
@@ -17,10 +18,10 @@ fn reader_right(r: usize, v: usize, places: &[u16], cells: &mut [u32]) -> bool
         return true;
     }
     let at = cell % 65536;
-    if at >= places.len() {
+    let Some(&row) = places.get(at) else {
         return false;
-    }
-    if wide(places[at]) != r {
+    };
+    if wide(row) != r {
         return false;
     }
     cells[v] = (found + at + 1) as u32;
@@ -57,7 +58,7 @@ pub fn ends_right(n: usize, starts: &[u16], cells: &[u32]) -> bool
 {
     let mut all = true;
     for v in 0..n {
-        all = all & (cells[v] % 65536 == starts[v + 1] as u32);
+        all = all & (cells[v] % 65536 == u32::from(starts[v + 1]));
     }
     all & (starts[0] == 0)
 }

@@ -17,7 +17,7 @@ fn begin(n: usize, starts: &[u16], cells: &mut [u32])
     ensures { Begun n starts.now cells.new }
 {
     for v in 0..n {
-        cells[v] = starts[v] as u32;
+        cells[v] = u32::from(starts[v]);
     }
 }
 
