@@ -32,8 +32,7 @@ fn reasons_fit(n: usize, reasons: &[u8]) -> bool
 }
 
 // Check 1 of build.
-// Stays: rows and no `Model`, as for build's judge: beside tables and bounds an index of two rows that are written would be in a struct at lifetimes that the check
-// does not cover.
+// Stays: rows and no `Model`: an index of two written rows beside tables and bounds would be in a struct at lifetimes that the check does not cover.
 pub fn build_fits(
     tables: &Tables,
     bounds: &Bounds,
