@@ -73,6 +73,9 @@ module _ (bytes : List ℕ) where
       unfolding salvage
       salvage-done h = simp (verdict-is ∙ ap (λ b. require 1 0 b accepted) h)
 
+pub not-both : {number place : ℕ} → refused number place ≡ accepted → ⊥
+not-both q = cc
+
 -- ── from what is ready ──
 module _ (bytes : List ℕ) (m : ℕ) (t : Tables) (starts : List ℤ) (row taken : List Bool) (R : SavedReady bytes m t starts row taken) where
   pub ready-sized : Sized t
@@ -122,13 +125,20 @@ module _ (bytes : List ℕ) (m : ℕ) (t : Tables) (starts : List ℤ) (row take
       pub ready-room : length (flagged false row m ++ flagged false taken t.n) ≤ length list
       ready-room = let l = leb-true (rows + values) (length list) (and_right (leb size (length file)) (leb (rows + values) (length list)) h) in let g = length-append (flagged false row m) (flagged false taken t.n) in omega arith
 
+      -- and for the file, which is therefore written
+      whole : ◌≡◌ {A = Verdict × List ℕ} (accepted, file_bytes version1 (unbounded_contents t starts) ++ drop (ends_at version1 t.n t.m t.e) file) (write version1 (unbounded_contents t starts) file)
+      whole =
+          let l = leb-true size (length file) (and_left (leb size (length file)) (leb (rows + values) (length list)) h) in
+          write-whole version1 (unbounded_contents t starts) file (held_of version1 (unbounded_contents t starts) (record { sized = ready-sized; starts = starts-long; lows = omega arith; highs = omega arith })) (omega arith)
+
+      pub ready-taken : {v : Verdict} {after : List ℕ} → ◌≡◌ {A = Verdict × List ℕ} (v, after) (write version1 (unbounded_contents t starts) file) → v ≡ accepted
+      ready-taken w = ap (λ (z : Verdict × List ℕ). z.0) (w ∙ sym whole)
+
       pub ready-done : {v : Verdict} {after : List ℕ} {put : List ℕ}
           → put ≡ (flagged false row m ++ flagged false taken t.n) ++ drop (length (flagged false row m ++ flagged false taken t.n)) list
           → ◌≡◌ {A = Verdict × List ℕ} (v, after) (write version1 (unbounded_contents t starts) file)
           → left_by_salvage (Ok (saved size rows values)) after put ≡ salvage (lends_to_salvage bytes file list)
       ready-done {v} {after} {put} b w =
-          let l = leb-true size (length file) (and_left (leb size (length file)) (leb (rows + values) (length list)) h) in
-          let whole = write-whole version1 (unbounded_contents t starts) file (held_of version1 (unbounded_contents t starts) (record { sized = ready-sized; starts = starts-long; lows = omega arith; highs = omega arith })) (omega arith) in
           let written : after ≡ file_bytes version1 (unbounded_contents t starts) ++ drop (ends_at version1 t.n t.m t.e) file = ap (λ (z : Verdict × List ℕ). z.1) (w ∙ sym whole) in
           same (e ∙ sym long-is) (p ∙ ap length (sym rows_are)) (q ∙ ap length (sym values-are))
           (written ∙ ap₂ (λ f k. f ++ drop k file) (sym file-is) (sym file-ends))

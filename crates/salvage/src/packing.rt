@@ -1,4 +1,4 @@
-// Rows that flags say: copied one after another with their parts, and dropped if what they make can have no topological number.
+// Rows of a list: copied one after another with their parts, and dropped if what they make can have no topological number.
 mod copy;
 mod number;
 

@@ -10,6 +10,7 @@ use crate::Saved;
 use crate::packing::{pack, pack_parts, pack_shape};
 use crate::start::keep_starts;
 use damage::flags::{count_flagged, list_flagged, list_unset};
+use fields::places::{Size, Version, ends_at};
 use files::write;
 use tables::lent::Tables;
 use tables::{Refusal, makers, refused};
@@ -30,7 +31,12 @@ fn write_saved(
     ensures { left_by_salvage result file.new list.new ≡ Salvage.salvage (lends_to_salvage bytes.now file.old list.old) }
 {
     let n = tables.n;
-    let length = 24 + 4 * n + 12 * tables.m + 4 * tables.e;
+    let size = Size {
+        n,
+        m: tables.m,
+        e: tables.e,
+    };
+    let length = ends_at(Version::One, size);
     let rows = count_flagged(m, row, false);
     let values = count_flagged(n, taken, false);
     let fits = (length <= file.len()) & (rows + values <= list.len());
@@ -38,7 +44,7 @@ fn write_saved(
         return Err(refused(1, 0));
     }
     list_unset(m, row, n, taken, list);
-    let _ = write(tables, starts, file);
+    write(tables, starts, file)?;
     Ok(Saved {
         length,
         rows,

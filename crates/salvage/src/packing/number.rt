@@ -65,6 +65,7 @@ fn number_rows(tables: &Tables, rows: &[u16], state: &mut [u16; 4096])
 }
 
 // Clears the flags of rows whose variable has no number.
+// Stays: r picks from two rows.
 fn clear_rows(m: usize, makes: &[u16], state: &[u16; 4096], row: &mut [bool])
     requires there { (m ≤ length makes.now) × (m ≤ length row.old) }
     requires made { Makes 4096 m makes.now row.old }

@@ -24,7 +24,7 @@ loop-v-preserved c =
     let fits : SFits w32 (get_or l.starts l.v (pos 0)) = search rules in
     let here = to_z-of_z fits ∙ filled-here _ _ _ l.v (pos 0) l.invariant.1 in
     let test = start_taken a.size a.by.now a.starts.now in
-    let kept = c.start_good-kept.ensures ∙ ap₂ (λ k x. start_test (leb (24 + 4 * k) a.size) (not (eqb (nat a.by.now l.v) 0)) x) (add-one l.v) here in (
+    let kept = (simp (c.rows_at.ensures, c.head_length.ensures.0) at c.start_good-kept.ensures) ∙ ap₂ (λ k x. start_test (leb (24 + 4 * k) a.size) (not (eqb (nat a.by.now l.v) 0)) x) (add-one l.v) here in (
       filled_next _ _ _ _ l.invariant.0 (omega arith) kept,
       elim c.if-not-kept.branch [
         | then-not-kept w ↦ rw w.starts-is (value-cleared test l.invariant.1 (omega arith) (sym w.if-not-kept.true ∙ kept))
