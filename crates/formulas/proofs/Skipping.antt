@@ -9,7 +9,7 @@ use borrow.Author.Tests.{le-leb, eqb-false}
 use lib.IntN.{ℤ, pos, negsuc, nat_abs, ◌+ℤ◌, ◌-ℤ◌, +ℤ_assoc, +ℤ_idr}
 use lib.ListN.{length, drop}
 use lib.Signed.{lt_z, le_z}
-use Rattle.std.specs.Int.{int_min}
+use Rattle.std.specs.Int.{int_min, int_max}
 use mir.Syntax.{w32}
 use mir.Val.{SFits}
 use Rattle.integers.specs.Integers.{up, dn, eq_z}
@@ -119,6 +119,14 @@ min-lesser a b = go (lt_z b a) refl
     go : (t : Bool) → lt_z b a ≡ t → cond t b a ≡ lesser a b
     go true e = ap (λ t. cond t a b) (sym (no_le a b (lt_yes b a e)))
     go false e = ap (λ t. cond t a b) (sym (yes_le a b (lt_no b a e)))
+
+-- and the greater
+pub max-greater : (a b : ℤ) → int_max a b ≡ greater a b
+max-greater a b = go (lt_z b a) refl
+  where
+    go : (t : Bool) → lt_z b a ≡ t → cond t a b ≡ greater a b
+    go true e = ap (λ t. cond t b a) (sym (no_le a b (lt_yes b a e)))
+    go false e = ap (λ t. cond t b a) (sym (yes_le a b (lt_no b a e)))
 
 -- ── the walk ──
 -- what it holds past the inputs before i stands for an input that leaves, with those from i on, what all leave

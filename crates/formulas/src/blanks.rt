@@ -32,18 +32,14 @@ pub fn blanks_among(n: usize, values: &[i32]) -> u32
 pub fn fitted(exact: i64) -> i32
     ensures { result ≡ fit exact }
 {
-    if -2147483647 <= exact && exact <= 2147483647 {
-        exact as i32
-    } else {
-        BLANK
-    }
+    i32::try_from(exact).unwrap_or(BLANK)
 }
 
 // The exact a - b.
 pub fn difference(a: i32, b: i32) -> i64
     ensures { result ≡ a -ℤ b }
 {
-    (a as i64) - (b as i64)
+    i64::from(a) - i64::from(b)
 }
 
 // The exact sum + a * b.

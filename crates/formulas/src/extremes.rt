@@ -20,7 +20,7 @@ fn standing(x: i32) -> i32
 fn stood_for(z: i32) -> i32
     ensures { result ≡ stands_for false z }
 {
-    fitted(z as i64 + 1)
+    fitted(i64::from(z) + 1)
 }
 
 // MIN: the least input that has a value, blank if none has.
@@ -29,8 +29,8 @@ pub fn least(row: Inputs) -> i32
     ensures { result ≡ Formula.extreme lesser (valued (inputs_of row.entry)) }
 {
     let mut left = standing(row.at(0));
-    for i in 1..row.len() {
-        left = left.min(standing(row.at(i)));
+    for &v in &row.vars[1..] {
+        left = left.min(standing(row.values[usize::from(v)]));
     }
     stood_for(left)
 }
@@ -41,8 +41,8 @@ pub fn greatest(row: Inputs) -> i32
     ensures { result ≡ Formula.extreme greater (valued (inputs_of row.entry)) }
 {
     let mut left = row.at(0);
-    for i in 1..row.len() {
-        left = left.max(row.at(i));
+    for &v in &row.vars[1..] {
+        left = left.max(row.values[usize::from(v)]);
     }
     left
 }

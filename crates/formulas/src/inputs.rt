@@ -47,8 +47,8 @@ impl<'a> Inputs<'a> {
         ensures { result ≡ Formula.places z (inputs_of self.entry) }
     {
         let mut n = 0;
-        for i in 0..self.len() {
-            n += one_if(self.at(i) == z);
+        for &v in self.vars {
+            n += one_if(self.values[usize::from(v)] == z);
         }
         n
     }

@@ -13,12 +13,13 @@ pub fn linear(param: i32, coefs: &[i16], row: Inputs) -> i32
     requires { (length coefs.now ≡ length row.vars.now) × (length row.vars.now ≤ 256) }
     ensures { result ≡ unless_blank (λ xs. fit (param +ℤ Formula.sum coefs.now xs)) (inputs_of row.entry) }
 {
-    let mut sum = param as i64;
+    let mut sum = i64::from(param);
     let mut blank = false;
+    // Stays: by `row.vars.iter().zip(coefs)` the goal `plus_product-sum-requires` is left open, since an invariant has the iterator and no place.
     for i in 0..row.len() {
         let x = row.at(i);
         blank |= is_blank(x);
-        sum = plus_product(sum, coefs[i] as i64, x as i64);
+        sum = plus_product(sum, i64::from(coefs[i]), i64::from(x));
     }
     if blank { BLANK } else { fitted(sum) }
 }

@@ -1,5 +1,5 @@
 // DEPARTURES and LAST: the times start + k * headway, k = 0, 1, 2 and on, strictly before end.
-ghost use Rattle.std.specs.Prelude.{◌≤◌, ◌≡◌, true, pos, length, nat_abs, ◌+ℤ◌, ◌*ℤ◌};
+ghost use Rattle.std.specs.Prelude.{◌≤◌, ◌≡◌, true, pos, length, ◌+ℤ◌, ◌*ℤ◌};
 ghost use Rattle.std.specs.Int.Signed.{lt_z};
 ghost use Rattle.paper.specs.Formula.{trips};
 ghost use Rattle.paper.specs.Formula as Formula;
@@ -16,14 +16,6 @@ struct Window {
     start: i32,
     end: i32,
     headway: i32,
-}
-
-// A number above 0, without its sign.
-fn whole(number: i64) -> u64
-    requires { lt_z (pos 0) number ≡ true }
-    ensures { result ≡ nat_abs number }
-{
-    number as u64
 }
 
 impl Window {
@@ -51,8 +43,8 @@ impl Window {
         ensures { result ≡ trips self.start self.end self.headway }
     {
         if self.start < self.end {
-            let gap = whole(difference(self.end, self.start));
-            let step = whole(self.headway as i64);
+            let gap = difference(self.end, self.start).unsigned_abs();
+            let step = i64::from(self.headway).unsigned_abs();
             (gap + step - 1) / step
         } else {
             0
@@ -64,7 +56,7 @@ impl Window {
         requires { (lt_z (pos 0) self.headway ≡ true) × (k ≤ 4294967296) }
         ensures { result ≡ self.start +ℤ pos k *ℤ self.headway }
     {
-        plus_product(self.start as i64, k as i64, self.headway as i64)
+        plus_product(i64::from(self.start), k as i64, i64::from(self.headway))
     }
 
     // How many times are strictly before end; blank if headway is 0 or less.
@@ -97,10 +89,7 @@ pub fn departures(row: Inputs) -> i32
     requires { length row.vars.now ≡ 3 }
     ensures { result ≡ unless_blank (of_three Formula.departures) (inputs_of row.entry) }
 {
-    match Window::of(row) {
-        Some(times) => times.departures(),
-        None => BLANK,
-    }
+    Window::of(row).map_or(BLANK, Window::departures)
 }
 
 // LAST: the latest of them.
@@ -108,8 +97,5 @@ pub fn last(row: Inputs) -> i32
     requires { length row.vars.now ≡ 3 }
     ensures { result ≡ unless_blank (of_three Formula.last) (inputs_of row.entry) }
 {
-    match Window::of(row) {
-        Some(times) => times.last(),
-        None => BLANK,
-    }
+    Window::of(row).map_or(BLANK, Window::last)
 }
