@@ -12,13 +12,9 @@ pub fn none_blank(n: usize, values: &[i32], flags: &[u8], asked: &[u16]) -> bool
     requires asked_value { all (λ v. ltb v n) asked.now ≡ true }
     ensures { result ≡ all_below (λ i. not_blank flags.now values.now (nat asked.now i)) (length asked.now) }
 {
-    for &v in asked {
-        let v = wide(v);
-        if (flags[v] == 1) & is_blank(values[v]) {
-            return false;
-        }
-    }
-    true
+    !asked
+        .iter()
+        .any(|&v| (flags[wide(v)] == 1) & is_blank(values[wide(v)]))
 }
 
 // Copies out the reasons, in asking order: 0 where the flag is 1, else the stored one.
