@@ -36,6 +36,7 @@ fn all_values_good(whose: Values, n: usize, by: &[u16], bounds: &Bounds, values:
     ensures { result ≡ all_below (value_of (starts whose) by.now (lent_bounds bounds.now) values.now) n }
 {
     let mut all = true;
+    // Stays: rows read at one place each; a `zip` of so many cut slices is no plainer.
     for v in 0..n {
         let good = value_good(
             whose,

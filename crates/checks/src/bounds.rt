@@ -37,6 +37,7 @@ fn all_bounds_good(n: usize, by: &[u16], bounds: &Bounds) -> bool
     ensures { result ≡ all_below (bound_of by.now (lent_bounds bounds.now)) n }
 {
     let mut all = true;
+    // Stays: rows read at one place each; a `zip` of so many cut slices is no plainer.
     for v in 0..n {
         let good = bound_good(by[v] != 0, bounds.lows[v], bounds.highs[v]);
         all = all & good;

@@ -22,6 +22,7 @@ fn named_before(seen: &[bool], vars: &[u16], i: usize) -> bool
 pub fn mark(v: u16, seen: &mut [bool])
     ensures { seen.new ≡ set seen.old v true }
 {
+    // Stays: with `get_mut` the goals `returns-in-Some` and `returns-in_default` stay open.
     let at = wide(v);
     if at < seen.len() {
         seen[at] = true;
