@@ -5,6 +5,7 @@ ghost use Rattle.paper.specs.Lists.{nat};
 use integers::wide;
 
 // Which move of the log is the latest; 0 if there is none.
+// Stays: 0 for none, since its clause says `pred`, and a log without a move is asked for none.
 pub fn latest_move(log_sizes: &[u16]) -> usize
     requires { 0 < length log_sizes.now }
     ensures { result ≡ pred (nat log_sizes.now 0) }

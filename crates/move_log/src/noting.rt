@@ -8,6 +8,7 @@ use crate::rooms::{make_room, write_pairs};
 use integers::wide;
 use tables::lent::Move;
 
+// Stays: three written rows, since callers from C lend them one by one, and `log_in` joins them in clauses.
 // Notes a move as the latest, over the stored values before it: behind the moves held, and as the last if there are 64.
 pub fn note_move(
     stored: &[i32],

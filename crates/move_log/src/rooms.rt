@@ -32,9 +32,9 @@ pub fn write_pairs(
     ensures log_vars_after { log_vars.new ≡ laid_at at mv.now.pairs (nat mv.now.vars.now) log_vars.old }
     ensures log_values_after { log_values.new ≡ laid_at at mv.now.pairs (λ i. get_or stored.now (nat mv.now.vars.now i) (pos 0)) log_values.old }
 {
+    log_vars[at..at + mv.pairs].copy_from_slice(&mv.vars[..mv.pairs]);
+    // Stays: what is written is looked up by what is read, so that no slice is copied.
     for i in 0..mv.pairs {
-        let v = wide(mv.vars[i]);
-        log_vars[at + i] = mv.vars[i];
-        log_values[at + i] = stored[v];
+        log_values[at + i] = stored[wide(mv.vars[i])];
     }
 }

@@ -1,4 +1,4 @@
-// Check 16: whether a log is one that keep and taking back may work with.
+// The moves of a log, each judged as a move to be kept is, and all of them together.
 ghost use Rattle.std.specs.Prelude.{true, ◌≡◌, ◌≤◌, ◌<◌, length};
 ghost use Rattle.paper.specs.Log.{log_fits, move_good, back, log_good};
 ghost use Rattle.tables.specs.Lent.{lent_bounds, lent_log};
