@@ -35,6 +35,7 @@ pub fn first_stale(tables: &Tables, by: &[u16], stored: &[i32]) -> Option<usize>
 }
 
 // The least variable that is undetermined once the move is put in, if there is one.
+// Stays: it begins as `first_stale` does, and a helper that is lent both rows would be no plainer.
 pub fn first_stuck(tables: &Tables, by: &[u16], stored: &[i32], mv: &Move) -> Option<usize>
     requires sound { Sound (lent_tables tables.now) }
     requires makers { Makers (lent_tables tables.now) by.now }

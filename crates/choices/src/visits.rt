@@ -9,7 +9,7 @@ use rows::steps::next_place;
 use tables::lent::Tables;
 
 // The state of v after its visit: 2 if its value stands, or 1 if it waits for itself or for one that does.
-// Stays: the states are numbers, since the contract says of the row of states, which other crates read, that it holds 2 where a value stands.
+// Stays: the states are numbers, since `Followed` says of the row, which `first_waiting` reads, that it holds 2 where a value stands; the result is that state.
 pub fn visit(
     v: usize,
     tables: &Tables,
@@ -26,6 +26,7 @@ pub fn visit(
     if known > 0 {
         return known;
     }
+    // Stays: 0 in `by` for none, as `Makers` says of it.
     let maker = wide(by[v]);
     if maker == 0 {
         states[v] = 2;

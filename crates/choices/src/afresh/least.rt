@@ -14,10 +14,5 @@ pub fn first_other(
     requires { (n ≤ length stored.now) × (n ≤ 4096) }
     ensures { result ≡ if_below n (first_fail (λ v. eqb (nat states.now v) 2 && eq_z (get_or stored.now v (pos 0)) (get_or values.now v (pos 0))) n) }
 {
-    for v in 0..n {
-        if (states[v] != 2) | (stored[v] != values[v]) {
-            return Some(v);
-        }
-    }
-    None
+    (0..n).find(|&v| (states[v] != 2) | (stored[v] != values[v]))
 }

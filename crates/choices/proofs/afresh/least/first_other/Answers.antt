@@ -1,11 +1,12 @@
-use Rattle.std.proofs.Common.{arith, rules, ◌≡◌, ◌∙◌, ap, refl, sym, ℤ, Bool, true, false, not, ◌&&◌, ◌||◌, eqb, get_or, pos}
+use Rattle.std.proofs.Common.{ℕ, rules, ◌≡◌, ◌∙◌, ap, refl, sym, ℤ, Bool, true, false, not, ◌&&◌, ◌||◌, eqb, get_or, pos}
 use mir.Syntax.{w32}
 use mir.Val.{SFits, of_z}
 use borrow.Author.Tests.{not-true, not-false}
 use Rattle.integers.specs.Integers.{eq_z}
 use Rattle.integers.proofs.Bits.{eqb-bits}
 use Rattle.paper.specs.Lists.{nat}
-use Rattle.paper.proofs.Scan.{scan-some, scan-next, scan-none}
+use Rattle.std.proofs.lemmas.Iterator.{first_from_Range}
+use Rattle.tables.proofs.Positions.{first-found}
 use Rattle.choices.proofs.afresh.least.first_other.Goals as goal
 
 -- the test that a variable fails, read back from the bits of the values
@@ -16,17 +17,10 @@ tested state a b f g e = ap (λ x. not (state && x)) (sym (eqb-bits w32 a b f g)
     deny true y = refl
     deny false y = refl
 
-pub returns-then-states-v : goal.returns-then-states-v
-returns-then-states-v c =
-    let stored : SFits w32 (get_or c.args.stored.now c.loop-v.v (pos 0)) = search rules in
-    let value : SFits w32 (get_or c.args.values.now c.loop-v.v (pos 0)) = search rules in
-    scan-some _ _ _ c.loop-v.invariant (omega arith) (not-true _ (tested (eqb (nat c.args.states.now c.loop-v.v) 2) _ _ stored value c.if-states-v.true))
-
-pub loop-v-preserved : goal.loop-v-preserved
-loop-v-preserved c =
-    let stored : SFits w32 (get_or c.args.stored.now c.loop-v.v (pos 0)) = search rules in
-    let value : SFits w32 (get_or c.args.values.now c.loop-v.v (pos 0)) = search rules in
-    scan-next _ _ _ c.loop-v.invariant (omega arith) (not-false _ (tested (eqb (nat c.args.states.now c.loop-v.v) 2) _ _ stored value c.if-states-v.false))
-
 pub returns : goal.returns
-returns c = scan-none _ _ _ c.loop-v.invariant (omega arith)
+returns c =
+    let good : ℕ → Bool = λ v. eqb (nat c.args.states.now v) 2 && eq_z (get_or c.args.stored.now v (pos 0)) (get_or c.args.values.now v (pos 0)) in
+    first-found good c.args.n _
+    (first_from_Range _ _ _ _ (λ v. good v ≡ false) (λ v. good v ≡ true) c.find.ensures.ran
+    (λ v q k. not-true _ (tested (eqb (nat c.args.states.now v) 2) (get_or c.args.stored.now v (pos 0)) (get_or c.args.values.now v (pos 0)) (search rules) (search rules) (search rules)))
+    (λ v q k. (search rules, not-false _ (tested (eqb (nat c.args.states.now v) 2) (get_or c.args.stored.now v (pos 0)) (get_or c.args.values.now v (pos 0)) (search rules) (search rules) (search rules)))))
