@@ -19,32 +19,36 @@ pub struct Size {
 }
 
 // The number in the header.
-pub fn version_number(version: Version) -> u16
-    ensures { result ≡ version_number (version_in version) }
-{
-    match version {
-        Version::One => 1,
-        Version::Two => 2,
+impl From<Version> for u16 {
+    ghost from_gives = { λ version r. r ≡ version_number (version_in version) };
+
+    fn from(version: Version) -> u16 {
+        match version {
+            Version::One => 1,
+            Version::Two => 2,
+        }
     }
 }
 
-// The length of the header.
-pub fn head_length(version: Version) -> usize
-    ensures { (result ≡ head_of (version_in version)) × (24 ≤ result) × (result ≤ 28) }
-{
-    match version {
-        Version::One => 24,
-        Version::Two => 28,
+impl Version {
+    // The length of the header.
+    pub fn head_length(self) -> usize
+        ensures { (result ≡ head_of (version_in self)) × (24 ≤ result) × (result ≤ 28) }
+    {
+        match self {
+            Version::One => 24,
+            Version::Two => 28,
+        }
     }
-}
 
-// Of n variables, how many have bounds in the file.
-pub fn bounded_count(version: Version, n: usize) -> usize
-    ensures { (result ≡ bounded (version_in version) n) × (result ≤ n) }
-{
-    match version {
-        Version::One => 0,
-        Version::Two => n,
+    // Of n variables, how many have bounds in the file.
+    pub fn bounded_count(self, n: usize) -> usize
+        ensures { (result ≡ bounded (version_in self) n) × (result ≤ n) }
+    {
+        match self {
+            Version::One => 0,
+            Version::Two => n,
+        }
     }
 }
 
@@ -77,5 +81,5 @@ pub fn ends_at(version: Version, size: Size) -> usize
     requires { Small size }
     ensures { result ≡ ends_at (version_in version) size.n size.m size.e }
 {
-    bounds_at(head_length(version), size) + 8 * bounded_count(version, size.n)
+    bounds_at(version.head_length(), size) + 8 * version.bounded_count(size.n)
 }

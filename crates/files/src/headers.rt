@@ -7,9 +7,7 @@ ghost use Rattle.fields.specs.Places.{version_in, Small};
 ghost use Rattle.files.specs.HeaderAnswers.{answer, size_in};
 
 use fields::numbers::Number;
-use fields::places::{
-    Size, Version, bounds_at, ends_at, entries_at, head_length, rows_at, version_number,
-};
+use fields::places::{Size, Version, bounds_at, ends_at, entries_at, rows_at};
 use integers::wide;
 use tables::{Refusal, refused};
 
@@ -30,14 +28,14 @@ fn right(place: usize, good: bool) -> Result<(), Refusal>
 pub fn counts_as(bytes: &[u8], version: Version) -> Result<Size, Refusal>
     ensures { result ≡ answer bytes.now (by_lines (File.head_lines (version_in version) bytes.now) accepted) }
 {
-    if bytes.len() < head_length(version) {
+    if bytes.len() < version.head_length() {
         return Err(refused(14, bytes.len()));
     }
     let number = u16::read(bytes, 0);
     let n = wide(u16::read(bytes, 2));
     let m = wide(u16::read(bytes, 4));
     let e = wide(u16::read(bytes, 6));
-    right(0, number == version_number(version))?;
+    right(0, number == u16::from(version))?;
     right(2, (1 <= n) & (n <= 4096))?;
     right(4, m <= n)?;
     right(6, e <= 16384)?;
@@ -62,7 +60,7 @@ pub fn header_as(bytes: &[u8], version: Version) -> Result<Size, Refusal>
     ensures { result ≡ answer bytes.now (File.header (version_in version) bytes.now) }
 {
     let size = counts_as(bytes, version)?;
-    let head = head_length(version);
+    let head = version.head_length();
     let starts = u32::read(bytes, 8) as usize;
     let rows = u32::read(bytes, 12) as usize;
     let entries = u32::read(bytes, 16) as usize;

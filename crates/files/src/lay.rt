@@ -11,7 +11,7 @@ use crate::headers::header_as;
 use fields::columns::lay_starts;
 use fields::laid::{lay_entries, lay_rows};
 use fields::limits::lay_bounds;
-use fields::places::{Size, Version, bounded_count, bounds_at, head_length};
+use fields::places::{Size, Version, bounds_at};
 use tables::lent::{Bounds, Tables};
 use tables::{Refusal, refused, sizes};
 
@@ -19,7 +19,7 @@ use tables::{Refusal, refused, sizes};
 pub fn rows_held(version: Version, tables: &Tables, starts: &[i32], bounds: &Bounds) -> bool
     ensures { result ≡ File.held (version_in version) (lent_contents tables.now starts.now bounds.now) }
 {
-    let count = bounded_count(version, tables.n);
+    let count = version.bounded_count(tables.n);
     let held = sizes(tables, starts);
     (count <= bounds.lows.len()) & (count <= bounds.highs.len()) & held
 }
@@ -84,9 +84,9 @@ pub fn read_as(
         coefs,
     };
     let size = judge_reading(version, bytes, &rows, starts, &Bounds { lows, highs })?;
-    let head = head_length(version);
+    let head = version.head_length();
     let at = bounds_at(head, size);
-    let count = bounded_count(version, size.n);
+    let count = version.bounded_count(size.n);
     lay_starts(bytes, head, size.n, starts);
     lay_rows(bytes, head, size, kinds, makes, params, firsts, counts);
     lay_entries(bytes, head, size, vars, coefs);

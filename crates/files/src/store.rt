@@ -8,7 +8,7 @@ ghost use Rattle.paper.specs.File as File;
 use crate::lay::rows_held;
 use fields::limits::put_bounds;
 use fields::lines::{put_entries, put_header, put_rows, put_starts};
-use fields::places::{Size, Version, bounded_count, bounds_at, ends_at, head_length};
+use fields::places::{Size, Version, bounds_at, ends_at};
 use tables::lent::{Bounds, Tables};
 use tables::{Refusal, refused};
 
@@ -35,9 +35,9 @@ pub fn write_as(
     if bytes.len() < ends_at(version, size) {
         return Err(refused(1, 0));
     }
-    let head = head_length(version);
+    let head = version.head_length();
     let at = bounds_at(head, size);
-    let count = bounded_count(version, tables.n);
+    let count = version.bounded_count(tables.n);
     put_header(bytes, version, size);
     put_starts(bytes, head, tables.n, starts);
     put_rows(bytes, head, tables);

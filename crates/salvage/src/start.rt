@@ -4,7 +4,7 @@ ghost use Rattle.paper.specs.Lists.{over};
 ghost use Rattle.salvage.specs.Saving.{start_taken};
 
 use damage::admissions::start_good;
-use fields::places::{Version, head_length, rows_at};
+use fields::places::{Version, rows_at};
 
 // Says which start values are kept, and puts 0 in the place of the others. `by` is the row of makers.
 pub(crate) fn keep_starts(size: usize, n: usize, by: &[u16], starts: &mut [i32], taken: &mut [bool])
@@ -15,7 +15,7 @@ pub(crate) fn keep_starts(size: usize, n: usize, by: &[u16], starts: &mut [i32],
     // Stays: v picks from three rows, and the place too.
     for v in 0..n {
         let kept = start_good(
-            rows_at(head_length(Version::One), v + 1) <= size,
+            rows_at(Version::One.head_length(), v + 1) <= size,
             by[v] != 0,
             starts[v],
         );

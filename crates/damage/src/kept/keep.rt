@@ -11,7 +11,7 @@ ghost use Rattle.damage.specs.Keeping.{FileGives, Taken};
 use crate::admissions::{can_join, entries_whole};
 use checks::repeats::mark;
 use checks::sound::row_checks;
-use fields::places::{Size, Version, entries_at, head_length};
+use fields::places::{Size, Version, entries_at};
 use integers::wide;
 use tables::lent::Tables;
 
@@ -20,7 +20,7 @@ fn row_whole(bytes: &[u8], n: usize, row: usize) -> bool
     requires { (n ≡ n_in bytes.now) × (n ≤ 4096) × (row < 4096) }
     ensures { result ≡ row_whole bytes.now row }
 {
-    entries_at(head_length(Version::One), n, row + 1) <= bytes.len()
+    entries_at(Version::One.head_length(), n, row + 1) <= bytes.len()
 }
 
 // The row is good on its own: checks 2 to 4 accept a table of this row alone.

@@ -8,7 +8,7 @@ ghost use Rattle.damage.specs.Scratch.{Laid};
 
 use fields::columns::lay_starts;
 use fields::laid::{lay_entries, lay_rows};
-use fields::places::{Size, Version, head_length};
+use fields::places::{Size, Version};
 
 // Fills a buffer with the bytes of a file, and with 0 where the file has ended.
 fn fill(bytes: &[u8], out: &mut [u8])
@@ -41,7 +41,7 @@ pub fn lay_given(
     // Stays: rows of a fixed length, since no call allocates.
     let mut file = [0u8; 131096];
     fill(bytes, &mut file);
-    let head = head_length(Version::One);
+    let head = Version::One.head_length();
     lay_starts(&file, head, size.n, starts);
     lay_rows(&file, head, size, kinds, makes, params, firsts, counts);
     lay_entries(&file, head, size, vars, coefs);

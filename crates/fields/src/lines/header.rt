@@ -5,9 +5,7 @@ ghost use Rattle.paper.specs.File.{bytes_of, head_of, head_bytes};
 ghost use Rattle.fields.specs.Places.{version_in, Small};
 
 use crate::numbers::Number;
-use crate::places::{
-    Size, Version, bounds_at, ends_at, entries_at, head_length, rows_at, version_number,
-};
+use crate::places::{Size, Version, bounds_at, ends_at, entries_at, rows_at};
 
 // Stores the version and the counts.
 fn put_counts(bytes: &mut [u8], version: u16, n: u16, m: u16, e: u16)
@@ -26,8 +24,8 @@ pub fn put_header(bytes: &mut [u8], version: Version, size: Size)
     ensures { bytes.new ≡ sets bytes.old 0 (head_bytes (version_in version) size.n size.m size.e) }
 {
     let Size { n, m, e } = size;
-    let head = head_length(version);
-    put_counts(bytes, version_number(version), n as u16, m as u16, e as u16);
+    let head = version.head_length();
+    put_counts(bytes, u16::from(version), n as u16, m as u16, e as u16);
     (head as u32).write(bytes, 8);
     (rows_at(head, n) as u32).write(bytes, 12);
     (entries_at(head, n, m) as u32).write(bytes, 16);

@@ -13,7 +13,7 @@ use crate::headers::header_as;
 use fields::limits::put_bound;
 use fields::lines::put_header;
 use fields::numbers::Number;
-use fields::places::{Size, Version, bounded_count, bounds_at, ends_at, head_length};
+use fields::places::{Size, Version, bounds_at, ends_at};
 use tables::{Refusal, none_fails, refused};
 
 // The bounds of a variable are full: -2,147,483,647 and 2,147,483,647.
@@ -55,18 +55,18 @@ fn convert_headed(
     requires { Stated bytes.now (File.header (version_in from) bytes.now) size.n size.m size.e }
     ensures { has_converted result file.new ≡ File.convert (version_in from) (version_in to) bytes.now file.old }
 {
-    let head = head_length(from);
+    let head = from.head_length();
     let behind = bounds_at(head, size);
-    none_fails(18, first_narrow(bytes, behind, bounded_count(from, size.n)))?;
+    none_fails(18, first_narrow(bytes, behind, from.bounded_count(size.n)))?;
     let length = ends_at(to, size);
     if file.len() < length {
         return Err(refused(1, 0));
     }
-    let start = head_length(to);
+    let start = to.head_length();
     let end = bounds_at(start, size);
     put_header(file, to, size);
     file[start..end].copy_from_slice(&bytes[head..behind]);
-    put_full(file, end, bounded_count(to, size.n));
+    put_full(file, end, to.bounded_count(size.n));
     Ok(length)
 }
 
