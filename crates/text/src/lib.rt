@@ -63,6 +63,7 @@ fn put_lines(
 }
 
 // Puts the refusal line, from the front on.
+// Stays: two numbers in place of a `Refusal`, since this crate stands on none that knows it.
 fn put_refusal(number: u32, place: u32, out: &mut [u8]) -> usize
     ensures { Put (Lines.refusal number place) out.old 0 out.new result }
 {
@@ -74,7 +75,7 @@ fn put_refusal(number: u32, place: u32, out: &mut [u8]) -> usize
 }
 
 // The list of the variables below n, with the reasons of a row or without: its text in front of the buffer, and how many bytes that is.
-// Stays: the two programs' texts differ in this flag alone, and the definition of the text takes it; an option of a row would be no plainer.
+// Stays: a flag beside the row, here and above, since `Lines.lines` takes both, and `printed`, in which the contracts of the programs are stated, the flag.
 pub fn lines(
     reasons: bool,
     n: usize,
