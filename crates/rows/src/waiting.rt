@@ -8,10 +8,5 @@ pub fn first_waiting(n: usize, states: &[u8; 4096]) -> Option<usize>
     requires { n ≤ 4096 }
     ensures { result ≡ if_below n (first_fail (λ v. eqb (nat states.now v) 2) n) }
 {
-    for v in 0..n {
-        if states[v] != 2 {
-            return Some(v);
-        }
-    }
-    None
+    states[..n].iter().position(|&state| state != 2)
 }

@@ -16,6 +16,7 @@ pub fn put_move(mv: &Move, row: &mut [i32])
     requires { PairsFit (length row.old) (lent_move mv.now) }
     ensures { row.new ≡ put_in (pairs_of_move (lent_move mv.now)) row.old }
 {
+    // Stays: `zip` turned round wants both rows cut to the pairs first, which is no plainer.
     for i in (0..mv.pairs).rev() {
         row[wide(mv.vars[i])] = mv.values[i];
     }

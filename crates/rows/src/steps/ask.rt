@@ -7,6 +7,7 @@ pub fn next_place(kind: u16, x: i32, i: usize, first: usize, last: usize) -> usi
     requires { (i < last) × (first < last) × (last < 131072) }
     ensures { result ≡ next_place kind x i first last }
 {
+    // Stays: a kind is a number of the lent tables (the C interface).
     if kind != 4 {
         return i + 1;
     }

@@ -14,6 +14,7 @@ pub fn plan_work(n: usize, by: &[u16], marks: &[u8], work: &mut [u16])
     requires { (n ≤ length by.now) × (n ≤ length marks.now) × (n ≤ length work.old) }
     ensures { work.new ≡ over n (λ v. cond (eqb (nat marks.now v) 1) (nat by.now v) 0) work.old }
 {
+    // Stays: of three rows, `zip` twice gives pairs in pairs, which is no plainer.
     for v in 0..n {
         work[v] = if_marked(marks[v], by[v]);
     }
