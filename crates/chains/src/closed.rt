@@ -13,11 +13,9 @@ fn some_element(tables: &Tables) -> bool
     requires { tables.now.m ≤ length tables.now.kinds.now }
     ensures { result ≡ not (all_below (λ q. not (eqb (nat tables.now.kinds.now q) 4)) tables.now.m) }
 {
-    let mut some = false;
-    for &kind in &tables.kinds[..tables.m] {
-        some |= kind == 4;
-    }
-    some
+    tables.kinds[..tables.m]
+        .iter()
+        .fold(false, |some, &kind| some | (kind == 4))
 }
 
 // Whether row r is ELEMENT, and a candidate's number is not below that of the variable it makes.
@@ -26,6 +24,7 @@ fn level_candidate(r: usize, tables: &Tables, numbers: &[u16]) -> bool
     requires long { (r < tables.now.m) × (tables.now.n ≤ length numbers.now) }
     ensures { result ≡ level_candidate (kinded_lent tables.now) numbers.now (nat tables.now.makes.now r) }
 {
+    // Stays: a kind is a number, as `tables::kind` says.
     if tables.kinds[r] != 4 {
         return false;
     }

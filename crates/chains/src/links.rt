@@ -16,6 +16,7 @@ pub enum Which {
 }
 
 // Whether an ELEMENT makes the variable.
+// Stays: a kind is a number, as `tables::kind` says.
 pub fn by_element(maker: usize, kinds: &[u16]) -> bool
     requires { maker ≤ length kinds.now }
     ensures { result ≡ by_element kinds.now maker }

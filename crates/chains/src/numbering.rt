@@ -28,6 +28,7 @@ pub fn number_all(tables: &Tables, by: &[u16], numbers: &mut [u16]) -> Option<us
 }
 
 // Copies the numbers of the first n variables.
+// Stays: beside `rows::copies::copy_values`, since neither crate stands on the other, and one line of std is all that each holds.
 pub fn copy_numbers(n: usize, from: &[u16], to: &mut [u16])
     requires { (n ≤ length from.now) × (n ≤ length to.old) }
     ensures { to.new ≡ over n (nat from.now) to.old }

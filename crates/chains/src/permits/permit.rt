@@ -35,6 +35,7 @@ fn first_plain(tables: &Tables, by: &[u16]) -> Option<usize>
     first_back(&links, &marks)
 }
 
+// Stays: begins as `first_plain` does, but each has its own rows and goes on to read links and marks; a helper that is lent all four rows is no plainer.
 // The least variable on a closed chain that passes through an index, if there is one; `numbers` then holds the number of every variable.
 fn first_round(tables: &Tables, by: &[u16], numbers: &mut [u16]) -> Option<usize>
     requires kinded { Kinded (kinded_lent tables.now) }

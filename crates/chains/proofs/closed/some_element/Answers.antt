@@ -1,18 +1,15 @@
-use mathlib.Core.Path.{subst⁻¹}
-use Rattle.std.proofs.Common.{arith, ap, sym, ◌∙◌, eqb, not}
-use Rattle.std.proofs.lemmas.List.{get_or-take, length-take-le}
-use Rattle.paper.specs.Lists.{nat}
-use Rattle.paper.proofs.Scan.{Joint, joint-next, joint-end}
+-- Of the rows passed none is ELEMENT exactly if nothing is found. Assumes nothing.
+use Rattle.std.proofs.Common.{rules, ◌≡◌, refl, ap, sym, ◌∙◌, ℕ, Bool, eqb, not, ◌||◌, take}
+use Rattle.std.proofs.lemmas.Fn.{fronts, fold_over}
+use Rattle.std.proofs.lemmas.Iterator.{YieldsList-from_slice}
+use Rattle.paper.specs.Lists.{all}
+use Rattle.tables.proofs.Whole.{fold_push, all-first}
 use Rattle.chains.proofs.Elements.{not-or, not-not}
 use Rattle.chains.proofs.closed.some_element.Goals as goal
 
-pub loop-kind-preserved : goal.loop-kind-preserved
-loop-kind-preserved c =
-    let t = c.args.tables.now in let l = c.loop-kind in let long = length-take-le t.m t.kinds.now c.requires in
-    subst⁻¹ (Joint (λ q. not (eqb (nat t.kinds.now q) 4)) _ _) (not-or l.some _)
-    (joint-next _ _ _ _ _ l.invariant (omega arith) (ap (λ k. not (eqb k 4)) (get_or-take t.m t.kinds.now l.kind-index 0 (omega arith))))
-
 pub returns : goal.returns
 returns c =
-    let t = c.args.tables.now in
-    sym (not-not _) ∙ ap not (joint-end _ _ _ _ c.loop-kind.invariant (omega (arith, length-take-le t.m t.kinds.now c.requires)))
+    let t = c.args.tables.now in let p : ℕ → Bool = λ k. not (eqb k 4) in let front = take t.m t.kinds.now in
+    let none = fold_over fronts _ _ (λ ys b. not b ≡ all p ys) _ (λ ys a x b f j k.
+    let e : b ≡ (a || eqb x.now 4) = search rules in (fold_push p ys x.now j (ap not e ∙ not-or a (eqb x.now 4)), search rules)) c.iter.result front _ _ (YieldsList-from_slice {s = c.iter.result} front cc).runs refl c.fold.ensures.ran in
+    sym (not-not _) ∙ ap not (none ∙ all-first p 0 t.m t.kinds.now c.requires)
