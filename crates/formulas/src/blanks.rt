@@ -5,6 +5,7 @@ ghost use Rattle.paper.specs.Formula.{blank, fit};
 ghost use Rattle.paper.specs.Calls.{blanks_among};
 
 // No value.
+// Stays: the number for no value in the lent rows (the C interface), and the paper's `blank`.
 pub const BLANK: i32 = i32::MIN;
 
 // Whether a value is blank.
@@ -19,6 +20,7 @@ pub fn blanks_among(n: usize, values: &[i32]) -> u32
     requires { (n ≤ length values.now) × (n ≤ 4096) }
     ensures { result ≡ blanks_among n (λ v. get_or values.now v (pos 0)) }
 {
+    // Stays: the machine code of `filter` and `count` branches at each value and takes one at a time, where this takes several.
     let mut count = 0;
     for &value in &values[..n] {
         if is_blank(value) {

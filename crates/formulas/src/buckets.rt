@@ -34,6 +34,7 @@ fn holding(z: i32, held: &[i32]) -> u32
     requires { length held.now ≤ 256 }
     ensures { result ≡ Formula.places z held.now }
 {
+    // Stays: the machine code of `filter` and `count` branches at each value and takes one at a time, where this takes several.
     let mut n = 0;
     for &x in held {
         if x == z {

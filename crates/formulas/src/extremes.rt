@@ -35,6 +35,7 @@ pub fn least(row: Inputs) -> i32
     stood_for(left)
 }
 
+// Stays: as one with MIN a walk would be given the choice and what an input stands as, which is no plainer.
 // MAX: the greatest input that has a value, blank if none has: a blank lies below all values.
 pub fn greatest(row: Inputs) -> i32
     requires { 0 < length row.vars.now }

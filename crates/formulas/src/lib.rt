@@ -47,6 +47,7 @@ pub fn formula(kind: u16, param: i32, coefs: &[i16], row: Inputs) -> Option<i32>
 }
 
 // The value of a row that passed checks 2 and 3, from the part of the entries that starts at its first.
+// Stays: `formulas` lies below `tables`, so the parts of the tables come one by one.
 pub fn formula_value(
     kind: u16,
     param: i32,

@@ -22,7 +22,6 @@ fn mark<const N: usize>(values: [i32; N], first: usize, held: &[i32], marks: &mu
     ensures marked { PlacesMarked (λ x. any (eq_z x) values.entry) held.now first (length held.now) marks.old marks.new }
     ensures found { result ≡ map (λ z. cond (any (λ x. eq_z x z) (drop first held.now)) all_bits 0) values.entry }
 {
-    // Stays: rows of a fixed length, since no call allocates.
     let mut found = [0; N];
     for j in first..held.len() {
         let x = held[j];
@@ -49,6 +48,7 @@ fn four_places(n: usize, i: usize, held: &[i32], marks: &mut [u32]) -> usize
     requires { (i + 4 ≤ length held.now) × (length held.now ≤ 256) × TurnsTaken held.now marks.old i n }
     ensures { TurnsTaken held.now marks.new (i + 4) result }
 {
+    // Stays: each of the four is compared with the three others, which as arrays are read by places that leave one out: no plainer.
     let a = held[i];
     let b = held[i + 1];
     let c = held[i + 2];
@@ -88,7 +88,7 @@ pub fn sharing_pairs(held: &[i32]) -> usize
     let mut marks = [0u32; 256];
     let mut n = 0;
     let mut i = 0;
-    // Stays: a turn goes on by four places, and no `for` does.
+    // Stays: by `step_by(4)` the place where the last places begin is reckoned apart from the loop, which is no plainer.
     while i + 4 <= held.len() {
         n = four_places(n, i, held, &mut marks);
         i += 4;

@@ -45,6 +45,7 @@ impl Window {
         if self.start < self.end {
             let gap = difference(self.end, self.start).unsigned_abs();
             let step = i64::from(self.headway).unsigned_abs();
+            // Stays: so the definition `trips` divides; `div_ceil` is defined by a quotient and a remainder.
             (gap + step - 1) / step
         } else {
             0
