@@ -18,8 +18,7 @@ pub fn copy_asked(asked: &[u16], values: &[i32], results: &mut [i32])
     requires room { length asked.now ≤ length results.old }
     ensures { results.new ≡ over (length asked.now) (λ i. get_or values.now (nat asked.now i) (pos 0)) results.old }
 {
-    // Stays: by `results.iter_mut().zip(asked)` the goal `returns` is left open, since an invariant has no name for what has been written so far.
-    for i in 0..asked.len() {
-        results[i] = values[wide(asked[i])];
+    for (i, &v) in asked.iter().enumerate() {
+        results[i] = values[wide(v)];
     }
 }
