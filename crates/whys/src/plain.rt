@@ -23,9 +23,8 @@ pub fn ask_plain(n: usize, flags: &[u8], stored: &[u8], asked: &[u16], out: &mut
     requires asked_value { all (λ v. ltb v n) asked.now ≡ true }
     ensures { out.new ≡ over (length asked.now) (λ i. plain_now flags.now (nat stored.now) (nat asked.now i)) out.old }
 {
-    // Stays: by `out.iter_mut().zip(asked)` an invariant has no name for what has been written so far (`returns`).
-    for i in 0..asked.len() {
-        let v = wide(asked[i]);
+    for (i, &v) in asked.iter().enumerate() {
+        let v = wide(v);
         out[i] = if flags[v] == 1 { 0 } else { stored[v] };
     }
 }

@@ -30,6 +30,7 @@ fn reason_now(tables: &Tables, by: &[u16], values: &[i32], flags: &[u8], v: usiz
     requires v_in_bounds { v < length flags.now }
     ensures { result ≡ reason_now tables.now values.now by.now flags.now stored v }
 {
+    // Stays: a flag is a byte of the lent rows (the C interface).
     if flags[v] != 1 {
         return stored;
     }
@@ -85,7 +86,7 @@ pub fn note_blanks(tables: &Tables, by: &[u16], values: &[i32], flags: &[u8], re
     ensures { reasons.new ≡ over tables.now.n (λ v. blank_now tables.now values.now by.now flags.now (nat reasons.old v) v) reasons.old }
 {
     let mut v = 0;
-    // Stays: it goes on by 64 variables, and no `for` does.
+    // Stays: by `chunks(64).enumerate()` the first variable and the end of a part are reckoned from its number, which is no plainer.
     while v < tables.n {
         let end = (v + 64).min(tables.n);
         if blanks_among(end - v, &values[v..end]) != 0 {
@@ -110,9 +111,8 @@ pub fn ask_by(
     requires asked_value { all (λ v. ltb v tables.now.n) asked.now ≡ true }
     ensures { out.new ≡ over (length asked.now) (λ i. reason_now tables.now values.now by.now flags.now (nat stored.now (nat asked.now i)) (nat asked.now i)) out.old }
 {
-    // Stays: by `out.iter_mut().zip(asked)` an invariant has no name for what has been written so far (`returns`).
-    for i in 0..asked.len() {
-        let v = wide(asked[i]);
+    for (i, &v) in asked.iter().enumerate() {
+        let v = wide(v);
         out[i] = reason_now(tables, by, values, flags, v, stored[v]);
     }
 }
