@@ -24,6 +24,7 @@ pub fn asks_of(v: usize, links: &Links, marks: &[u16; 4096], numbers: &[u16; 409
     ensures { result ≡ asked_by (links_of links.now) marks.now numbers.now v }
 {
     let mut best = 0;
+    // Stays: a slice asks that it does not begin beyond its end, which `Laid` does not say and may not ask.
     for i in wide(links.begins[v])..wide(links.stops[v]) {
         best = best.max(asks(wide(links.vars[i]), marks, numbers));
     }

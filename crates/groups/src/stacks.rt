@@ -9,6 +9,7 @@ use crate::links::Links;
 use integers::wide;
 
 // Puts v on the stack: its place there.
+// Stays: place 0 holds how many wait, since `Stacked` says the row so.
 pub fn enter(v: usize, marks: &mut [u16; 4096], stack: &mut [u16; 4097]) -> usize
     requires { (v < 4096) × (nat stack.old 0 < 4096) }
     ensures { (result ≡ nat stack.old 0 + 1) × (marks.new ≡ set marks.old v result) × (stack.new ≡ set (set stack.old result v) 0 result) }
@@ -44,10 +45,9 @@ pub fn group_number(
     requires stacked { Stacked links.now.n marks.now stack.now }
     ensures { Best (asked_at (links_of links.now) marks.now stack.now numbers.now) (nat marks.now v) (nat stack.now 0 + 1) (first_number links.now.begins.now links.now.stops.now v) result }
 {
-    let top = wide(stack[0]) + 1;
     let mut best = first_number(v, links);
-    for i in wide(marks[v])..top {
-        best = best.max(asks_of(wide(stack[i]), links, marks, numbers));
+    for &u in &stack[wide(marks[v])..wide(stack[0]) + 1] {
+        best = best.max(asks_of(wide(u), links, marks, numbers));
     }
     best
 }
@@ -67,8 +67,8 @@ pub fn mark_group(
     requires stacked { Stacked n marks.old stack.now }
     ensures { Marked p (nat stack.now 0 + 1) mark number marks.old numbers.old marks.new numbers.new }
 {
-    for i in p..wide(stack[0]) + 1 {
-        let v = wide(stack[i]);
+    for &u in &stack[p..wide(stack[0]) + 1] {
+        let v = wide(u);
         marks[v] = mark;
         numbers[v] = number;
     }

@@ -10,6 +10,7 @@ use crate::links::Links;
 use crate::stacks::{enter, group_number, mark_group};
 use integers::wide;
 
+// Stays: a mark is a number of three kinds, 0, a place or one above 4096, since `Waits` and `asked` say the row of marks so.
 // Visits v: the mark of v if it has been entered before or if its group closes; else the least place that links lead to from what this visit leaves waiting.
 fn visit(
     v: usize,
@@ -30,6 +31,7 @@ fn visit(
     }
     let place = enter(v, marks, stack);
     let mut low = place;
+    // Stays: a slice asks that it does not begin beyond its end, which `Laid` does not say and may not ask.
     for i in wide(links.begins[v])..wide(links.stops[v]) {
         low = low.min(visit(wide(links.vars[i]), links, marks, stack, numbers));
     }
