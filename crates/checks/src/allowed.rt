@@ -74,6 +74,7 @@ pub fn first_bad_value(
     ))
 }
 
+// Stays: `n`, `by` and the bounds apart, here and in what is called, since docs/ARCHITECTURE names this check; `OfMakers` joins them in clauses.
 // Checks 19 and 7 of stored values: `blanks` is how many of them are blank, and no search variable is, or lies outside its bounds.
 pub fn stored_checks(
     blanks: u32,

@@ -17,6 +17,7 @@ use crate::visits::visit;
 use tables::lent::Tables;
 
 // Works out every variable that is determined by the search variables' values, and says with a state of 2 which are.
+// Stays: tables and `by` apart, here and in what is called, since docs/STATEMENTS names this function; `Makers` joins them in clauses.
 pub fn follow_choices(tables: &Tables, by: &[u16], values: &mut [i32], states: &mut [u8; 4096])
     requires sound { Sound (lent_tables tables.now) }
     requires makers { Makers (lent_tables tables.now) by.now }

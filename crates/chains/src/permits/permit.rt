@@ -64,6 +64,7 @@ fn first_round(tables: &Tables, by: &[u16], numbers: &mut [u16]) -> Option<usize
 }
 
 // The least variable on a closed chain that is not permitted, if there is one; `numbers` then holds the number of every variable.
+// Stays: tables and `by` apart, here and in what is called, since docs/STATEMENTS names this function; `Makers` joins them in clauses.
 pub fn find_shared(tables: &Tables, by: &[u16], numbers: &mut [u16]) -> Option<usize>
     requires kinded { Kinded (kinded_lent tables.now) }
     requires makers { Makers (kinded_lent tables.now) by.now }
