@@ -72,8 +72,8 @@ fn try_each(
     let mut totals = none();
     let mut at: usize = 0;
     clear(by_number);
-    for i in 0..batch.moves {
-        let pairs = wide(batch.pairs[i]);
+    for &lent in &batch.pairs[..batch.moves] {
+        let pairs = wide(lent);
         let mv = Move {
             pairs,
             vars: part(at, pairs, batch.vars),

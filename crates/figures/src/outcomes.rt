@@ -14,15 +14,16 @@ use trials::once::Judged;
 use verdicts::asked::Asked;
 
 // What comes of a move by one route: the number that the engine answers, its evaluations, and the value of the asked variable.
-#[derive(Drop)]
+#[derive(Clone, Copy)]
 pub struct Tried {
     pub number: u32,
     pub evaluations: u32,
     pub result: i32,
 }
 
+// Stays: the number 0 for accepted, here and in what comes of a trial, since `tried_once`, `outcome` and `having` say it so.
 // What comes of a move: its number and its result by route 1, and the evaluations by each route.
-#[derive(Drop)]
+#[derive(Clone, Copy)]
 pub struct Outcome {
     pub number: u32,
     pub result: i32,
