@@ -37,6 +37,7 @@ fn touch(
     touched[count] = v as u16;
     let end = wide(index.starts[v + 1]);
     let mut listed = count + 1;
+    // Stays: a slice asks that it does not begin beyond its end, which `LeadsUp` does not say and may not ask.
     for i in wide(index.starts[v])..end {
         let u = wide(makes[wide(index.places[i])]);
         if marks[u] != 1 {
