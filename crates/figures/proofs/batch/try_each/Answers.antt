@@ -1,5 +1,5 @@
 -- What was counted and added, and the figures of the moves that are left, are those of all (`Going`). Assumes nothing.
-use Rattle.std.proofs.Common.{ap₂, ◌∙◌, ◌≡◌, ◌<◌, length, take, arith}
+use Rattle.std.proofs.Common.{ap₂, ◌∙◌, ◌<◌, arith}
 use lib.Seq.{get_or-take, length-take-le}
 use Rattle.checks.specs.Moves.{move_of}
 use Rattle.tables.specs.Lent.{lent_model}
