@@ -16,14 +16,14 @@ use whys::notes::note_reasons;
 
 // Keep, with the session record taken and given back by value. The reason of every variable evaluated is noted.
 // Stays: rows that are written are parameters of their own, here and below: a struct of them would need a clause for each, that it is still the caller's.
-pub fn keep_core(
+pub fn keep_core<'a>(
     session: Session,
-    tables: &Tables,
-    bounds: &Bounds,
+    tables: &Tables<'a>,
+    bounds: &Bounds<'a>,
     numbers: &[u16],
     order: &[u16],
     stored: &mut [i32],
-    index: &Index,
+    index: &Index<'a>,
     reasons: &mut [u8],
     mv: &Move,
     flags: &mut [u8],
@@ -35,21 +35,14 @@ pub fn keep_core(
 {
     // Stays: rows of a fixed length, since no call allocates.
     let mut by = [0u16; 4096];
-    // Stays: bounds and index as they are written out: `*bounds` beside `*tables` would hold two lifetimes of the signature in one struct, which the check does not cover.
     let judged = {
         let model = Model {
             tables: *tables,
-            bounds: Bounds {
-                lows: bounds.lows,
-                highs: bounds.highs,
-            },
+            bounds: *bounds,
             numbers,
             order,
             stored,
-            index: Index {
-                starts: index.starts,
-                places: index.places,
-            },
+            index: *index,
             reasons,
         };
         let log = Log {

@@ -8,23 +8,23 @@ ghost use Rattle.records.specs.Left.{record_in, left_by_keep};
 use fills::fill_keep;
 use formulas::blanks::blanks_among;
 use integers::naturals::kept_once_less;
-use integers::wide;
-use move_log::latest::{drop_move, latest_move};
+use move_log::latest::drop_move;
 use records::{Done, Session};
-use tables::lent::{Bounds, Index, Log, Model, Move, Tables};
+use tables::lent::{Bounds, Index, Log, Model, Tables};
 use verdicts::judges::judge_take_back;
+use verdicts::taken::latest_of;
 use whys::notes::note_reasons;
 
 // Taking back the latest kept move, with the session record taken and given back by value. The reason of every variable evaluated is noted.
 // Stays: rows that are written are parameters of their own, here and below: a struct of them would need a clause for each, that it is still the caller's.
-pub fn take_back_core(
+pub fn take_back_core<'a>(
     session: Session,
-    tables: &Tables,
-    bounds: &Bounds,
+    tables: &Tables<'a>,
+    bounds: &Bounds<'a>,
     numbers: &[u16],
     order: &[u16],
     stored: &mut [i32],
-    index: &Index,
+    index: &Index<'a>,
     reasons: &mut [u8],
     flags: &mut [u8],
     log_sizes: &mut [u16],
@@ -35,21 +35,14 @@ pub fn take_back_core(
 {
     // Stays: rows of a fixed length, since no call allocates.
     let mut by = [0u16; 4096];
-    // Stays: bounds and index as they are written out: `*bounds` beside `*tables` would hold two lifetimes of the signature in one struct, which the check does not cover.
     let judged = {
         let model = Model {
             tables: *tables,
-            bounds: Bounds {
-                lows: bounds.lows,
-                highs: bounds.highs,
-            },
+            bounds: *bounds,
             numbers,
             order,
             stored,
-            index: Index {
-                starts: index.starts,
-                places: index.places,
-            },
+            index: *index,
             reasons,
         };
         let log = Log {
@@ -69,12 +62,11 @@ pub fn take_back_core(
         }
     };
     let makers = &by[..tables.n];
-    let at = latest_move(log_sizes);
-    let mv = Move {
-        pairs: wide(log_sizes[at + 1]),
-        vars: &log_vars[64 * at..],
-        values: &log_values[64 * at..],
-    };
+    let mv = latest_of(&Log {
+        sizes: log_sizes,
+        vars: log_vars,
+        values: log_values,
+    });
     let evaluations = fill_keep(tables, makers, closed, order, stored, index, &mv, flags);
     note_reasons(tables, makers, stored, flags, reasons);
     drop_move(log_sizes);

@@ -17,8 +17,9 @@ use records::Session;
 use tables::lent::{Model, Move};
 use tables::{Refusal, refused};
 use trials::Batch;
-use trials::once::{Judged, judge_model};
+use trials::once::Judged;
 use trials::parts::part;
+use verdicts::models::judge_model;
 
 // The figures of no move.
 fn none() -> Totals

@@ -1,5 +1,3 @@
-pub mod Judging
-pub mod Handed
 pub mod Scratch
 pub mod Low
 pub mod Laid

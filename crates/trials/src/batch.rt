@@ -9,7 +9,7 @@ ghost use Rattle.trials.specs.Batch.{batch_lent, moves_of};
 ghost use Rattle.trials.specs.Trials.{question_of, rows_in, GivenAt, tries, evaluations_given, filled, trials_fit, trials as allTried};
 
 use crate::given::try_given;
-use crate::once::{Judged, judge_model};
+use crate::once::Judged;
 use crate::parts::part;
 use integers::wide;
 use records::Session;
@@ -17,6 +17,7 @@ use records::answers::Outcome;
 use tables::lent::{Model, Move};
 use tables::{Answer, refused};
 use verdicts::asked::Asked;
+use verdicts::models::judge_model;
 
 // The moves of a batch as they are lent: how many, the number of pairs of each, and all pairs one move after another.
 #[derive(Clone, Copy)]
@@ -55,12 +56,12 @@ fn try_at(
     mv: &Move,
     asked: &Asked,
     results: &mut [i32],
-    trial: &mut [i32],
-    flags: &mut [u8],
+    trial: &mut [i32; 4096],
+    flags: &mut [u8; 4096],
     why: &mut [u8],
 ) -> Answer
     requires judged { JudgedOnce (lent_model model.now) session.blanks judged.now }
-    requires rows { (length trial.old ≡ 4096) × (length flags.old ≡ 4096) × (at + asked.now.count ≤ length results.old) × (at + asked.now.count ≤ length why.old) × (at + asked.now.count < 4294967296) }
+    requires rows { (at + asked.now.count ≤ length results.old) × (at + asked.now.count ≤ length why.old) × (at + asked.now.count < 4294967296) }
     ensures { GivenAt (record_in session) (lent_model model.now) (question_of asked.now) (lent_move mv.now) at results.old why.old result results.new why.new }
 {
     try_given(
@@ -83,8 +84,8 @@ fn try_each(
     model: &Model,
     batch: &Batch,
     asked: &Asked,
-    trial: &mut [i32],
-    flags: &mut [u8],
+    trial: &mut [i32; 4096],
+    flags: &mut [u8; 4096],
     move_numbers: &mut [u32],
     move_places: &mut [u32],
     move_evaluations: &mut [u32],
@@ -92,7 +93,6 @@ fn try_each(
     why: &mut [u8],
 ) -> u32
     requires judged { JudgedOnce (lent_model model.now) session.blanks judged.now }
-    requires rows { (length trial.old ≡ 4096) × (length flags.old ≡ 4096) }
     requires fit { trials_fit (batch_lent batch.now) (question_of asked.now) (rows_in move_numbers.old move_places.old move_evaluations.old results.old why.old) ≡ true }
     ensures told { result ≡ total (map evaluations_given (tries (record_in session) (lent_model model.now) (question_of asked.now) (moves_of (batch_lent batch.now)) results.old why.old)) }
     ensures filled { rows_in move_numbers.new move_places.new move_evaluations.new results.new why.new ≡ filled batch.now.moves asked.now.count (tries (record_in session) (lent_model model.now) (question_of asked.now) (moves_of (batch_lent batch.now)) results.old why.old) (rows_in move_numbers.old move_places.old move_evaluations.old results.old why.old) }

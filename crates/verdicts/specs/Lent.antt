@@ -1,7 +1,8 @@
 -- What a caller lends to each call, in the paper's records. Assumes nothing.
-use Rattle.std.specs.Prelude.{ℕ, List, ℤ}
+use Rattle.std.specs.Prelude.{ℕ, Bool, List, [], ◌∷◌, ℤ, leb, length}
+use Rattle.paper.specs.Lists.{every}
 use Rattle.paper.specs.Tables.{lent, index_in}
-use Rattle.paper.specs.Checks.{Bounds, bounds_in}
+use Rattle.paper.specs.Checks.{Bounds, bounds_in, move_fits}
 use Rattle.paper.specs.Calls.{Session, BuildLent, Model, TrialLent, KeepLent, TakeLent}
 use Rattle.tables.specs.Lent.{lent_tables, lent_bounds, lent_move, lent_index}
 use Rattle.tables.specs.declared.lent.Tables as code-tables
@@ -106,3 +107,10 @@ lent_to_try mv asked results trial flags why = record {
 
 abbrev pub lent_to_keep : code-move.Move → List ℕ → KeepLent
 lent_to_keep mv flags = record { move = lent_move mv; flags = flags }
+
+-- check 1 of what a trial is lent beside the model
+abbrev pub move_own_fits : ℕ → TrialLent → Bool
+move_own_fits n c =
+    every (
+    move_fits c.move ∷ leb c.asked 32 ∷ leb c.asked (length c.asked_vars) ∷ leb c.asked (length c.results)
+    ∷ leb n (length c.trial) ∷ leb n (length c.flags) ∷ leb c.asked (length c.why) ∷ [])

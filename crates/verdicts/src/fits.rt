@@ -1,9 +1,9 @@
 // Check 1 of each call: the counts within their bounds, and every lent buffer as long as they ask.
 ghost use Rattle.std.specs.Prelude.{suc, ◌&&◌, ◌≡◌, leb, length};
 ghost use Rattle.paper.specs.Log.{log_fits};
-ghost use Rattle.paper.specs.Calls.{build_fits, model_fits, trial_fits, keep_fits, take_fits};
+ghost use Rattle.paper.specs.Calls.{build_fits, model_fits, keep_fits, take_fits};
 ghost use Rattle.tables.specs.Lent.{lent_bounds, lent_model, lent_log};
-ghost use Rattle.verdicts.specs.Lent.{no_record, lent_to_build, lent_to_try, lent_to_keep, to_take};
+ghost use Rattle.verdicts.specs.Lent.{no_record, lent_to_build, lent_to_try, lent_to_keep, to_take, move_own_fits};
 
 use crate::asked::Asked;
 use checks::moves::move_sizes;
@@ -69,9 +69,9 @@ pub fn model_fits(model: &Model) -> bool
         & reasons_fit(tables.n, model.reasons)
 }
 
-// Check 1 of trial.
-pub(crate) fn trial_fits(
-    model: &Model,
+// Check 1 of what a trial is lent beside the model: its pairs, what is asked, and the rows to fill.
+pub(crate) fn move_fits(
+    n: usize,
     mv: &Move,
     asked: &Asked,
     results: &[i32],
@@ -79,11 +79,9 @@ pub(crate) fn trial_fits(
     flags: &[u8],
     why: &[u8],
 ) -> bool
-    ensures { result ≡ trial_fits (lent_model model.now) (lent_to_try mv.now asked.now results.now trial.now flags.now why.now) }
+    ensures { result ≡ move_own_fits n (lent_to_try mv.now asked.now results.now trial.now flags.now why.now) }
 {
-    let n = model.tables.n;
-    model_fits(model)
-        & move_sizes(mv)
+    move_sizes(mv)
         & (asked.count <= 32)
         & (asked.count <= asked.vars.len())
         & (asked.count <= results.len())

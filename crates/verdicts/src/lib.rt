@@ -6,3 +6,4 @@ pub mod fits;
 pub mod judges;
 pub mod models;
 pub mod sequels;
+pub mod taken;

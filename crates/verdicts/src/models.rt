@@ -2,8 +2,9 @@
 ghost use Rattle.std.specs.Prelude.{true, ◌≡◌, ◌≤◌, length};
 ghost use Rattle.paper.specs.Calls.{model_fits};
 ghost use Rattle.tables.specs.Lent.{lent_model};
-ghost use Rattle.verdicts.specs.ModelJudged.{ModelJudged};
+ghost use Rattle.verdicts.specs.ModelJudged.{ModelJudged, OnceJudged};
 
+use crate::fits::model_fits;
 use chains::permits::shared_right;
 use checks::allowed::stored_checks;
 use checks::sound::table_checks;
@@ -28,4 +29,15 @@ pub fn model_checks(blanks: u32, model: &Model, by: &mut [u16]) -> Result<bool, 
     };
     stored_checks(blanks, tables.n, by, &model.bounds, model.stored)?;
     Ok(closed)
+}
+
+// Check 1 of the model and then those. If all are passed, `by` holds the makers, and the answer says whether some chain closes.
+pub fn judge_model(blanks: u32, model: &Model, by: &mut [u16]) -> Result<bool, Refusal>
+    requires room { 4096 ≤ length by.old }
+    ensures { OnceJudged (lent_model model.now) blanks by.new result }
+{
+    if !model_fits(model) {
+        return Err(refused(1, 0));
+    }
+    model_checks(blanks, model, by)
 }

@@ -26,7 +26,7 @@ pub fn ask_checks(
     requires asked_bound { (asked.now.count ≤ 32) × (asked.now.count ≤ length asked.now.vars.now) }
     ensures { OfMakers n by.now (λ t. result ≡ answer_of tt (ask_checks (lent_to_try mv.now asked.now [] [] [] []) t (lent_bounds bounds.now) accepted)) }
 {
-    if !((1 <= asked.route) & (asked.route <= 3)) {
+    if !(1..=3).contains(&asked.route) {
         return Err(refused(9, 0));
     }
     move_checks(n, by, bounds, mv)?;

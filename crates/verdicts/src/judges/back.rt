@@ -9,13 +9,12 @@ ghost use Rattle.tables.specs.Lent.{lent_tables, lent_log};
 ghost use Rattle.tables.specs.Makers.{Makers};
 ghost use Rattle.verdicts.specs.Latest.{LatestFits};
 
+use crate::taken::latest_of;
 use choices::renewals::fresh_checks;
-use integers::wide;
-use move_log::latest::latest_move;
 use tables::Refusal;
-use tables::lent::{Log, Move, Tables};
+use tables::lent::{Log, Tables};
 
-// Its variables get the values before it, which stand in the log from its place on.
+// It is read from the log, and checked as any other.
 pub fn back_checks(
     tables: &Tables,
     by: &[u16],
@@ -30,11 +29,5 @@ pub fn back_checks(
     requires latest { LatestFits tables.now.n (lent_log log.now) }
     ensures { result ≡ answer_of tt (by_lines (fresh_lines (back (lent_log log.now) (pred (logged (lent_log log.now)))) (lent_tables tables.now) (values_in (lent_tables tables.now) stored.now)) accepted) }
 {
-    let at = latest_move(log.sizes);
-    let mv = Move {
-        pairs: wide(log.sizes[at + 1]),
-        vars: &log.vars[64 * at..],
-        values: &log.values[64 * at..],
-    };
-    fresh_checks(tables, by, closed, stored, &mv)
+    fresh_checks(tables, by, closed, stored, &latest_of(log))
 }

@@ -7,8 +7,8 @@ use mathlib.Core.List.{List}
 use mathlib.Core.Path.{◌≡◌, refl, sym, ap, ◌∙◌}
 use lib.ListN.{take}
 use Rattle.paper.specs.Net.{input-to-output}
-use Rattle.paper.specs.Checks.{accepted, refused}
-use Rattle.paper.specs.Log.{Log, log_in, logged}
+use Rattle.paper.specs.Checks.{accepted, refused, Move}
+use Rattle.paper.specs.Log.{Log, log_in, logged, back}
 use Rattle.paper.specs.Calls.{Session, Model, TakeLent, latest, take_verdict}
 use Rattle.paper.proofs.Outcomes.{take_meets}
 use Rattle.paper.proofs.Sizes.{sized-facts}
@@ -21,7 +21,7 @@ use Rattle.tables.proofs.Answered.{accepted-is, accepted-as, refused-is}
 use Rattle.verdicts.specs.Lent.{to_take}
 use Rattle.verdicts.specs.ModelJudged.{CallJudged}
 use Rattle.records.specs.Left.{record_in}
-use Rattle.fills.proofs.Accepted.{take-by-kept, Latest, latest-at, latest-is, taking-of, filled-long, filled-same, take-met}
+use Rattle.fills.proofs.Accepted.{take-by-kept, Latest, latest-at, taking-of, filled-long, filled-same, take-met}
 use Rattle.fills.proofs.Given.{moved-given}
 use Rattle.calls.proofs.Front.{makers-front}
 use Rattle.calls.proofs.taking.take_back_core.Goals as goal
@@ -45,33 +45,24 @@ module _ (s : Session) (g : Log) (w : Model) (a : TakeLent) {by : List ℕ} {r :
   found : {at : ℕ} → at ≡ pred (logged g) → Latest g at
   found = latest-at s g w a passed
 
+-- the move is read as it stands in the log
+kept-latest : (g : Log) (u : TakeLent) {mv : Move} → mv ≡ back g (pred (logged g)) → record { move = mv; flags = u.flags } ≡ latest g u
+kept-latest g u e = ap (λ (mv : Move). record { move = mv; flags = u.flags }) e
+
 pub returns-in-Err : goal.returns-in-Err
 returns-in-Err c =
     let s = record_in c.args.session in let f = c.in-Err.refusal in let v = take-by-kept s _ _ _ ∙ refused-is _ f _ (sym c.judge_take_back-judged.ensures.answer ∙ c.in-Err.is) in
     take_meets s _ _ _ (refused f.number f.place) _ v refl refl refl refl refl refl
 
-pub latest_move-at-requires : goal.latest_move-at-requires
-latest_move-at-requires c = let k = (found (record_in c.args.session) _ _ _ c.judge_take_back-judged.ensures c.in-Ok.is refl).in-sizes in omega arith
-
-pub bounds-log_sizes-at : goal.bounds-log_sizes-at
-bounds-log_sizes-at c = (found (record_in c.args.session) _ _ _ c.judge_take_back-judged.ensures c.in-Ok.is c.latest_move-at.ensures).in-sizes
-
-pub slice_bounds-mv-count : goal.slice_bounds-mv-count
-slice_bounds-mv-count c = (found (record_in c.args.session) _ _ _ c.judge_take_back-judged.ensures c.in-Ok.is c.latest_move-at.ensures).in-vars
-
-pub slice_bounds-mv-start : goal.slice_bounds-mv-start
-slice_bounds-mv-start c = (found (record_in c.args.session) _ _ _ c.judge_take_back-judged.ensures c.in-Ok.is c.latest_move-at.ensures).in-vars
-
-pub slice_bounds-mv-count-2 : goal.slice_bounds-mv-count-2
-slice_bounds-mv-count-2 c = (found (record_in c.args.session) _ _ _ c.judge_take_back-judged.ensures c.in-Ok.is c.latest_move-at.ensures).in-values
-
-pub slice_bounds-mv-start-2 : goal.slice_bounds-mv-start-2
-slice_bounds-mv-start-2 c = (found (record_in c.args.session) _ _ _ c.judge_take_back-judged.ensures c.in-Ok.is c.latest_move-at.ensures).in-values
+pub latest_of-mv-requires : goal.latest_of-mv-requires
+latest_of-mv-requires c =
+    let k = found (record_in c.args.session) _ _ _ c.judge_take_back-judged.ensures c.in-Ok.is refl in
+    record { room = record { few = k.few; in-sizes = k.in-sizes; in-vars = k.in-vars; in-values = k.in-values } }
 
 pub fill_keep-evaluations-requires-clause-keep_accepted : goal.fill_keep-evaluations-requires-clause-keep_accepted
 fill_keep-evaluations-requires-clause-keep_accepted c =
     let s = record_in c.args.session in let v = passed s _ _ _ c.judge_take_back-judged.ensures c.in-Ok.is in
-    taking-of s _ _ _ v _ (latest-is _ _ _ _ c.latest_move-at.ensures c.wide.ensures.0)
+    taking-of s _ _ _ v _ (kept-latest (log_in c.args.log_sizes.now c.args.log_vars.now c.args.log_values.now) (to_take c.args.flags.now) c.latest_of-mv.ensures)
 
 pub fill_keep-evaluations-requires-clause-makers : goal.fill_keep-evaluations-requires-clause-makers
 fill_keep-evaluations-requires-clause-makers c = front (record_in c.args.session) _ _ _ c.judge_take_back-judged.ensures c.in-Ok.is
@@ -100,7 +91,7 @@ pub returns : goal.returns
 returns c =
     let s = record_in c.args.session in let v = passed s _ _ _ c.judge_take_back-judged.ensures c.in-Ok.is in
     let a = latest (log_in c.args.log_sizes.now c.args.log_vars.now c.args.log_values.now) (to_take c.args.flags.now) in let k = take-known s _ _ _ v in
-    let f = filled-same (latest-is _ _ _ _ c.latest_move-at.ensures c.wide.ensures.0) c.fill_keep-evaluations.ensures in
+    let f = filled-same (kept-latest (log_in c.args.log_sizes.now c.args.log_vars.now c.args.log_values.now) (to_take c.args.flags.now) c.latest_of-mv.ensures) c.fill_keep-evaluations.ensures in
     take-met s _ _ _ _ _ _ _ _ _ _ v f c.kept_once_less.ensures c.blanks_among-blanks.ensures
     (moved-given _ k.model.sound _ a (model-meets _ k.model k.fresh _ k.determined input-to-output) _ f.stored_is _ f.flags-are c.args.reasons.now _ c.note_reasons.ensures)
     (ap (λ sizes. log_in sizes c.args.log_vars.now c.args.log_values.now) c.drop_move.ensures)

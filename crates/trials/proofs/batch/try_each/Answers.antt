@@ -1,11 +1,11 @@
 -- What is filled in, and what the moves that are left will be given, are what all are given (`Going`). Assumes nothing.
-use Rattle.std.proofs.Common.{ap₂, ◌∙◌, arith}
+use Rattle.std.proofs.Common.{ap₂, arith}
 use Rattle.checks.specs.Moves.{move_of}
 use Rattle.trials.proofs.Going.{fitting, going_start, going-room, going-low, going_next, going_end}
 use Rattle.trials.proofs.batch.try_each.Goals as goal
 
 pub loop-i-init : goal.loop-i-init
-loop-i-init c = record { fit = fitting _ _ _ c.requires.fit; going = going_start _ _ _ _ _; trial_long = c.requires.rows.0; flags_long = c.requires.rows.1 }
+loop-i-init c = record { fit = fitting _ _ _ c.requires.fit; going = going_start _ _ _ _ _ }
 
 pub bounds-batch-i : goal.bounds-batch-i
 bounds-batch-i c = omega (arith, c.loop-i.invariant.fit.each-pairs)
@@ -17,7 +17,7 @@ pub try_at-answer-requires-clause-rows : goal.try_at-answer-requires-clause-rows
 try_at-answer-requires-clause-rows c =
     let l = c.loop-i in
     let room = going-room _ _ _ _ _ l.invariant.fit _ _ _ _ _ l.invariant.going c.loop-i-test.true in
-    (l.invariant.trial_long, l.invariant.flags_long, room.3, room.4, omega (arith, room.5))
+    (room.3, room.4, omega (arith, room.5))
 
 pub note-evaluations-requires : goal.note-evaluations-requires
 note-evaluations-requires c =
@@ -51,8 +51,6 @@ loop-i-preserved c =
           going_next _ _ _ _ _ l.invariant.fit _ _ _ _ _ l.invariant.going c.loop-i-test.true k.result k.ensures.0 _
           (ap₂ (move_of k.result) c.part.ensures c.part-in-loop-i.ensures) _ _ _ c.try_at-answer.ensures
           k.ensures.1 c.try_at-answer.auto.results c.try_at-answer.auto.why _ _ _ n.1 n.2 n.3 _ n.0;
-      trial_long = c.try_at-answer.auto.trial ∙ l.invariant.trial_long;
-      flags_long = c.try_at-answer.auto.flags ∙ l.invariant.flags_long;
     }
 
 pub returns : goal.returns

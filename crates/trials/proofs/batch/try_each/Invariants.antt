@@ -1,5 +1,4 @@
 -- What is filled in, and what the moves that are left will be given, are what all are given (`Going`). Assumes nothing.
-use Rattle.std.proofs.Common.{◌≡◌, length}
 use Rattle.tables.specs.Lent.{lent_model}
 use Rattle.records.specs.Left.{record_in}
 use Rattle.trials.specs.Batch.{batch_lent}
@@ -15,6 +14,4 @@ invariant-loop-i l = record {
       (rows_in l.initial.move_numbers l.initial.move_places l.initial.move_evaluations l.initial.results l.initial.why)
       (rows_in l.move_numbers l.move_places l.move_evaluations l.results l.why)
       l.evaluations l.first l.at l.i;
-  trial_long : length l.trial ≡ 4096;
-  flags_long : length l.flags ≡ 4096;
 }

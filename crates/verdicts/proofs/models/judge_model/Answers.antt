@@ -2,7 +2,7 @@
 use Rattle.std.proofs.Common.{sym, arith}
 use Rattle.tables.specs.Lent.{lent_model}
 use Rattle.verdicts.proofs.ModelJudging.{model-fitting}
-use Rattle.trials.proofs.once.judge_model.Goals as goal
+use Rattle.verdicts.proofs.models.judge_model.Goals as goal
 
 pub model_checks-requires-clause-n_in_bounds : goal.model_checks-requires-clause-n_in_bounds
 model_checks-requires-clause-n_in_bounds c =

@@ -11,8 +11,8 @@ use Rattle.verdicts.specs.Lent.{lent_to_try}
 use Rattle.records.specs.Left.{record_in}
 use Rattle.fills.proofs.Accepted.{trying-of, filled-long, trial-met}
 use Rattle.fills.proofs.Given.{asked-given}
-use Rattle.trials.proofs.Handed.{handed, stopped}
-use Rattle.trials.proofs.once.try_judged.Goals as goal
+use Rattle.calls.proofs.Handed.{handed, stopped}
+use Rattle.calls.proofs.trying.try_over.Goals as goal
 
 pub returns-in-Err : goal.returns-in-Err
 returns-in-Err c =
@@ -20,14 +20,14 @@ returns-in-Err c =
     let s = record_in a.session in let w = lent_model a.model.now in
     let q = lent_to_try a.mv.now a.asked.now a.results.now a.trial.now a.flags.now a.why.now in
     let f = c.in-Err.refusal in
-    trial-meets s w q _ (refused f.number f.place) (stopped s w q _ _ c.judge_move-verdict.ensures f c.in-Err.is) refl refl refl refl refl refl
+    trial-meets s w q _ (refused f.number f.place) (stopped s w q _ _ c.requires.judged f c.in-Err.is) refl refl refl refl refl refl
 
 pub fill_trial-evaluations-requires : goal.fill_trial-evaluations-requires
 fill_trial-evaluations-requires c =
     let a = c.args in
     let s = record_in a.session in let w = lent_model a.model.now in
     let q = lent_to_try a.mv.now a.asked.now a.results.now a.trial.now a.flags.now a.why.now in
-    let h = handed s w q _ _ c.judge_move-verdict.ensures _ c.in-Ok.is in
+    let h = handed s w q _ _ c.requires.judged _ c.in-Ok.is in
     record { trying = trying-of s w q h.passed; makers = h.makers; closing = h.closing }
 
 pub slice_bounds-asked_reasons-end : goal.slice_bounds-asked_reasons-end
@@ -35,7 +35,7 @@ slice_bounds-asked_reasons-end c =
     let a = c.args in
     let s = record_in a.session in let w = lent_model a.model.now in
     let q = lent_to_try a.mv.now a.asked.now a.results.now a.trial.now a.flags.now a.why.now in
-    let h = handed s w q _ _ c.judge_move-verdict.ensures _ c.in-Ok.is in
+    let h = handed s w q _ _ c.requires.judged _ c.in-Ok.is in
     sym (length-take-le a.asked.now.count a.asked.now.vars.now h.known.asked-long)
 
 pub asked_reasons-requires : goal.asked_reasons-requires
@@ -43,7 +43,7 @@ asked_reasons-requires c =
     let a = c.args in
     let s = record_in a.session in let w = lent_model a.model.now in
     let q = lent_to_try a.mv.now a.asked.now a.results.now a.trial.now a.flags.now a.why.now in
-    let h = handed s w q _ _ c.judge_move-verdict.ensures _ c.in-Ok.is in
+    let h = handed s w q _ _ c.requires.judged _ c.in-Ok.is in
     let ready = trying-of s w q h.passed in
     let f = c.fill_trial-evaluations.ensures in
     record {
@@ -63,7 +63,7 @@ returns c =
     let a = c.args in
     let s = record_in a.session in let w = lent_model a.model.now in
     let q = lent_to_try a.mv.now a.asked.now a.results.now a.trial.now a.flags.now a.why.now in
-    let h = handed s w q _ _ c.judge_move-verdict.ensures _ c.in-Ok.is in
+    let h = handed s w q _ _ c.requires.judged _ c.in-Ok.is in
     let k = h.known in
     let f = c.fill_trial-evaluations.ensures in
     trial-met s w q _ _ _ _ _ h.passed f

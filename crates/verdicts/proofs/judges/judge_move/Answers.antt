@@ -3,8 +3,8 @@ use Rattle.std.proofs.Common.{sym}
 use Rattle.tables.specs.Lent.{lent_model}
 use Rattle.tables.proofs.Answered.{err-said}
 use Rattle.verdicts.specs.Lent.{lent_to_try}
-use Rattle.trials.proofs.Judging.{stops-unfit, stops-model, ask-ready, stops-asked, fresh-ready, stops-fresh, fresh-decides}
-use Rattle.trials.proofs.once.judge_move.Goals as goal
+use Rattle.verdicts.proofs.JudgingTrials.{stops-unfit, stops-model, ask-ready, stops-asked, fresh-ready, stops-fresh, fresh-decides}
+use Rattle.verdicts.proofs.judges.judge_move.Goals as goal
 
 pub returns-then-not-move_fits : goal.returns-then-not-move_fits
 returns-then-not-move_fits c =

@@ -19,11 +19,11 @@ use Rattle.tables.specs.declared.Refusal.{Refusal}
 use Rattle.checks.specs.Allowed.{OfMakers}
 use Rattle.rows.specs.Put.{PairsFit}
 use Rattle.verdicts.specs.Chains.{ask_checks}
-use Rattle.verdicts.specs.ModelJudged.{ModelJudged, CallJudged}
+use Rattle.verdicts.specs.Lent.{move_own_fits}
+use Rattle.verdicts.specs.ModelJudged.{ModelJudged, OnceJudged, CallJudged}
 use Rattle.verdicts.proofs.Chains.{ask-then}
 use Rattle.verdicts.proofs.ModelJudging.{model-fitting}
 use Rattle.verdicts.proofs.JudgingMoves.{pairs-fit, model-makers, model-sound, model-closing, move-ready, call-stops-1, call-stops, call-stops-2, call-stops-3, call-passed, call-last}
-use Rattle.trials.specs.Once.{OnceJudged, move_own_fits}
 
 and_no : (b : Bool) → (b && false) ≡ false
 and_no true = refl
