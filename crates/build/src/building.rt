@@ -1,5 +1,5 @@
 // Build: judged first, and written only once it is accepted; and for callers that hold no record.
-ghost use Rattle.std.specs.Prelude.{◌≡◌, replicate};
+ghost use Rattle.std.specs.Prelude.{◌≡◌, ◌≤◌, replicate};
 ghost use Rattle.paper.specs.Checks.{bounds_in, lowest, highest};
 ghost use Rattle.paper.specs.Calls.{build};
 ghost use Rattle.tables.specs.Lent.{lent_bounds};
@@ -73,6 +73,43 @@ fn build_over(
     }
 }
 
+// Build over rows for the makers and the numbers with N places each.
+fn build_sized<const N: usize>(
+    session: Session,
+    tables: &Tables,
+    bounds: &Bounds,
+    starts: &[i32],
+    numbers: &mut [u16],
+    order: &mut [u16],
+    stored: &mut [i32],
+    reader_starts: &mut [u16],
+    reader_places: &mut [u16],
+    reasons: &mut [u8],
+    log_sizes: &mut [u16],
+) -> Done
+    requires room { (N ≤ 4096) × (tables.now.n ≤ 4096 → tables.now.n ≤ N) }
+    ensures { left_by_build result numbers.new order.new stored.new reader_starts.new reader_places.new reasons.new log_sizes.new ≡ build (lent_to_build (record_in session) tables.now (lent_bounds bounds.now) starts.now numbers.old order.old stored.old reader_starts.old reader_places.old reasons.old log_sizes.old) }
+{
+    // Stays: rows of a fixed length, since no call allocates.
+    let mut by = [0u16; N];
+    let mut state = [0u16; N];
+    build_over(
+        session,
+        tables,
+        bounds,
+        starts,
+        numbers,
+        order,
+        stored,
+        reader_starts,
+        reader_places,
+        reasons,
+        log_sizes,
+        &mut by,
+        &mut state,
+    )
+}
+
 // Build, with the session record taken and given back by value. A small model has short rows, since clearing long ones would take longer than the rest.
 pub fn build_core(
     session: Session,
@@ -90,10 +127,7 @@ pub fn build_core(
     ensures { left_by_build result numbers.new order.new stored.new reader_starts.new reader_places.new reasons.new log_sizes.new ≡ build (lent_to_build (record_in session) tables.now (lent_bounds bounds.now) starts.now numbers.old order.old stored.old reader_starts.old reader_places.old reasons.old log_sizes.old) }
 {
     if tables.n <= 256 {
-        // Stays: rows of a fixed length, since no call allocates.
-        let mut by = [0u16; 256];
-        let mut state = [0u16; 256];
-        return build_over(
+        build_sized::<256>(
             session,
             tables,
             bounds,
@@ -105,27 +139,22 @@ pub fn build_core(
             reader_places,
             reasons,
             log_sizes,
-            &mut by,
-            &mut state,
-        );
+        )
+    } else {
+        build_sized::<4096>(
+            session,
+            tables,
+            bounds,
+            starts,
+            numbers,
+            order,
+            stored,
+            reader_starts,
+            reader_places,
+            reasons,
+            log_sizes,
+        )
     }
-    let mut by = [0u16; 4096];
-    let mut state = [0u16; 4096];
-    build_over(
-        session,
-        tables,
-        bounds,
-        starts,
-        numbers,
-        order,
-        stored,
-        reader_starts,
-        reader_places,
-        reasons,
-        log_sizes,
-        &mut by,
-        &mut state,
-    )
 }
 
 // Build over a record, full bounds and a log of its own, for callers that keep no move.
