@@ -43,6 +43,7 @@ fn build_over(
             tables, bounds, starts, numbers, order, stored, &index, reasons, log_sizes, by, state,
         )
     };
+    // Stays: no `?`: the record goes with the refusal, and an inner function for it would take every row again.
     if let Err(refusal) = judged {
         return Done {
             answer: Err(refusal),

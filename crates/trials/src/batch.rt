@@ -20,6 +20,7 @@ use verdicts::asked::Asked;
 use verdicts::models::judge_model;
 
 // The moves of a batch as they are lent: how many, the number of pairs of each, and all pairs one move after another.
+// Stays: how many beside the row: C lends them so, and check 1 answers a number past the row's length.
 #[derive(Clone, Copy)]
 pub struct Batch<'a> {
     pub moves: usize,
