@@ -37,9 +37,8 @@ impl<'a> Inputs<'a> {
         requires { length self.vars.now ≤ length held.old }
         ensures { take (length self.entry.vars.now) held.new ≡ inputs_of self.entry }
     {
-        // Stays: by `held.iter_mut().zip(self.vars)` an invariant has no name for what has been written so far, as in `copy_asked` of `rows`.
-        for i in 0..self.len() {
-            held[i] = self.at(i);
+        for (i, &v) in self.vars.iter().enumerate() {
+            held[i] = self.values[usize::from(v)];
         }
     }
 
