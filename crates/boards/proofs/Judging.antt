@@ -1,10 +1,8 @@
 -- The verdict of a board: which check stops it, what is known once all five are passed, and what it leaves. Assumes nothing.
 use Prim.Native.Nat.{ℕ, ◌≤◌}
-use native.Mathlib.Nat.{lt_irrefl}
-use native.Mathlib.Omega.{arith}
 use mathlib.Core.Bool.{true, false}
 use mathlib.Core.List.{List, ◌++◌}
-use mathlib.Core.Path.{◌≡◌, refl, ap, ap₂, sym, ◌∙◌}
+use mathlib.Core.Path.{◌≡◌, ap, ap₂, sym, ◌∙◌}
 use lib.IntN.{ℤ}
 use lib.ListN.{length, drop}
 use borrow.Author.Tests.{leb-true}
@@ -13,8 +11,8 @@ use Rattle.paper.proofs.Lists.{each}
 use Rattle.paper.proofs.Verdicts.{check-rest, check-held, require-next, require-stops, require-rest, require-held}
 use Rattle.times.specs.Windows.{Board, list, windows_fit, numbers_good, apart, few_enough, room_given, board_verdict, BoardPassed}
 use Rattle.boards.specs.Board.{listed_by, board_leaves, board, left_by_board}
-use Rattle.boards.specs.declared.Listed.{Listed}
-use Rattle.boards.specs.declared.Listed.TheVariants.{Accepted, Refused}
+use Rattle.std.specs.Prelude.{Result}
+use Rattle.tables.specs.declared.Refusal.{Refusal}
 
 -- ── what check 1 leaves ──
 pub record Lent (b : Board) : Type 0 where
@@ -63,20 +61,11 @@ module _ (b : Board) where
         room = require-held 5 0 (room_given b) accepted (require-rest 4 0 (few_enough b) from_five e₄);
       }
 
--- ── an answer, and the verdict that it stands for ──
-pub accepted-is : (v : Verdict) (count k : ℕ) → listed_by v count ≡ Accepted k → v ≡ accepted
-accepted-is accepted count k e = refl
-accepted-is (refused a p) count k e = let z : ◌≡◌ {A = ℕ} 0 1 = cc in absurd (lt_irrefl 1 (omega arith))
-
-pub refused-is : (v : Verdict) (count a p : ℕ) → listed_by v count ≡ Refused a p → v ≡ refused a p
-refused-is accepted count a p e = let z : ◌≡◌ {A = ℕ} 0 1 = cc in absurd (lt_irrefl 1 (omega arith))
-refused-is (refused b q) count a p e = let x : b ≡ a = cc in let y : q ≡ p = cc in rw (x, y)
-
 -- ── the answer, and what is left, by the verdict ──
-pub answers : (b : Board) (r : Listed) (v : Verdict) → board_verdict b ≡ v → r ≡ listed_by v (length (list b)) → r ≡ listed_by (board_verdict b) (length (list b))
+pub answers : (b : Board) (r : Result ℕ Refusal) (v : Verdict) → board_verdict b ≡ v → r ≡ listed_by v (length (list b)) → r ≡ listed_by (board_verdict b) (length (list b))
 answers b r v e p = p ∙ ap (λ x. listed_by x (length (list b))) (sym e)
 
-pub board-meets : (b : Board) (r : Listed) (row : List ℤ) (v : Verdict) → board_verdict b ≡ v → r ≡ listed_by v (length (list b))
+pub board-meets : (b : Board) (r : Result ℕ Refusal) (row : List ℤ) (v : Verdict) → board_verdict b ≡ v → r ≡ listed_by v (length (list b))
     → row ≡ leaves v (list b ++ drop (length (list b)) b.row) b.row → left_by_board r row ≡ board b
 unfolding board
 board-meets b r row v e p q = ap₂ left_by_board p q ∙ ap (board_leaves b) (sym e)

@@ -15,8 +15,7 @@ use Rattle.times.proofs.Listing.{list-ascends, list-gives, list-only}
 use Rattle.times.specs.Windows.{Board, list, windows_fit, numbers_good, apart, few_enough, room_given, board_verdict}
 use Rattle.boards.specs.Board.{BoardLeft, length_of, board_leaves, board, BoardHad}
 use Rattle.boards.specs.Outcome.{Outcome, refuses, accepts, ListedRight}
-use Rattle.boards.specs.declared.Listed.{Listed}
-use Rattle.boards.specs.declared.Listed.TheVariants as listed
+use Rattle.std.specs.Prelude.{Ok}
 use Rattle.boards.proofs.Judging.{passed}
 
 -- ── the numbers of the five checks ──
@@ -61,15 +60,11 @@ module _ (b : Board) where
   outcome x e = rw e (by-verdict (board_verdict b) refl)
 
 -- ── an accepted one's row begins with the departures in time order ──
-pub listed-right : (b : Board) (o : BoardHad b) (size : ℕ) → o.answer ≡ listed.Accepted size → ListedRight o size
+pub listed-right : (b : Board) (o : BoardHad b) (size : ℕ) → o.answer ≡ Ok size → ListedRight o size
 listed-right b o size e = go (outcome b (record { answer = o.answer; row = o.row }) o.stated)
   where
     go : Outcome b (record { answer = o.answer; row = o.row }) → ListedRight o size
-    go (refuses number place r) = let z : ◌≡◌ {A = ℕ} 0 1 = ap kind (sym e ∙ r.answer) in absurd (omega arith)
-      where
-        kind : Listed → ℕ
-        kind (listed.Accepted k) = 0
-        kind (listed.Refused number place) = 1
+    go (refuses number place r) = cc
     go (accepts a) =
         let is : length (list b) ≡ size = sym (ap length_of a.answer) ∙ ap length_of e in
         let top : take size o.row ≡ list b = ap (λ k. take k o.row) (sym is) ∙ a.front in

@@ -5,10 +5,3 @@ mod boards;
 mod trips;
 
 pub use boards::list_departures;
-
-// What the call answers.
-#[derive(Drop)]
-pub enum Listed {
-    Accepted { length: usize },
-    Refused { number: u32, place: u32 },
-}

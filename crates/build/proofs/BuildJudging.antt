@@ -1,10 +1,12 @@
 -- How build's verdict comes out, check by check: it is the first refusal, and acceptance if there is none. Assumes nothing.
-use Prim.Native.Nat.{ℕ, suc, ◌≤◌, ◌<◌}
+use Prim.Native.Nat.{ℕ, suc, ◌≤◌}
 use native.Mathlib.Omega.{arith}
 use mathlib.Core.Bool.{Bool, true, false}
 use mathlib.Core.Path.{◌≡◌, refl, ap, sym, ◌∙◌}
 use mathlib.Core.List.{List}
 use lib.ListN.{length}
+use native.Mathlib.Nat.{le_refl}
+use Rattle.std.specs.Prelude.{Option, None, Result, Ok, Err}
 use borrow.Author.Tests.{leb-true}
 use Rattle.paper.proofs.Lists.{and_left, and_right, each}
 use Rattle.paper.specs.Lists.{first_fail}
@@ -12,19 +14,21 @@ use Rattle.paper.specs.Tables.{Tables}
 use Rattle.paper.specs.Chains.{permitted, determined}
 use Rattle.paper.specs.Checks.{Verdict, accepted, refused, check, table_lines, start_allowed, sized, by_lines}
 use Rattle.paper.specs.Calls.{Session, BuildLent, build_fits, start_values, build_verdict}
-use Rattle.paper.proofs.Verdicts.{and_then, refused-not, require-stops, require-next, check-stops, check-passes, Past, lines_then}
+use Rattle.paper.proofs.Verdicts.{and_then, refused-not, require-stops, require-next, check-passes, lines_then}
 use Rattle.paper.proofs.Sizes.{Sized, sized-facts}
 use Rattle.paper.proofs.Least.{first_fail-before}
 use Rattle.chains.specs.Links.{Shared, Grouped}
-use Rattle.tables.specs.Answers.{answer_of}
-use Rattle.tables.specs.declared.Answer.{Answer}
-use Rattle.tables.specs.declared.Answer.TheVariants.{Refused}
+use Rattle.integers.specs.Below.{if_below}
+use Rattle.integers.proofs.Below.{none-below}
+use Rattle.tables.specs.Answers.{answer_of, unless_at}
+use Rattle.tables.specs.declared.Refusal.{Refusal}
+use Rattle.tables.proofs.Answered.{refused-is, none_fails-is, none_fails-stops, none_fails-passes}
 use Rattle.verdicts.proofs.Lengths.{index-long, bounds-long}
 use Rattle.build.specs.BuildJudged.{BuildJudged}
 
--- past check 6 closed chains are permitted
-pub grouped-past : (t : Tables) {numbers : List ℕ} (u : ℕ) → Past (permitted t) t.n u → Shared t numbers → Grouped t numbers
-grouped-past t u past s = record { permitted = λ v h. let (e, high) = past in first_fail-before (permitted t) t.n v (omega arith); shared = s }
+-- where no variable fails check 6 closed chains are permitted
+pub grouped-past : (t : Tables) {numbers : List ℕ} → None ≡ if_below t.n (first_fail (permitted t) t.n) → Shared t numbers → Grouped t numbers
+grouped-past t past s = record { permitted = λ v h. let high = none-below t.n (first_fail (permitted t) t.n) past in first_fail-before (permitted t) t.n v (omega arith); shared = s }
 
 module _ (l : BuildLent) where
   abbrev t : Tables
@@ -34,8 +38,11 @@ module _ (l : BuildLent) where
   abbrev at_seven : ℕ → Bool
   at_seven = start_allowed t l.bounds (start_values l)
 
+  abbrev from_twenty : Verdict
+  from_twenty = check 20 t.n (determined t (start_values l)) accepted
+
   abbrev from_seven : Verdict
-  from_seven = check 7 t.n at_seven (check 20 t.n (determined t (start_values l)) accepted)
+  from_seven = check 7 t.n at_seven from_twenty
 
   abbrev from_six : Verdict
   from_six = check 6 t.n (permitted t) from_seven
@@ -45,8 +52,8 @@ module _ (l : BuildLent) where
   unfolding build_verdict
   any-session s = refl
 
-  pub judged-refused : (state : List ℕ) (r : Answer) (number place : ℕ) → r ≡ Refused number place → build_verdict l ≡ refused number place → BuildJudged l state r
-  judged-refused state r number place e h = record { verdict = e ∙ ap (answer_of 0) (sym h); shared = λ a. refused-not (sym h ∙ a) }
+  pub judged-refused : (state : List ℕ) {z : Result Unit Refusal} (f : Refusal) → z ≡ Err f → build_verdict l ≡ refused f.number f.place → BuildJudged l state z
+  judged-refused state f e h = record { verdict = e ∙ ap (answer_of tt) (sym h); shared = λ a. refused-not (sym h ∙ a) }
 
   -- the buffers, as check 1 leaves them
   pub record Fitting : Type 0 where
@@ -94,22 +101,25 @@ module _ (l : BuildLent) where
       unfolding build_verdict
       late = require-next 1 0 (build_fits l) _ fits ∙ lines_then (table_lines t l.bounds) from_six ∙ ap (λ v. and_then v from_six) passed
 
-      pub stops-6 : (v : ℕ) → v ≡ first_fail (permitted t) t.n → v < t.n → build_verdict l ≡ refused 6 v
-      stops-6 v e h = late ∙ check-stops 6 t.n (permitted t) from_seven v e h
+      module _ (six : Option ℕ) (six-is : six ≡ if_below t.n (first_fail (permitted t) t.n)) where
+        pub stops-6 : (f : Refusal) → unless_at 6 six ≡ Err f → build_verdict l ≡ refused f.number f.place
+        stops-6 f e = late ∙ refused-is {A = ℕ} 0 f from_six (sym (none_fails-stops 6 t.n (permitted t) six six-is from_seven 0 f e))
 
-      module _ (u : ℕ) (six : Past (permitted t) t.n u) where
-        past-six : build_verdict l ≡ from_seven
-        past-six = late ∙ check-passes 6 t.n (permitted t) from_seven u six
+        module _ (u : Unit) (ok : unless_at 6 six ≡ Ok u) where
+          past-six : build_verdict l ≡ from_seven
+          past-six = late ∙ none_fails-passes 6 t.n (permitted t) six six-is from_seven u ok
 
-        pub stops-7 : (v : ℕ) → v ≡ first_fail (start_allowed t l.bounds (start_values l)) t.n → v < t.n → build_verdict l ≡ refused 7 v
-        stops-7 v e h = past-six ∙ check-stops 7 t.n at_seven _ v e h
+          module _ (seven : Option ℕ) (seven-is : seven ≡ if_below t.n (first_fail at_seven t.n)) where
+            pub stops-7 : (f : Refusal) → unless_at 7 seven ≡ Err f → build_verdict l ≡ refused f.number f.place
+            stops-7 f e = past-six ∙ refused-is {A = ℕ} 0 f from_seven (sym (none_fails-stops 7 t.n at_seven seven seven-is from_twenty 0 f e))
 
-        module _ (w : ℕ) (seven : Past (start_allowed t l.bounds (start_values l)) t.n w) where
-          past-seven : build_verdict l ≡ check 20 t.n (determined t (start_values l)) accepted
-          past-seven = past-six ∙ check-passes 7 t.n at_seven _ w seven
+            module _ (v : Unit) (ok' : unless_at 7 seven ≡ Ok v) where
+              past-seven : build_verdict l ≡ from_twenty
+              past-seven = past-six ∙ none_fails-passes 7 t.n at_seven seven seven-is from_twenty v ok'
 
-          pub stops-20 : (v : ℕ) → v ≡ first_fail (determined t (start_values l)) t.n → v < t.n → build_verdict l ≡ refused 20 v
-          stops-20 v e h = past-seven ∙ check-stops 20 t.n (determined t (start_values l)) accepted v e h
+              -- 20 decides
+              pub ends-20 : (stuck : Option ℕ) → stuck ≡ if_below t.n (first_fail (determined t (start_values l)) t.n) → unless_at 20 stuck ≡ answer_of tt (build_verdict l)
+              ends-20 stuck e = ap (unless_at 20) e ∙ none_fails-is 20 t.n (determined t (start_values l)) ∙ ap (answer_of tt) (sym past-seven)
 
-          pub passes : (v : ℕ) → Past (determined t (start_values l)) t.n v → build_verdict l ≡ accepted
-          passes v p = past-seven ∙ check-passes 20 t.n (determined t (start_values l)) accepted v p
+              pub passes : t.n ≡ first_fail (determined t (start_values l)) t.n → build_verdict l ≡ accepted
+              passes e = past-seven ∙ check-passes 20 t.n (determined t (start_values l)) accepted t.n (e, le_refl t.n)

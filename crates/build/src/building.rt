@@ -1,8 +1,9 @@
 // Build: judged first, and written only once it is accepted; and for callers that hold no record.
-ghost use Rattle.std.specs.Prelude.{◌≡◌, replicate};
-ghost use Rattle.paper.specs.Checks.{lowest, highest};
+ghost use Rattle.std.specs.Prelude.{◌≡◌, ◌≤◌, replicate};
+ghost use Rattle.paper.specs.Checks.{bounds_in, lowest, highest};
 ghost use Rattle.paper.specs.Calls.{build};
-ghost use Rattle.verdicts.specs.Lent.{no_record, to_build};
+ghost use Rattle.tables.specs.Lent.{lent_bounds};
+ghost use Rattle.verdicts.specs.Lent.{no_record, lent_to_build};
 ghost use Rattle.records.specs.Left.{record_in, left_by_build};
 ghost use Rattle.build.specs.BuildJudged.{Scratch};
 
@@ -11,23 +12,14 @@ use crate::writes::fill_model;
 use checks::bounds::{HIGHEST, LOWEST};
 use formulas::blanks::blanks_among;
 use records::{Done, Session};
-use tables::Answer;
+use tables::lent::{Bounds, Index, Tables};
 
 // Build, with the session record taken and given back by value, over two rows for the makers and the numbers.
+// Stays: rows that are written are parameters of their own, here and below: a struct of them would need a clause for each, that it is still the caller's.
 fn build_over(
     session: Session,
-    n: usize,
-    m: usize,
-    e: usize,
-    kinds: &[u16],
-    makes: &[u16],
-    params: &[i32],
-    firsts: &[u16],
-    counts: &[u16],
-    vars: &[u16],
-    coefs: &[i16],
-    lows: &[i32],
-    highs: &[i32],
+    tables: &Tables,
+    bounds: &Bounds,
     starts: &[i32],
     numbers: &mut [u16],
     order: &mut [u16],
@@ -39,50 +31,27 @@ fn build_over(
     by: &mut [u16],
     state: &mut [u16],
 ) -> Done
-    requires { Scratch n by.old state.old }
-    ensures { left_by_build result numbers.new order.new stored.new reader_starts.new reader_places.new reasons.new log_sizes.new ≡ build (to_build (record_in session) n m e kinds.now makes.now params.now firsts.now counts.now vars.now coefs.now lows.now highs.now starts.now numbers.old order.old stored.old reader_starts.old reader_places.old reasons.old log_sizes.old) }
+    requires { Scratch tables.now.n by.old state.old }
+    ensures { left_by_build result numbers.new order.new stored.new reader_starts.new reader_places.new reasons.new log_sizes.new ≡ build (lent_to_build (record_in session) tables.now (lent_bounds bounds.now) starts.now numbers.old order.old stored.old reader_starts.old reader_places.old reasons.old log_sizes.old) }
 {
-    let judged = judge_build(
-        n,
-        m,
-        e,
-        kinds,
-        makes,
-        params,
-        firsts,
-        counts,
-        vars,
-        coefs,
-        lows,
-        highs,
-        starts,
-        numbers,
-        order,
-        stored,
-        reader_starts,
-        reader_places,
-        reasons,
-        log_sizes,
-        by,
-        state,
-    );
-    let Answer::Accepted { .. } = judged else {
-        return Done {
-            answer: judged,
-            session: session,
+    let judged = {
+        let index = Index {
+            starts: reader_starts,
+            places: reader_places,
         };
+        judge_build(
+            tables, bounds, starts, numbers, order, stored, &index, reasons, log_sizes, by, state,
+        )
     };
+    // Stays: no `?`: the record goes with the refusal, and an inner function for it would take every row again.
+    if let Err(refusal) = judged {
+        return Done {
+            answer: Err(refusal),
+            session,
+        };
+    }
     fill_model(
-        n,
-        m,
-        e,
-        kinds,
-        makes,
-        params,
-        firsts,
-        counts,
-        vars,
-        coefs,
+        tables,
         starts,
         state,
         numbers,
@@ -93,10 +62,10 @@ fn build_over(
         reasons,
         log_sizes,
     );
-    let evaluations = m as u32;
-    let blanks = blanks_among(n, stored);
+    let evaluations = tables.m as u32;
+    let blanks = blanks_among(tables.n, stored);
     Done {
-        answer: Answer::Accepted { evaluations },
+        answer: Ok(evaluations),
         session: Session {
             kept: 0,
             evaluations,
@@ -105,21 +74,11 @@ fn build_over(
     }
 }
 
-// Build, with the session record taken and given back by value. A small model has short rows, since clearing long ones would take longer than the rest.
-pub fn build_core(
+// Build over rows for the makers and the numbers with N places each.
+fn build_sized<const N: usize>(
     session: Session,
-    n: usize,
-    m: usize,
-    e: usize,
-    kinds: &[u16],
-    makes: &[u16],
-    params: &[i32],
-    firsts: &[u16],
-    counts: &[u16],
-    vars: &[u16],
-    coefs: &[i16],
-    lows: &[i32],
-    highs: &[i32],
+    tables: &Tables,
+    bounds: &Bounds,
     starts: &[i32],
     numbers: &mut [u16],
     order: &mut [u16],
@@ -129,53 +88,16 @@ pub fn build_core(
     reasons: &mut [u8],
     log_sizes: &mut [u16],
 ) -> Done
-    ensures { left_by_build result numbers.new order.new stored.new reader_starts.new reader_places.new reasons.new log_sizes.new ≡ build (to_build (record_in session) n m e kinds.now makes.now params.now firsts.now counts.now vars.now coefs.now lows.now highs.now starts.now numbers.old order.old stored.old reader_starts.old reader_places.old reasons.old log_sizes.old) }
+    requires room { (N ≤ 4096) × (tables.now.n ≤ 4096 → tables.now.n ≤ N) }
+    ensures { left_by_build result numbers.new order.new stored.new reader_starts.new reader_places.new reasons.new log_sizes.new ≡ build (lent_to_build (record_in session) tables.now (lent_bounds bounds.now) starts.now numbers.old order.old stored.old reader_starts.old reader_places.old reasons.old log_sizes.old) }
 {
-    if n <= 256 {
-        let mut by = [0u16; 256];
-        let mut state = [0u16; 256];
-        return build_over(
-            session,
-            n,
-            m,
-            e,
-            kinds,
-            makes,
-            params,
-            firsts,
-            counts,
-            vars,
-            coefs,
-            lows,
-            highs,
-            starts,
-            numbers,
-            order,
-            stored,
-            reader_starts,
-            reader_places,
-            reasons,
-            log_sizes,
-            &mut by,
-            &mut state,
-        );
-    }
-    let mut by = [0u16; 4096];
-    let mut state = [0u16; 4096];
+    // Stays: rows of a fixed length, since no call allocates.
+    let mut by = [0u16; N];
+    let mut state = [0u16; N];
     build_over(
         session,
-        n,
-        m,
-        e,
-        kinds,
-        makes,
-        params,
-        firsts,
-        counts,
-        vars,
-        coefs,
-        lows,
-        highs,
+        tables,
+        bounds,
         starts,
         numbers,
         order,
@@ -189,18 +111,56 @@ pub fn build_core(
     )
 }
 
+// Build, with the session record taken and given back by value. A small model has short rows, since clearing long ones would take longer than the rest.
+pub fn build_core(
+    session: Session,
+    tables: &Tables,
+    bounds: &Bounds,
+    starts: &[i32],
+    numbers: &mut [u16],
+    order: &mut [u16],
+    stored: &mut [i32],
+    reader_starts: &mut [u16],
+    reader_places: &mut [u16],
+    reasons: &mut [u8],
+    log_sizes: &mut [u16],
+) -> Done
+    ensures { left_by_build result numbers.new order.new stored.new reader_starts.new reader_places.new reasons.new log_sizes.new ≡ build (lent_to_build (record_in session) tables.now (lent_bounds bounds.now) starts.now numbers.old order.old stored.old reader_starts.old reader_places.old reasons.old log_sizes.old) }
+{
+    if tables.n <= 256 {
+        build_sized::<256>(
+            session,
+            tables,
+            bounds,
+            starts,
+            numbers,
+            order,
+            stored,
+            reader_starts,
+            reader_places,
+            reasons,
+            log_sizes,
+        )
+    } else {
+        build_sized::<4096>(
+            session,
+            tables,
+            bounds,
+            starts,
+            numbers,
+            order,
+            stored,
+            reader_starts,
+            reader_places,
+            reasons,
+            log_sizes,
+        )
+    }
+}
+
 // Build over a record, full bounds and a log of its own, for callers that keep no move.
 pub fn build_new(
-    n: usize,
-    m: usize,
-    e: usize,
-    kinds: &[u16],
-    makes: &[u16],
-    params: &[i32],
-    firsts: &[u16],
-    counts: &[u16],
-    vars: &[u16],
-    coefs: &[i16],
+    tables: &Tables,
     starts: &[i32],
     numbers: &mut [u16],
     order: &mut [u16],
@@ -209,8 +169,9 @@ pub fn build_new(
     reader_places: &mut [u16],
     reasons: &mut [u8],
 ) -> Done
-    ensures { left_by_build result numbers.new order.new stored.new reader_starts.new reader_places.new reasons.new (replicate 65 0) ≡ build (to_build no_record n m e kinds.now makes.now params.now firsts.now counts.now vars.now coefs.now (replicate 4096 lowest) (replicate 4096 highest) starts.now numbers.old order.old stored.old reader_starts.old reader_places.old reasons.old (replicate 65 0)) }
+    ensures { left_by_build result numbers.new order.new stored.new reader_starts.new reader_places.new reasons.new (replicate 65 0) ≡ build (lent_to_build no_record tables.now (bounds_in (replicate 4096 lowest) (replicate 4096 highest)) starts.now numbers.old order.old stored.old reader_starts.old reader_places.old reasons.old (replicate 65 0)) }
 {
+    // Stays: rows of a fixed length, since no call allocates.
     let lows = [LOWEST; 4096];
     let highs = [HIGHEST; 4096];
     let mut log_sizes = [0u16; 65];
@@ -220,18 +181,11 @@ pub fn build_new(
             evaluations: 0,
             blanks: 0,
         },
-        n,
-        m,
-        e,
-        kinds,
-        makes,
-        params,
-        firsts,
-        counts,
-        vars,
-        coefs,
-        &lows,
-        &highs,
+        tables,
+        &Bounds {
+            lows: &lows,
+            highs: &highs,
+        },
         starts,
         numbers,
         order,

@@ -1,30 +1,24 @@
 // What an accepted build writes.
-ghost use Rattle.std.specs.Prelude.{[], ◌≡◌};
-ghost use Rattle.paper.specs.Tables.{index_in};
-ghost use Rattle.paper.specs.Checks.{accepted};
-ghost use Rattle.paper.specs.Calls.{BuildLent, build_leaves};
-ghost use Rattle.verdicts.specs.Lent.{no_record, to_build};
-ghost use Rattle.build.specs.Buildable.{Buildable};
+ghost use Rattle.std.specs.Prelude.{◌++◌, ◌≡◌, drop, set};
+ghost use Rattle.paper.specs.Lists.{over};
+ghost use Rattle.paper.specs.Tables.{index_in, index, values_in};
+ghost use Rattle.paper.specs.Chains.{group_number, group_order, worth};
+ghost use Rattle.paper.specs.Reason.{reason_of};
+ghost use Rattle.tables.specs.Lent.{lent_tables};
+ghost use Rattle.build.specs.Buildable.{Buildable, to_fill};
 
 use chains::numbering::copy_numbers;
 use chains::ranks::write_shared_order;
 use choices::worths::work_all;
 use index::readers::write_readers;
 use rows::copies::copy_values;
+use tables::lent::Tables;
 use whys::notes::first_reasons;
 
 // Writes the numbers, the order, the index of readers, every value and its reason, and empties the log.
+// Stays: rows that are written are parameters of their own, here and below: a struct of them would need a clause for each, that it is still the caller's.
 pub fn fill_model(
-    n: usize,
-    m: usize,
-    e: usize,
-    kinds: &[u16],
-    makes: &[u16],
-    params: &[i32],
-    firsts: &[u16],
-    counts: &[u16],
-    vars: &[u16],
-    coefs: &[i16],
+    tables: &Tables,
     starts: &[i32],
     state: &[u16],
     numbers: &mut [u16],
@@ -35,25 +29,19 @@ pub fn fill_model(
     reasons: &mut [u8],
     log_sizes: &mut [u16],
 )
-    ghost w: { BuildLent }
-    requires lent { to_build no_record n m e kinds.now makes.now params.now firsts.now counts.now vars.now coefs.now [] [] starts.now numbers.old order.old stored.old reader_starts.old reader_places.old reasons.old log_sizes.old ≡ w }
-    requires buildable { Buildable w state.now }
-    ensures numbers_after { numbers.new ≡ (build_leaves w accepted).numbers }
-    ensures order_after { order.new ≡ (build_leaves w accepted).order }
-    ensures stored_after { stored.new ≡ (build_leaves w accepted).stored }
-    ensures reader_places_after { index_in reader_starts.new reader_places.new ≡ (build_leaves w accepted).index }
-    ensures reasons_after { reasons.new ≡ (build_leaves w accepted).reasons }
-    ensures log_sizes_after { log_sizes.new ≡ (build_leaves w accepted).log_sizes }
+    requires buildable { Buildable (to_fill tables.now starts.now numbers.old order.old stored.old reader_starts.old reader_places.old reasons.old log_sizes.old) state.now }
+    ensures numbers_after { numbers.new ≡ over tables.now.n (group_number (lent_tables tables.now)) numbers.old }
+    ensures order_after { order.new ≡ group_order (lent_tables tables.now) ++ drop tables.now.m order.old }
+    ensures stored_after { stored.new ≡ over tables.now.n (worth (lent_tables tables.now) (values_in (lent_tables tables.now) starts.now)) stored.old }
+    ensures reader_places_after { index_in reader_starts.new reader_places.new ≡ index (lent_tables tables.now) (index_in reader_starts.old reader_places.old) }
+    ensures reasons_after { reasons.new ≡ over tables.now.n (λ u. reason_of (lent_tables tables.now) u (worth (lent_tables tables.now) (values_in (lent_tables tables.now) starts.now))) reasons.old }
+    ensures log_sizes_after { log_sizes.new ≡ set log_sizes.old 0 0 }
 {
-    copy_numbers(n, state, numbers);
-    write_shared_order(n, m, kinds, makes, firsts, counts, vars, state, order);
-    write_readers(n, m, e, firsts, counts, vars, reader_starts, reader_places);
-    copy_values(n, starts, stored);
-    work_all(
-        n, m, e, kinds, makes, params, firsts, counts, vars, coefs, state, order, stored,
-    );
-    first_reasons(
-        n, m, e, kinds, makes, params, firsts, counts, vars, coefs, stored, reasons,
-    );
+    copy_numbers(tables.n, state, numbers);
+    write_shared_order(tables, state, order);
+    write_readers(tables, reader_starts, reader_places);
+    copy_values(tables.n, starts, stored);
+    work_all(tables, state, order, stored);
+    first_reasons(tables, stored, reasons);
     log_sizes[0] = 0;
 }

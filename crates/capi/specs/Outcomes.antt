@@ -1,17 +1,14 @@
 -- What a call leaves to a caller across the C boundary: what the paper's call leaves, with the answer in numbers. Assumes nothing.
-use Rattle.std.specs.Prelude.{ℕ, ◌<◌, List, ℤ}
+use Rattle.std.specs.Prelude.{ℕ, ◌<◌, List, ℤ, Result, Ok, Err}
 use Rattle.paper.specs.Tables.{Index, index_in}
 use Rattle.paper.specs.Checks.{Verdict}
 use Rattle.paper.specs.Log.{Log, log_in}
 use Rattle.paper.specs.Calls.{Session, number_of, place_of, answered, BuildLeft, TrialLeft, KeepLeft}
 use Rattle.paper.specs.File.{Contents, counted}
-use Rattle.files.specs.declared.headers.Reading.{Reading}
-use Rattle.files.specs.declared.headers.Reading.TheVariants as reading
-use Rattle.files.specs.declared.conversions.Converted.{Converted}
-use Rattle.files.specs.declared.conversions.Converted.TheVariants as converted
+use Rattle.tables.specs.declared.Refusal.{Refusal}
+use Rattle.fields.specs.declared.places.Size.{Size}
 use Rattle.salvage.specs.Salvage as salvage
-use Rattle.salvage.specs.declared.Salvaged.{Salvaged}
-use Rattle.salvage.specs.declared.Salvaged.TheVariants as salvaged
+use Rattle.salvage.specs.declared.Saved.{Saved}
 use Rattle.records.specs.Left.{record_in}
 use Rattle.records.specs.declared.Session as code-session
 use Rattle.records.specs.declared.answers.Outcome.{Outcome}
@@ -54,28 +51,28 @@ abbrev pub read_out : Verdict × Contents → Outcome × Contents
 read_out left = (in_numbers (answered left.0 0), left.1)
 
 -- five numbers for what `read` answers: no counts if it refused
-abbrev pub read_in_numbers : Reading → ReadOutcome
-read_in_numbers (reading.Accepted n m e) = record { number = 0; place = 0; n = n; m = m; e = e }
-read_in_numbers (reading.Refused number place) = record { number = number; place = place; n = 0; m = 0; e = 0 }
+abbrev pub read_in_numbers : Result Size Refusal → ReadOutcome
+read_in_numbers (Ok size) = record { number = 0; place = 0; n = size.n; m = size.m; e = size.e }
+read_in_numbers (Err r) = record { number = r.number; place = r.place; n = 0; m = 0; e = 0 }
 
 -- a move from one version to the other: number, place and the new file's length, and the buffer
-abbrev pub move_in_numbers : Converted → MoveOutcome
-move_in_numbers (converted.Accepted length) = record { number = 0; place = 0; length = length }
-move_in_numbers (converted.Refused number place) = record { number = number; place = place; length = 0 }
+abbrev pub move_in_numbers : Result ℕ Refusal → MoveOutcome
+move_in_numbers (Ok length) = record { number = 0; place = 0; length = length }
+move_in_numbers (Err r) = record { number = r.number; place = r.place; length = 0 }
 
 abbrev pub moved_out : Verdict × (ℕ × List ℕ) → MoveOutcome × List ℕ
 moved_out left = let a = answered left.0 0 in (record { number = number_of a; place = place_of a; length = left.1.0 }, left.1.1)
 
 -- salvage: five numbers for what it answers, and the two buffers
-abbrev pub salvage_in_numbers : Salvaged → SalvageOutcome
-salvage_in_numbers (salvaged.Accepted length rows values) = record { number = 0; place = 0; length = length; rows = rows; values = values }
-salvage_in_numbers (salvaged.Refused number place) = record { number = number; place = place; length = 0; rows = 0; values = 0 }
+abbrev pub salvage_in_numbers : Result Saved Refusal → SalvageOutcome
+salvage_in_numbers (Ok saved) = record { number = 0; place = 0; length = saved.length; rows = saved.rows; values = saved.values }
+salvage_in_numbers (Err r) = record { number = r.number; place = r.place; length = 0; rows = 0; values = 0 }
 
 abbrev pub salvaged_out : salvage.SalvageLeft → SalvageOutcome × (List ℕ × List ℕ)
 salvaged_out left = (salvage_in_numbers left.answer, (left.file, left.list))
 
 -- the counts of an answer fit 32 bits
-pub record Small (told : Reading) : Type 0 where
+pub record Small (told : Result Size Refusal) : Type 0 where
   pub n-most : (read_in_numbers told).n < 4294967296
   pub m-most : (read_in_numbers told).m < 4294967296
   pub e-most : (read_in_numbers told).e < 4294967296

@@ -1,27 +1,23 @@
 -- What the calls above the engine leave to a caller across the C boundary: what each leaves in Rattle, with the answer in numbers. Assumes nothing.
-use Rattle.std.specs.Prelude.{ℕ, cond, List, eqb, ℤ, pos}
+use Rattle.std.specs.Prelude.{ℕ, cond, List, eqb, ℤ, pos, Result, Ok, Err}
 use Rattle.paper.specs.Formula as formula
 use Rattle.paper.specs.Calls.{Answer}
 use Rattle.records.specs.declared.answers.Outcome.{Outcome}
 use Rattle.records.specs.Outcomes.{in_numbers}
 use Rattle.trials.specs.Trials.{Rows}
 use Rattle.figures.specs.declared.Totals.{Totals}
-use Rattle.figures.specs.declared.Counted.{Counted}
-use Rattle.figures.specs.declared.Counted.TheVariants as counted
+use Rattle.tables.specs.Answers.{refusal}
+use Rattle.tables.specs.declared.Refusal.{Refusal}
 use Rattle.merging.specs.Merge.{merge}
 use Rattle.frequencies.specs.Reading.{Windows, ReadLeft}
 use Rattle.frequencies.specs.Writing.{WriteLeft}
-use Rattle.frequencies.specs.declared.Carried.{Carried}
-use Rattle.frequencies.specs.declared.Carried.TheVariants as carried
 use Rattle.boards.specs.Board as board
-use Rattle.boards.specs.declared.Listed.{Listed}
-use Rattle.boards.specs.declared.Listed.TheVariants as listed
 use Rattle.capi.specs.declared.FiguresOutcome.{FiguresOutcome}
 use Rattle.capi.specs.declared.ListOutcome.{ListOutcome}
 
 -- a batch in figures: nine numbers for what it answers, those of no move if it refused, and the row of tallies
-abbrev pub figures_in_numbers : Counted → FiguresOutcome
-figures_in_numbers (counted.Accepted totals) = record {
+abbrev pub figures_in_numbers : Result Totals Refusal → FiguresOutcome
+figures_in_numbers (Ok totals) = record {
   number = 0;
   place = 0;
   blank = totals.blank;
@@ -32,9 +28,9 @@ figures_in_numbers (counted.Accepted totals) = record {
   second = totals.second;
   third = totals.third;
 }
-figures_in_numbers (counted.Refused number place) = record {
-  number = number;
-  place = place;
+figures_in_numbers (Err r) = record {
+  number = r.number;
+  place = r.place;
   blank = 0;
   least = formula.blank;
   greatest = formula.blank;
@@ -44,7 +40,7 @@ figures_in_numbers (counted.Refused number place) = record {
   third = 0;
 }
 
-abbrev pub figures_out : Counted × List ℕ → FiguresOutcome × List ℕ
+abbrev pub figures_out : Result Totals Refusal × List ℕ → FiguresOutcome × List ℕ
 figures_out left = (figures_in_numbers left.0, left.1)
 
 -- an outcome's figures, and the outcome of a refusal
@@ -60,7 +56,7 @@ totals_in x = record {
 }
 
 abbrev pub refused_figures : ℕ → ℕ → FiguresOutcome
-refused_figures number place = figures_in_numbers (counted.Refused number place)
+refused_figures number place = figures_in_numbers (Err (refusal number place))
 
 -- two batches merged; a refused one has no figures, and the first that is refused is what the call answers
 unfoldable pub merged_out : FiguresOutcome → FiguresOutcome → List ℕ → List ℕ → List ℕ → FiguresOutcome × List ℕ
@@ -70,17 +66,16 @@ merged_out a b xs ys row =
     (refused_figures a.number a.place, row)
 
 -- the departure board: three numbers for what it answers, no length if it refused, and the row
-abbrev pub list_in_numbers : Listed → ListOutcome
-list_in_numbers (listed.Accepted length) = record { number = 0; place = 0; length = length }
-list_in_numbers (listed.Refused number place) = record { number = number; place = place; length = 0 }
+abbrev pub list_in_numbers : Result ℕ Refusal → ListOutcome
+list_in_numbers (Ok length) = record { number = 0; place = 0; length = length }
+list_in_numbers (Err r) = record { number = r.number; place = r.place; length = 0 }
 
 abbrev pub listed_out : board.BoardLeft → ListOutcome × List ℤ
 listed_out left = (list_in_numbers left.answer, left.row)
 
 -- frequencies.txt, read and written: three numbers for what the call answers, no count if it refused, and the rows or the buffer
-abbrev pub carried_in_numbers : Carried → ListOutcome
-carried_in_numbers (carried.Accepted count) = record { number = 0; place = 0; length = count }
-carried_in_numbers (carried.Refused number place) = record { number = number; place = place; length = 0 }
+abbrev pub carried_in_numbers : Result ℕ Refusal → ListOutcome
+carried_in_numbers told = list_in_numbers told
 
 abbrev pub feed_read : ReadLeft → ListOutcome × Windows
 feed_read left = (carried_in_numbers left.answer, left.windows)

@@ -6,37 +6,42 @@ ghost use Rattle.figures.specs.Figures.{batch_of, figures as counted};
 ghost use Rattle.capi.specs.Products.{figures_in_numbers, figures_out};
 
 use crate::FiguresOutcome;
-use figures::{Counted, figures};
+use figures::{Totals, figures};
 use formulas::blanks::BLANK;
 use records::Session;
+use tables::Refusal;
+use tables::lent::{Bounds, Index, Model, Tables};
+use trials::Batch;
 
 // What `figures` answers, as nine numbers.
-pub(crate) fn figures_numbers(told: Counted) -> FiguresOutcome
-    ensures { result ≡ figures_in_numbers told }
-{
-    match told {
-        Counted::Accepted { totals } => FiguresOutcome {
-            number: 0,
-            place: 0,
-            blank: totals.blank,
-            least: totals.least,
-            greatest: totals.greatest,
-            sum: totals.sum,
-            first: totals.first,
-            second: totals.second,
-            third: totals.third,
-        },
-        Counted::Refused { number, place } => FiguresOutcome {
-            number: number,
-            place: place,
-            blank: 0,
-            least: BLANK,
-            greatest: BLANK,
-            sum: 0,
-            first: 0,
-            second: 0,
-            third: 0,
-        },
+impl From<Result<Totals, Refusal>> for FiguresOutcome {
+    ghost from_gives = { λ told r. r ≡ figures_in_numbers told };
+
+    fn from(told: Result<Totals, Refusal>) -> FiguresOutcome {
+        match told {
+            Ok(totals) => FiguresOutcome {
+                number: 0,
+                place: 0,
+                blank: totals.blank,
+                least: totals.least,
+                greatest: totals.greatest,
+                sum: totals.sum,
+                first: totals.first,
+                second: totals.second,
+                third: totals.third,
+            },
+            Err(refusal) => FiguresOutcome {
+                number: refusal.number,
+                place: refusal.place,
+                blank: 0,
+                least: BLANK,
+                greatest: BLANK,
+                sum: 0,
+                first: 0,
+                second: 0,
+                third: 0,
+            },
+        }
     }
 }
 
@@ -69,8 +74,7 @@ pub fn lukhandro_figures(
 ) -> FiguresOutcome
     ensures { (result, by_number.new) ≡ figures_out (counted (record_in session.now) (to_model n m e kinds.now makes.now params.now firsts.now counts.now vars.now coefs.now lows.now highs.now numbers.now order.now stored.now reader_starts.now reader_places.now (replicate 4096 0)) asked (batch_of moves move_pairs.now move_vars.now move_values.now) by_number.old) }
 {
-    let told = figures(
-        *session,
+    let tables = Tables {
         n,
         m,
         e,
@@ -81,19 +85,26 @@ pub fn lukhandro_figures(
         counts,
         vars,
         coefs,
-        lows,
-        highs,
+    };
+    let bounds = Bounds { lows, highs };
+    let index = Index {
+        starts: reader_starts,
+        places: reader_places,
+    };
+    let model = Model {
+        tables,
+        bounds,
         numbers,
         order,
         stored,
-        reader_starts,
-        reader_places,
+        index,
+        reasons: &[],
+    };
+    let batch = Batch {
         moves,
-        move_pairs,
-        move_vars,
-        move_values,
-        asked,
-        by_number,
-    );
-    figures_numbers(told)
+        pairs: move_pairs,
+        vars: move_vars,
+        values: move_values,
+    };
+    FiguresOutcome::from(figures(*session, &model, &batch, asked, by_number))
 }

@@ -8,6 +8,7 @@ use crate::ReadOutcome;
 use crate::file::{read_numbers, written_numbers};
 use files::{read_bounded, write_bounded};
 use records::answers::Outcome;
+use tables::lent::{Bounds, Tables};
 
 // `files::write_bounded` for C.
 pub fn lukhandro_write_bounded(
@@ -31,10 +32,20 @@ pub fn lukhandro_write_bounded(
         (lent n m e kinds.now makes.now params.now firsts.now counts.now vars.now coefs.now)
         starts.now lows.now highs.now) bytes.old) }
 {
-    let told = write_bounded(
-        n, m, e, starts, kinds, makes, params, firsts, counts, vars, coefs, lows, highs, bytes,
-    );
-    written_numbers(told)
+    let tables = Tables {
+        n,
+        m,
+        e,
+        kinds,
+        makes,
+        params,
+        firsts,
+        counts,
+        vars,
+        coefs,
+    };
+    let bounds = Bounds { lows, highs };
+    written_numbers(write_bounded(&tables, starts, &bounds, bytes))
 }
 
 // `files::read_bounded` for C.

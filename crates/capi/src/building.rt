@@ -6,7 +6,8 @@ ghost use Rattle.paper.specs.Calls.{build as built};
 ghost use Rattle.capi.specs.Outcomes.{had_by_build, built_out};
 
 use records::Session;
-use records::answers::{Outcome, in_numbers};
+use records::answers::Outcome;
+use tables::lent::{Bounds, Tables};
 
 // `engine::build` for C. The reason of every variable is given.
 pub fn lukhandro_build(
@@ -34,8 +35,7 @@ pub fn lukhandro_build(
 ) -> Outcome
     ensures { had_by_build result session.new numbers.new order.new stored.new reader_starts.new reader_places.new reasons.new log_sizes.new ≡ built_out (built (to_build (record_in session.old) n m e kinds.now makes.now params.now firsts.now counts.now vars.now coefs.now lows.now highs.now starts.now numbers.old order.old stored.old reader_starts.old reader_places.old reasons.old log_sizes.old)) }
 {
-    let answer = engine::build(
-        session,
+    let tables = Tables {
         n,
         m,
         e,
@@ -46,8 +46,12 @@ pub fn lukhandro_build(
         counts,
         vars,
         coefs,
-        lows,
-        highs,
+    };
+    let bounds = Bounds { lows, highs };
+    let answer = engine::build(
+        session,
+        &tables,
+        &bounds,
         starts,
         numbers,
         order,
@@ -57,5 +61,5 @@ pub fn lukhandro_build(
         reasons,
         log_sizes,
     );
-    in_numbers(answer)
+    Outcome::from(answer)
 }

@@ -2,28 +2,11 @@
 ghost use Rattle.std.specs.Prelude.{◌≡◌};
 ghost use Rattle.times.specs.Windows.{lends};
 ghost use Rattle.boards.specs.Board.{board};
-ghost use Rattle.capi.specs.Products.{list_in_numbers, listed_out};
+ghost use Rattle.capi.specs.Products.{listed_out};
 
 use crate::ListOutcome;
-use boards::{Listed, list_departures};
-
-// What `list_departures` answers, as three numbers.
-fn list_numbers(told: Listed) -> ListOutcome
-    ensures { result ≡ list_in_numbers told }
-{
-    match told {
-        Listed::Accepted { length } => ListOutcome {
-            number: 0,
-            place: 0,
-            length: length,
-        },
-        Listed::Refused { number, place } => ListOutcome {
-            number: number,
-            place: place,
-            length: 0,
-        },
-    }
-}
+use boards::list_departures;
+use times::Windows;
 
 // `boards::list_departures` for C.
 pub fn lukhandro_departures(
@@ -35,6 +18,11 @@ pub fn lukhandro_departures(
 ) -> ListOutcome
     ensures { (result, list.new) ≡ listed_out (board (lends windows starts.now ends.now headways.now list.old)) }
 {
-    let told = list_departures(windows, starts, ends, headways, list);
-    list_numbers(told)
+    let windows = Windows {
+        count: windows,
+        starts,
+        ends,
+        headways,
+    };
+    ListOutcome::from(list_departures(&windows, list))
 }

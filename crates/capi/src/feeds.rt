@@ -2,28 +2,10 @@
 ghost use Rattle.std.specs.Prelude.{◌≡◌, []};
 ghost use Rattle.frequencies.specs.Reading.{windows_in, read_frequencies};
 ghost use Rattle.frequencies.specs.Writing.{write_frequencies};
-ghost use Rattle.capi.specs.Products.{carried_in_numbers, feed_read, feed_written};
+ghost use Rattle.capi.specs.Products.{feed_read, feed_written};
 
 use crate::ListOutcome;
-use frequencies::{Carried, read_frequencies, write_frequencies};
-
-// What both calls answer, as three numbers.
-fn carried_numbers(told: Carried) -> ListOutcome
-    ensures { result ≡ carried_in_numbers told }
-{
-    match told {
-        Carried::Accepted { count } => ListOutcome {
-            number: 0,
-            place: 0,
-            length: count,
-        },
-        Carried::Refused { number, place } => ListOutcome {
-            number: number,
-            place: place,
-            length: 0,
-        },
-    }
-}
+use frequencies::{Windows, read_frequencies, write_frequencies};
 
 // `frequencies::read_frequencies` for C.
 pub fn lukhandro_frequencies(
@@ -39,7 +21,7 @@ pub fn lukhandro_frequencies(
 ) -> ListOutcome
     ensures { (result, windows_in name_places.new name_lengths.new name_doubled.new starts.new ends.new headways.new exacts.new lines.new) ≡ feed_read (read_frequencies bytes.now (windows_in name_places.old name_lengths.old name_doubled.old starts.old ends.old headways.old exacts.old lines.old)) }
 {
-    let told = read_frequencies(
+    ListOutcome::from(read_frequencies(
         bytes,
         name_places,
         name_lengths,
@@ -49,8 +31,7 @@ pub fn lukhandro_frequencies(
         headways,
         exacts,
         lines,
-    );
-    carried_numbers(told)
+    ))
 }
 
 // `frequencies::write_frequencies` for C.
@@ -68,9 +49,8 @@ pub fn lukhandro_write_frequencies(
 ) -> ListOutcome
     ensures { (result, bytes.new) ≡ feed_written (write_frequencies windows text.now (windows_in name_places.now name_lengths.now name_doubled.now starts.now ends.now headways.now exacts.now []) bytes.old) }
 {
-    let told = write_frequencies(
-        windows,
-        text,
+    let windows = Windows {
+        count: windows,
         name_places,
         name_lengths,
         name_doubled,
@@ -78,7 +58,6 @@ pub fn lukhandro_write_frequencies(
         ends,
         headways,
         exacts,
-        bytes,
-    );
-    carried_numbers(told)
+    };
+    ListOutcome::from(write_frequencies(text, &windows, bytes))
 }

@@ -8,44 +8,39 @@ ghost use Rattle.capi.specs.Outcomes.{read_in_numbers, Small, left_by_read, writ
 ghost use Rattle.paper.specs.Calls.{answered};
 
 use crate::ReadOutcome;
-use files::headers::Reading;
-use files::{Written, read, write};
+use fields::places::Size;
+use files::{read, write};
 use records::answers::Outcome;
+use tables::Refusal;
+use tables::lent::Tables;
 
 // What `write` and `write_bounded` answer, as three numbers.
-pub(crate) fn written_numbers(told: Written) -> Outcome
+pub(crate) fn written_numbers(told: Result<(), Refusal>) -> Outcome
     ensures { result ≡ in_numbers (answered (verdict told) 0) }
 {
     match told {
-        Written::Accepted => Outcome {
-            number: 0,
-            place: 0,
-            evaluations: 0,
-        },
-        Written::Refused { number, place } => Outcome {
-            number: number,
-            place: place,
-            evaluations: 0,
-        },
+        Ok(()) => Outcome::from(Ok(0)),
+        Err(refusal) => Outcome::from(Err(refusal)),
     }
 }
 
 // What `read` and `read_bounded` answer, as five numbers.
-pub(crate) fn read_numbers(told: Reading) -> ReadOutcome
+// Stays: a function and not `From`, since it asks of its caller that the counts are small.
+pub(crate) fn read_numbers(told: Result<Size, Refusal>) -> ReadOutcome
     requires { Small told }
     ensures { result ≡ read_in_numbers told }
 {
     match told {
-        Reading::Accepted { n, m, e } => ReadOutcome {
+        Ok(size) => ReadOutcome {
             number: 0,
             place: 0,
-            n: n as u32,
-            m: m as u32,
-            e: e as u32,
+            n: size.n as u32,
+            m: size.m as u32,
+            e: size.e as u32,
         },
-        Reading::Refused { number, place } => ReadOutcome {
-            number: number,
-            place: place,
+        Err(refusal) => ReadOutcome {
+            number: refusal.number,
+            place: refusal.place,
             n: 0,
             m: 0,
             e: 0,
@@ -73,10 +68,19 @@ pub fn lukhandro_write(
         (lent n m e kinds.now makes.now params.now firsts.now counts.now vars.now coefs.now)
         starts.now) bytes.old) }
 {
-    let told = write(
-        n, m, e, starts, kinds, makes, params, firsts, counts, vars, coefs, bytes,
-    );
-    written_numbers(told)
+    let tables = Tables {
+        n,
+        m,
+        e,
+        kinds,
+        makes,
+        params,
+        firsts,
+        counts,
+        vars,
+        coefs,
+    };
+    written_numbers(write(&tables, starts, bytes))
 }
 
 // `files::read` for C.
@@ -98,8 +102,7 @@ pub fn lukhandro_read(
         (lent 0 0 0 kinds.old makes.old params.old firsts.old counts.old vars.old coefs.old)
         starts.old)) }
 {
-    let told = read(
+    read_numbers(read(
         bytes, starts, kinds, makes, params, firsts, counts, vars, coefs,
-    );
-    read_numbers(told)
+    ))
 }

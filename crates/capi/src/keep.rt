@@ -7,7 +7,8 @@ ghost use Rattle.paper.specs.Calls.{keep as kept};
 ghost use Rattle.capi.specs.Outcomes.{had_by_keep, kept_out};
 
 use records::Session;
-use records::answers::{Outcome, in_numbers};
+use records::answers::Outcome;
+use tables::lent::{Bounds, Index, Move, Tables};
 
 // `engine::keep` for C. The reason of every variable evaluated is given.
 pub fn lukhandro_keep(
@@ -40,8 +41,7 @@ pub fn lukhandro_keep(
 ) -> Outcome
     ensures { had_by_keep result session.new stored.new reasons.new flags.new log_sizes.new log_vars.new log_values.new ≡ kept_out (kept (record_in session.old) (log_in log_sizes.old log_vars.old log_values.old) (to_model n m e kinds.now makes.now params.now firsts.now counts.now vars.now coefs.now lows.now highs.now numbers.now order.now stored.old reader_starts.now reader_places.now reasons.old) (to_keep pairs move_vars.now move_values.now flags.old)) }
 {
-    let answer = engine::keep(
-        session,
+    let tables = Tables {
         n,
         m,
         e,
@@ -52,21 +52,20 @@ pub fn lukhandro_keep(
         counts,
         vars,
         coefs,
-        lows,
-        highs,
-        numbers,
-        order,
-        stored,
-        reader_starts,
-        reader_places,
-        reasons,
+    };
+    let bounds = Bounds { lows, highs };
+    let index = Index {
+        starts: reader_starts,
+        places: reader_places,
+    };
+    let mv = Move {
         pairs,
-        move_vars,
-        move_values,
-        flags,
-        log_sizes,
-        log_vars,
-        log_values,
+        vars: move_vars,
+        values: move_values,
+    };
+    let answer = engine::keep(
+        session, &tables, &bounds, numbers, order, stored, &index, reasons, &mv, flags, log_sizes,
+        log_vars, log_values,
     );
-    in_numbers(answer)
+    Outcome::from(answer)
 }

@@ -17,6 +17,9 @@ mod take_back;
 mod trial;
 mod versions;
 
+ghost use Rattle.std.specs.Prelude.{◌≡◌};
+ghost use Rattle.capi.specs.Products.{list_in_numbers};
+
 pub use batch::lukhandro_figures;
 pub use bounded::{lukhandro_read_bounded, lukhandro_write_bounded};
 pub use building::lukhandro_build;
@@ -29,13 +32,14 @@ pub use keep::lukhandro_keep;
 pub use many::lukhandro_trials;
 pub use merged::lukhandro_merge;
 pub use saving::lukhandro_salvage;
+use tables::Refusal;
 pub use take_back::lukhandro_take_back;
 pub use trial::lukhandro_trial;
 pub use versions::{lukhandro_to_version_1, lukhandro_to_version_2};
 
 // What reading a file answers: 0 and place 0 if accepted, and then how many variables, rows and entries it has.
 #[repr(C)]
-#[derive(Drop)]
+#[derive(Clone, Copy)]
 pub struct ReadOutcome {
     pub number: u32,
     pub place: u32,
@@ -47,7 +51,7 @@ pub struct ReadOutcome {
 // What salvaging a file answers: 0 and place 0 if accepted, and then how long the saved file is, and how many rows dropped and how many start
 // values missing or reset the list has.
 #[repr(C)]
-#[derive(Drop)]
+#[derive(Clone, Copy)]
 pub struct SalvageOutcome {
     pub number: u32,
     pub place: u32,
@@ -58,7 +62,7 @@ pub struct SalvageOutcome {
 
 // What a move of a file from one version to the other answers: 0 and place 0 if accepted, and then how long the new file is.
 #[repr(C)]
-#[derive(Drop)]
+#[derive(Clone, Copy)]
 pub struct MoveOutcome {
     pub number: u32,
     pub place: u32,
@@ -68,7 +72,7 @@ pub struct MoveOutcome {
 // What a batch in figures answers: 0 and place 0 if accepted, and then how many results are blank, the least, the greatest and the sum of those that
 // have a value, and the evaluations by each of the three routes.
 #[repr(C)]
-#[derive(Drop)]
+#[derive(Clone, Copy)]
 pub struct FiguresOutcome {
     pub number: u32,
     pub place: u32,
@@ -84,9 +88,29 @@ pub struct FiguresOutcome {
 // What a departure board answers: 0 and place 0 if accepted, and then how long the list is; what frequencies.txt read or written answers, and then how many windows
 // or bytes it has.
 #[repr(C)]
-#[derive(Drop)]
+#[derive(Clone, Copy)]
 pub struct ListOutcome {
     pub number: u32,
     pub place: u32,
     pub length: usize,
+}
+
+// A count, or what refuses it, as three numbers.
+impl From<Result<usize, Refusal>> for ListOutcome {
+    ghost from_gives = { λ told r. r ≡ list_in_numbers told };
+
+    fn from(told: Result<usize, Refusal>) -> ListOutcome {
+        match told {
+            Ok(length) => ListOutcome {
+                number: 0,
+                place: 0,
+                length,
+            },
+            Err(refusal) => ListOutcome {
+                number: refusal.number,
+                place: refusal.place,
+                length: 0,
+            },
+        }
+    }
 }

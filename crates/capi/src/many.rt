@@ -7,8 +7,10 @@ ghost use Rattle.trials.specs.Trials.{question, rows_in, trials as allTried};
 ghost use Rattle.capi.specs.Products.{trials_out};
 
 use records::Session;
-use records::answers::{Outcome, in_numbers};
-use trials::trials;
+use records::answers::Outcome;
+use tables::lent::{Bounds, Index, Model, Tables};
+use trials::{Batch, trials};
+use verdicts::asked::Asked;
 
 // `trials::trials` for C. The record is only read.
 pub fn lukhandro_trials(
@@ -46,8 +48,7 @@ pub fn lukhandro_trials(
 ) -> Outcome
     ensures { (result, rows_in move_numbers.new move_places.new move_evaluations.new results.new why.new) ≡ trials_out (allTried (record_in session.now) (to_model n m e kinds.now makes.now params.now firsts.now counts.now vars.now coefs.now lows.now highs.now numbers.now order.now stored.now reader_starts.now reader_places.now reasons.now) (batch_of moves move_pairs.now move_vars.now move_values.now) (question asked asked_vars.now route) (rows_in move_numbers.old move_places.old move_evaluations.old results.old why.old)) }
 {
-    let answer = trials(
-        *session,
+    let tables = Tables {
         n,
         m,
         e,
@@ -58,26 +59,41 @@ pub fn lukhandro_trials(
         counts,
         vars,
         coefs,
-        lows,
-        highs,
+    };
+    let bounds = Bounds { lows, highs };
+    let index = Index {
+        starts: reader_starts,
+        places: reader_places,
+    };
+    let model = Model {
+        tables,
+        bounds,
         numbers,
         order,
         stored,
-        reader_starts,
-        reader_places,
+        index,
         reasons,
+    };
+    let batch = Batch {
         moves,
-        move_pairs,
-        move_vars,
-        move_values,
-        asked,
-        asked_vars,
+        pairs: move_pairs,
+        vars: move_vars,
+        values: move_values,
+    };
+    let asked = Asked {
+        count: asked,
+        vars: asked_vars,
         route,
+    };
+    Outcome::from(trials(
+        *session,
+        &model,
+        &batch,
+        &asked,
         move_numbers,
         move_places,
         move_evaluations,
         results,
         why,
-    );
-    in_numbers(answer)
+    ))
 }

@@ -1,24 +1,26 @@
 // The figures of two batches merged across the C boundary.
 ghost use Rattle.std.specs.Prelude.{◌≡◌};
-ghost use Rattle.capi.specs.Products.{figures_in_numbers, totals_in, refused_figures, merged_out};
+ghost use Rattle.capi.specs.Products.{totals_in, refused_figures, merged_out};
 
 use crate::FiguresOutcome;
-use crate::batch::figures_numbers;
-use figures::{Counted, Totals};
+use figures::Totals;
 use merging::merge;
+use tables::Refusal;
 
 // The figures in an outcome.
-fn totals_in(told: FiguresOutcome) -> Totals
-    ensures { result ≡ totals_in told }
-{
-    Totals {
-        blank: told.blank,
-        least: told.least,
-        greatest: told.greatest,
-        sum: told.sum,
-        first: told.first,
-        second: told.second,
-        third: told.third,
+impl From<FiguresOutcome> for Totals {
+    ghost from_gives = { λ told r. r ≡ totals_in told };
+
+    fn from(told: FiguresOutcome) -> Totals {
+        Totals {
+            blank: told.blank,
+            least: told.least,
+            greatest: told.greatest,
+            sum: told.sum,
+            first: told.first,
+            second: told.second,
+            third: told.third,
+        }
     }
 }
 
@@ -26,7 +28,7 @@ fn totals_in(told: FiguresOutcome) -> Totals
 fn refused_figures(number: u32, place: u32) -> FiguresOutcome
     ensures { result ≡ refused_figures number place }
 {
-    figures_numbers(Counted::Refused { number, place })
+    FiguresOutcome::from(Err(Refusal { number, place }))
 }
 
 // `merging::merge` for C. A refused outcome has no figures: the first of the two that is refused is the answer, and nothing is written.
@@ -46,11 +48,11 @@ pub fn lukhandro_merge(
         return refused_figures(second.number, second.place);
     }
     let told = merge(
-        totals_in(first),
-        totals_in(second),
+        Totals::from(first),
+        Totals::from(second),
         first_by_number,
         second_by_number,
         by_number,
     );
-    figures_numbers(told)
+    FiguresOutcome::from(told)
 }

@@ -7,7 +7,8 @@ ghost use Rattle.paper.specs.Calls.{take_back};
 ghost use Rattle.capi.specs.Outcomes.{had_by_keep, kept_out};
 
 use records::Session;
-use records::answers::{Outcome, in_numbers};
+use records::answers::Outcome;
+use tables::lent::{Bounds, Index, Tables};
 
 // `engine::take_back` for C. The reason of every variable evaluated is given.
 pub fn lukhandro_take_back(
@@ -37,8 +38,7 @@ pub fn lukhandro_take_back(
 ) -> Outcome
     ensures { had_by_keep result session.new stored.new reasons.new flags.new log_sizes.new log_vars.now log_values.now ≡ kept_out (take_back (record_in session.old) (log_in log_sizes.old log_vars.now log_values.now) (to_model n m e kinds.now makes.now params.now firsts.now counts.now vars.now coefs.now lows.now highs.now numbers.now order.now stored.old reader_starts.now reader_places.now reasons.old) (to_take flags.old)) }
 {
-    let answer = engine::take_back(
-        session,
+    let tables = Tables {
         n,
         m,
         e,
@@ -49,18 +49,15 @@ pub fn lukhandro_take_back(
         counts,
         vars,
         coefs,
-        lows,
-        highs,
-        numbers,
-        order,
-        stored,
-        reader_starts,
-        reader_places,
-        reasons,
-        flags,
-        log_sizes,
-        log_vars,
-        log_values,
+    };
+    let bounds = Bounds { lows, highs };
+    let index = Index {
+        starts: reader_starts,
+        places: reader_places,
+    };
+    let answer = engine::take_back(
+        session, &tables, &bounds, numbers, order, stored, &index, reasons, flags, log_sizes,
+        log_vars, log_values,
     );
-    in_numbers(answer)
+    Outcome::from(answer)
 }

@@ -6,7 +6,9 @@ ghost use Rattle.paper.specs.Calls.{trial as tried};
 ghost use Rattle.capi.specs.Outcomes.{had_by_trial, tried_out};
 
 use records::Session;
-use records::answers::{Outcome, in_numbers};
+use records::answers::Outcome;
+use tables::lent::{Bounds, Index, Model, Move, Tables};
+use verdicts::asked::Asked;
 
 // `engine::trial` for C. The reason of every variable asked is given.
 pub fn lukhandro_trial(
@@ -42,8 +44,7 @@ pub fn lukhandro_trial(
 ) -> Outcome
     ensures { had_by_trial result session.new results.new trial.new flags.new why.new ≡ tried_out (tried (record_in session.old) (to_model n m e kinds.now makes.now params.now firsts.now counts.now vars.now coefs.now lows.now highs.now numbers.now order.now stored.now reader_starts.now reader_places.now reasons.now) (to_try pairs move_vars.now move_values.now asked asked_vars.now route results.old trial.old flags.old why.old)) }
 {
-    let answer = engine::trial(
-        session,
+    let tables = Tables {
         n,
         m,
         e,
@@ -54,24 +55,31 @@ pub fn lukhandro_trial(
         counts,
         vars,
         coefs,
-        lows,
-        highs,
+    };
+    let bounds = Bounds { lows, highs };
+    let index = Index {
+        starts: reader_starts,
+        places: reader_places,
+    };
+    let model = Model {
+        tables,
+        bounds,
         numbers,
         order,
         stored,
-        reader_starts,
-        reader_places,
+        index,
         reasons,
+    };
+    let mv = Move {
         pairs,
-        move_vars,
-        move_values,
-        asked,
-        asked_vars,
+        vars: move_vars,
+        values: move_values,
+    };
+    let asked = Asked {
+        count: asked,
+        vars: asked_vars,
         route,
-        results,
-        trial,
-        flags,
-        why,
-    );
-    in_numbers(answer)
+    };
+    let answer = engine::trial(session, &model, &mv, &asked, results, trial, flags, why);
+    Outcome::from(answer)
 }

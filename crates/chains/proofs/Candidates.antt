@@ -5,15 +5,18 @@ use native.Mathlib.Omega.{arith}
 use mathlib.Core.Bool.{Bool, true, false, cond}
 use mathlib.Core.List.Memᴰ
 use mathlib.Core.List.{List, [], ◌∷◌, Memᴰ}
-use mathlib.Core.Path.{◌≡◌, refl, ap, ap₂, sym, ◌∙◌}
+use mathlib.Core.Path.{◌≡◌, refl, ap, ap₂, sym, ◌∙◌, subst⁻¹}
 use lib.Dec.{eqb, ltb}
-use lib.ListN.{take, drop}
+use lib.ListN.{length, get_or, take, drop}
 use lib.Seq.{slice, take-nil, drop-nil}
+use Rattle.std.specs.List.{between}
+use Rattle.std.proofs.lemmas.Slice.{between_is}
 use borrow.Author.Tests.{lt-ltb}
 use Rattle.paper.specs.Lists.{nat}
 use Rattle.paper.specs.Tables.{Tables, part, is_made, inputs_of}
 use Rattle.paper.specs.Chains.{is_element, candidates}
 use Rattle.order.specs.Formed.{Formed}
+use Rattle.chains.proofs.Found.{entries-low}
 
 -- a candidate is an input
 pub candidate-input : (t : Tables) (v i : ℕ) → Memᴰ i (candidates t v) → Memᴰ i (inputs_of t v)
@@ -58,3 +61,15 @@ module _ (t : Tables) (F : Formed t) (r : ℕ) (l : r < t.m) where
   candidates-are {first} {count} begins holds e =
       ap₂ (λ a k. slice (a + 1) (a + k) t.vars) begins holds ∙ behind-first t.vars (nat t.firsts r) (nat t.counts r)
       ∙ sym (row-candidates ∙ ap (λ b. cond b (drop 1 (part t r t.vars)) []) e)
+
+  -- and as the code takes them
+  pub candidates-between : {first count : ℕ} → first ≡ nat t.firsts r → count ≡ nat t.counts r → eqb (nat t.kinds r) 4 ≡ true
+      → between (first + 1) (first + count) t.vars ≡ candidates t (nat t.makes r)
+  candidates-between {first} {count} begins holds e = between_is t.vars (first + 1) (first + count) ∙ candidates-are begins holds e
+
+  -- each of them is a variable
+  pub candidates-low : {first count : ℕ} → first ≡ nat t.firsts r → count ≡ nat t.counts r → eqb (nat t.kinds r) 4 ≡ true
+      → (k d : ℕ) → k < length (between (first + 1) (first + count) t.vars) → get_or (between (first + 1) (first + count) t.vars) k d < t.n
+  candidates-low {first} {count} begins holds e =
+      subst⁻¹ (λ (l : List ℕ). (k d : ℕ) → k < length l → get_or l k d < t.n) (candidates-between begins holds e)
+      (entries-low t.n (candidates t (nat t.makes r)) (λ j m. F.inputs-below (nat t.makes r) j (candidate-input t (nat t.makes r) j m)))

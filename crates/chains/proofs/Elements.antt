@@ -2,9 +2,14 @@
 use Prim.Native.Nat.{ℕ, ◌<◌}
 use mathlib.Core.Bool.{Bool, true, false, not, ◌&&◌, ◌||◌}
 use mathlib.Core.List.{List}
-use mathlib.Core.Path.{◌≡◌, refl, ap, subst}
+use mathlib.Core.Path.{◌≡◌, refl, ap, sym, ◌∙◌, subst}
 use lib.Dec.{eqb, leb}
 use borrow.Author.Tests.{ltb-true, not-true}
+use native.Mathlib.Omega.{arith}
+use lib.ListN.{length, get_or}
+use Rattle.std.specs.Bool.{MatchBool}
+use Rattle.std.specs.List.{AllWithin, HoldsAt, range_with_len}
+use Rattle.std.proofs.lemmas.List.FromFn.{length-range_with_len, get_or-range_with_len}
 use Rattle.paper.specs.Lists.{any, nat, all_below}
 use Rattle.paper.specs.Tables.{Tables, row_of, is_made}
 use Rattle.paper.specs.Chains.{closes}
@@ -33,6 +38,21 @@ module _ (t : Tables) (F : Formed t) (numbers : List ℕ) where
 
     pub row_closes : (r : ℕ) → r < t.m → level_candidate t numbers (nat t.makes r) ≡ true → true ≡ closes t
     row_closes r l e = some-closes t F numbers G (nat t.makes r) (F.row_makes r l) e
+
+    -- as a search over the rows tells it
+    row-at : (r : ℕ) → r < t.m → get_or (range_with_len 0 t.m) r 0 ≡ r
+    row-at r l = get_or-range_with_len 0 t.m r 0 l ∙ omega arith
+
+    pub rows-told : (b : Bool)
+        → MatchBool b ((k : ℕ) × (k < length (range_with_len 0 t.m)) × HoldsAt (λ r. level_candidate t numbers (nat t.makes r) ≡ true) (range_with_len 0 t.m) k)
+        (AllWithin (λ r. level_candidate t numbers (nat t.makes r) ≡ false) (range_with_len 0 t.m) 0 (length (range_with_len 0 t.m)))
+        → b ≡ closes t
+    rows-told true h =
+        let e = length-range_with_len 0 t.m in let inside = h.1 in let l : h.0 < t.m = omega arith in
+        row_closes h.0 l (ap (λ r. level_candidate t numbers (nat t.makes r)) (sym (row-at h.0 l)) ∙ h.2 0)
+    rows-told false h =
+        let e = length-range_with_len 0 t.m in
+        rows-open (λ r l. ap (λ r. level_candidate t numbers (nat t.makes r)) (sym (row-at r l)) ∙ h r 0 (omega arith) (omega arith))
 
 -- joined tests, negated
 pub not-or : (a b : Bool) → not (a || b) ≡ not a && not b

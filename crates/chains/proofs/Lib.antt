@@ -1,6 +1,6 @@
+pub mod Found
 pub mod Kinded
 pub mod Linked
-pub mod Seeking
 pub mod Barring
 pub mod Candidates
 pub mod Closing

@@ -3,9 +3,15 @@
 use Prim.Native.Nat.{ℕ, zero, suc, min, ◌≤◌, ◌<◌}
 use native.Mathlib.Omega.{arith}
 use mathlib.Core.Bool.{Bool, true, false, cond, not, ◌&&◌, ◌||◌}
+use mathlib.Core.Logic.{◌⊎◌, inl, inr}
 use mathlib.Core.List.{List, [], ◌∷◌, map}
 use mathlib.Core.Path.{◌≡◌, refl, ap, ap₂, sym, ◌∙◌, subst, fun_ext}
 use lib.Dec.{eqb, ltb}
+use Rattle.std.specs.Prelude.{Option, Some, None}
+use Rattle.std.specs.Option.{option_or}
+use Rattle.std.proofs.lemmas.Bool.Decides.{nat_tests}
+use Rattle.integers.specs.Below.{if_below}
+use Rattle.integers.proofs.Below.{if_below-some, some-below, none-below}
 use lib.ListN.{length, get_or}
 use borrow.Author.Tests.{ltb-true, ltb-false}
 use Rattle.paper.specs.Lists.{any, greatest, nat, over, first_fail, all_below}
@@ -138,3 +144,25 @@ pub permitted-least : (t : Tables) {p q r : ℕ} → p ≡ first_fail (λ v. not
     → q ≡ first_fail (λ v. all_below (λ x. not (round_index t v x)) t.n) t.n → r ≡ min p q → r ≡ first_fail (permitted t) t.n
 permitted-least t ep eq er =
     er ∙ ap₂ min ep eq ∙ first-of-both (λ v. not (depends (plain_inputs t) t.n v v)) (λ v. all_below (λ x. not (round_index t v x)) t.n) t.n
+
+-- ── the smaller of two places, each of which may be none ──
+pub least_of-both : (n p q : ℕ) {v w : ℕ} → Some v ≡ if_below n p → Some w ≡ if_below n q → Some (min v w) ≡ if_below n (min p q)
+least_of-both n p q {v} {w} a b =
+    let f = some-below n p v a in let g = some-below n q w b in
+    ap₂ (λ x y. Some (min x y)) f.0 g.0 ∙ if_below-some n (min p q) (let l = f.1 in omega arith)
+
+pub least_of-either : (n p q : ℕ) (a b : Option ℕ) → a ≡ if_below n p → b ≡ if_below n q → (a ≡ None) ⊎ (b ≡ None) → option_or a b ≡ if_below n (min p q)
+least_of-either n p q a b f g (inl e) =
+    let h = none-below n p (sym e ∙ f) in ap (λ x. option_or x b) e ∙ g ∙ lower_right n p q h
+  where
+    lower_right : (n p q : ℕ) → n ≤ p → if_below n q ≡ if_below n (min p q)
+    lower_right n p q h = grind (arith, nat_tests)
+least_of-either n p q a b f g (inr e) =
+    let h = none-below n q (sym e ∙ g) in ap (option_or a) e ∙ or_none a ∙ f ∙ lower_left n p q h
+  where
+    or_none : (o : Option ℕ) → option_or o None ≡ o
+    or_none None = refl
+    or_none (Some x) = refl
+
+    lower_left : (n p q : ℕ) → n ≤ q → if_below n p ≡ if_below n (min p q)
+    lower_left n p q h = grind (arith, nat_tests)

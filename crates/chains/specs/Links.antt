@@ -1,13 +1,29 @@
 -- The links of tables in rows, all of them or only those that no choice decides; and the numbers of the groups. Assumes nothing.
-use Rattle.std.specs.Prelude.{ℕ, ◌+◌, ◌≤◌, ◌<◌, Bool, true, cond, not, ◌&&◌, List, [], ◌≡◌, eqb, length}
+use Rattle.std.specs.Prelude.{ℕ, ◌+◌, ◌≤◌, ◌<◌, Bool, true, false, cond, not, ◌&&◌, List, [], ◌≡◌, eqb, length}
 use Rattle.paper.specs.Lists.{nat}
 use Rattle.paper.specs.Tables.{Tables, lent, inputs_of}
 use Rattle.paper.specs.Chains.{plain_inputs, permitted, group_number, closes, groups_numbered}
+use Rattle.tables.specs.declared.lent.Tables as code-tables
+use Rattle.order.specs.Formed.{Formed}
 use Rattle.order.specs.Numbering.{of_maker, part_at}
+use Rattle.chains.specs.declared.links.Which.{Which}
 
 -- the tables that groups depend on
 abbrev pub kinded : ℕ → ℕ → List ℕ → List ℕ → List ℕ → List ℕ → List ℕ → Tables
 kinded n m kinds makes firsts counts vars = lent n m 0 kinds makes [] firsts counts vars []
+
+abbrev pub kinded_lent : code-tables.Tables → Tables
+kinded_lent t = kinded t.n t.m t.kinds.now t.makes.now t.firsts.now t.counts.now t.vars.now
+
+-- in the form that groups rely on, with a kind for each row
+pub record Kinded (t : Tables) : Type 0 where
+  pub formed : Formed t
+  pub kinds : t.m ≤ length t.kinds
+
+-- whether all links are asked for
+abbrev pub every : Which → Bool
+every Which.All = true
+every Which.Plain = false
 
 -- all links, or those that no choice decides
 abbrev pub links_of : Bool → Tables → ℕ → List ℕ

@@ -1,14 +1,22 @@
 // The links of each variable in two rows: its inputs, all of them or only those that no choice decides.
 ghost use Rattle.std.specs.Prelude.{◌≡◌, ◌≤◌, length};
 ghost use Rattle.tables.specs.Makers.{Makers};
-ghost use Rattle.order.specs.Formed.{Formed};
 ghost use Rattle.order.specs.Numbering.{Clean, Parted};
-ghost use Rattle.chains.specs.Links.{kinded, by_element, link_count, Linked};
+ghost use Rattle.chains.specs.Links.{kinded_lent, Kinded, by_element, every, link_count, Linked};
 
 use integers::wide;
 use order::of_maker;
+use tables::lent::Tables;
+
+// Which inputs are links: all of them, or the plain ones alone, those that no choice decides.
+#[derive(Clone, Copy)]
+pub enum Which {
+    All,
+    Plain,
+}
 
 // Whether an ELEMENT makes the variable.
+// Stays: a kind is a number, as `tables::kind` says.
 pub fn by_element(maker: usize, kinds: &[u16]) -> bool
     requires { maker ≤ length kinds.now }
     ensures { result ≡ by_element kinds.now maker }
@@ -16,43 +24,34 @@ pub fn by_element(maker: usize, kinds: &[u16]) -> bool
     of_maker(maker, kinds) == 4
 }
 
-// How many links a variable has: its inputs, or, without `all`, none where an ELEMENT makes it.
-fn link_count(all: bool, maker: usize, kinds: &[u16], counts: &[u16]) -> u16
-    requires { (maker ≤ length kinds.now) × (maker ≤ length counts.now) }
-    ensures { result ≡ link_count all kinds.now counts.now maker }
+// How many links a variable has: its inputs, or, of the plain ones, none where an ELEMENT makes it.
+fn link_count(which: Which, maker: usize, tables: &Tables) -> u16
+    requires { (maker ≤ length tables.now.kinds.now) × (maker ≤ length tables.now.counts.now) }
+    ensures { result ≡ link_count (every which) tables.now.kinds.now tables.now.counts.now maker }
 {
-    if !all & by_element(maker, kinds) {
-        return 0;
+    match which {
+        Which::Plain if by_element(maker, tables.kinds) => 0,
+        _ => of_maker(maker, tables.counts),
     }
-    of_maker(maker, counts)
 }
 
-// Writes where the links of each variable begin and where they stop: all of them, or only those that no choice decides.
+// Writes where the links of each variable begin and where they stop.
 pub fn set_links(
-    all: bool,
-    n: usize,
-    m: usize,
-    kinds: &[u16],
-    makes: &[u16],
-    firsts: &[u16],
-    counts: &[u16],
-    vars: &[u16],
+    which: Which,
+    tables: &Tables,
     by: &[u16],
     begins: &mut [u16; 4096],
     stops: &mut [u16; 4096],
 )
-    requires formed { Formed (kinded n m kinds.now makes.now firsts.now counts.now vars.now) }
-    requires there { m ≤ length kinds.now }
-    requires makers { Makers (kinded n m kinds.now makes.now firsts.now counts.now vars.now) by.now }
-    requires clean { Clean n begins.old × Clean n stops.old }
-    ensures { Linked all (kinded n m kinds.now makes.now firsts.now counts.now vars.now) begins.new stops.new × Parted n begins.new stops.new vars.now }
+    requires kinded { Kinded (kinded_lent tables.now) }
+    requires makers { Makers (kinded_lent tables.now) by.now }
+    requires clean { Clean tables.now.n begins.old × Clean tables.now.n stops.old }
+    ensures { Linked (every which) (kinded_lent tables.now) begins.new stops.new × Parted tables.now.n begins.new stops.new tables.now.vars.now }
 {
-    let mut v = 0;
-    while v < n {
+    for v in 0..tables.n {
         let maker = wide(by[v]);
-        let first = of_maker(maker, firsts);
+        let first = of_maker(maker, tables.firsts);
         begins[v] = first;
-        stops[v] = first + link_count(all, maker, kinds, counts);
-        v += 1;
+        stops[v] = first + link_count(which, maker, tables);
     }
 }

@@ -1,6 +1,5 @@
 pub mod Seen
 pub mod Range
-pub mod Good
 pub mod SoundJudged
 pub mod Once
 pub mod ValuesOverMakers

@@ -9,7 +9,7 @@ use mathlib.Core.Path.{◌≡◌, refl, ap, sym, ◌∙◌}
 use lib.Dec.{eqb, ltb, eqb-zero-suc, eqb-suc-suc}
 use lib.ListN.{length, take}
 use lib.Seq.{take-take, get_or-take, length-take-le}
-use borrow.Author.Tests.{ltb-false, eqb-true, eq-eqb, ne_eqb}
+use borrow.Author.Tests.{ltb-true, ltb-false, eqb-true, eq-eqb, ne_eqb}
 use Rattle.paper.specs.Lists.{any, nat, seek}
 use Rattle.paper.specs.Checks.{made_once}
 use Rattle.checks.specs.Named.{makes_rows}
@@ -65,8 +65,16 @@ module _ (n m : ℕ) (makes by : List ℕ) (M : Made n m makes by) (r : ℕ) (l 
       go false h = omega arith
 
   -- an earlier row is named, or none is
-  pub named-earlier : nat by (nat makes r) ≤ r → made_once (makes_rows makes) r ≡ false
+  named-earlier : nat by (nat makes r) ≤ r → made_once (makes_rows makes) r ≡ false
   named-earlier h = sym (once-told n m makes by M r l) ∙ ne_eqb (nat by (nat makes r)) (r + 1) (λ e. lt_irrefl r (omega arith))
 
-  pub named-itself : r < nat by (nat makes r) → made_once (makes_rows makes) r ≡ true
+  named-itself : r < nat by (nat makes r) → made_once (makes_rows makes) r ≡ true
   named-itself h = let k = named-low in sym (once-told n m makes by M r l) ∙ eq-eqb (nat by (nat makes r)) (r + 1) (omega arith)
+
+  -- as the code asks
+  pub named-told : ltb r (nat by (nat makes r)) ≡ made_once (makes_rows makes) r
+  named-told = go (ltb r (nat by (nat makes r))) refl
+    where
+      go : (b : Bool) → ltb r (nat by (nat makes r)) ≡ b → b ≡ made_once (makes_rows makes) r
+      go true q = sym (named-itself (ltb-true r (nat by (nat makes r)) q))
+      go false q = sym (named-earlier (ltb-false r (nat by (nat makes r)) q))

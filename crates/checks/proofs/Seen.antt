@@ -2,16 +2,27 @@
 use Prim.Native.Nat.{ℕ, ◌+◌, ◌<◌}
 use native.Mathlib.Omega.{arith}
 use mathlib.Core.Bool.{Bool, true, false, cond, not, ◌||◌, or-true, or-false}
-use mathlib.Core.List.{List}
-use mathlib.Core.Path.{◌≡◌, refl, ap, sym, ◌∙◌}
+use mathlib.Core.List.{List, [], ◌∷◌}
+use mathlib.Core.Path.{◌≡◌, refl, ap, ap₂, sym, ◌∙◌}
+use Rattle.std.specs.List.{list_any}
 use lib.Dec.{eqb, ltb}
 use lib.ListN.{length, get_or, take, set, replicate, length-set, length-replicate, get_or-replicate}
 use lib.Seq.{get_or-set_same, get_or-set_other}
-use borrow.Author.Tests.{eqb-true, eqb-false, ltb-true}
+use borrow.Author.Tests.{eqb-true, eqb-false, eq-eqb, ltb-true}
 use Rattle.paper.specs.Lists.{any, nat}
 use Rattle.paper.specs.Checks.{made_once}
 use Rattle.paper.proofs.Scan.{any_next}
 use Rattle.checks.specs.Named.{makes_rows, named_before}
+
+-- a list is asked whether it holds v entry by entry
+pub holds-any : (v : ℕ) (l : List ℕ) → list_any (λ y. eqb y v) l ≡ any (eqb v) l
+holds-any v [] = refl
+holds-any v (x ∷ xs) = ap₂ ◌||◌ (both (eqb x v) (eqb v x) refl refl) (holds-any v xs)
+  where
+    both : (a b : Bool) → eqb x v ≡ a → eqb v x ≡ b → a ≡ b
+    both true b p q = sym (eq-eqb v x (sym (eqb-true x v p))) ∙ q
+    both false true p q = sym p ∙ eq-eqb x v (sym (eqb-true v x q))
+    both false false p q = refl
 
 pub record Seen (l : List ℕ) (seen : List Bool) (i : ℕ) : Type 0 where
   pub full : length seen ≡ 4096

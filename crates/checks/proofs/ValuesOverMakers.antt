@@ -14,11 +14,13 @@ use Rattle.paper.specs.Checks.{Bounds, low, high, start_allowed, stored_allowed}
 use Rattle.paper.specs.Formula.{blank}
 use Rattle.paper.specs.Calls.{blanks_among}
 use Rattle.paper.proofs.Count.{size_same}
-use Rattle.paper.proofs.Least.{all_below-none}
 use Rattle.paper.proofs.Scan.{first_fail-same}
+use Rattle.std.specs.Prelude.{None}
 use Rattle.integers.specs.Integers.{eq_z}
+use Rattle.integers.specs.Below.{if_below}
 use Rattle.tables.specs.Makers.{Makers}
 use Rattle.tables.proofs.Made.{maker-zero}
+use Rattle.tables.proofs.Whole.{all-none}
 use Rattle.checks.specs.Allowed.{value_good}
 
 -- 19: the values in a lent row
@@ -42,5 +44,5 @@ module _ (t : Tables) (by : List ℕ) (k : Makers t by) where
   -- 7 of all: where each passes over the row of makers there is none to find
   pub values-none : (n : ℕ) → t.n ≡ n → (building : Bool) (bs : Bounds) (values : List ℤ) (b : Bool)
       → b ≡ all_below (λ v. value_good building (not (eqb (nat by v) 0)) (low bs v) (get_or values v (pos 0)) (high bs v)) n → b ≡ true
-      → n ≡ first_fail (cond building (start_allowed t) (stored_allowed t) bs (values_in t values)) n
-  values-none n e building bs values b h p = all_below-none _ n b h p ∙ first_fail-same _ _ n (λ v l. value_same building bs values v (omega arith))
+      → None ≡ if_below n (first_fail (cond building (start_allowed t) (stored_allowed t) bs (values_in t values)) n)
+  values-none n e building bs values b h p = all-none _ n (sym h ∙ p) ∙ ap (if_below n) (first_fail-same _ _ n (λ v l. value_same building bs values v (omega arith)))

@@ -1,78 +1,62 @@
 // A variable that an earlier place of a list names too, as checks 5 and 11 have it: check 11.
-ghost use Rattle.std.specs.Prelude.{true, ◌≡◌, ◌≤◌, ◌<◌, eqb, length, set};
-ghost use Rattle.paper.specs.Lists.{any, first_fail};
+ghost use Rattle.std.specs.Prelude.{true, ◌≡◌, ◌≤◌, ◌<◌, length, set};
+ghost use Rattle.integers.specs.Below.{if_below};
+ghost use Rattle.paper.specs.Lists.{first_fail};
 ghost use Rattle.paper.specs.Checks.{made_once};
 ghost use Rattle.checks.specs.Named.{makes_rows, named_before};
 
 use integers::wide;
-
-// The list names the variable.
-fn names(vars: &[u16], v: u16) -> bool
-    ensures { result ≡ any (eqb v) vars.now }
-{
-    for i in 0..vars.len() {
-        if v == vars[i] {
-            return true;
-        }
-    }
-    false
-}
 
 // An earlier place names what place i names: the variable's mark says so, or the places themselves if it is too great to have a mark.
 fn named_before(seen: &[bool], vars: &[u16], i: usize) -> bool
     requires { i < length vars.now }
     ensures { result ≡ named_before seen.now vars.now i }
 {
-    let v = wide(vars[i]);
-    if v < seen.len() {
-        return seen[v];
+    match seen.get(wide(vars[i])) {
+        Some(&marked) => marked,
+        None => vars[..i].contains(&vars[i]),
     }
-    names(&vars[0..i], vars[i])
 }
 
 // Marks the variable, unless it is too great to have a mark.
 pub fn mark(v: u16, seen: &mut [bool])
     ensures { seen.new ≡ set seen.old v true }
 {
+    // Stays: with `get_mut` the goals `returns-in-Some` and `returns-in_default` stay open.
     let at = wide(v);
-    if seen.len() <= at {
-        return;
+    if at < seen.len() {
+        seen[at] = true;
     }
-    seen[at] = true;
 }
 
 // The first of m places that names what an earlier one names, by marks: one look at a place, but a row of marks to clear.
-fn first_marked(m: usize, vars: &[u16]) -> usize
+fn first_marked(m: usize, vars: &[u16]) -> Option<usize>
     requires { m ≤ length vars.now }
-    ensures { result ≡ first_fail (made_once (makes_rows vars.now)) m }
+    ensures { result ≡ if_below m (first_fail (made_once (makes_rows vars.now)) m) }
 {
+    // Stays: rows of a fixed length, since no call allocates.
     let mut seen = [false; 4096];
     for i in 0..m {
         if named_before(&seen, vars, i) {
-            return i;
+            return Some(i);
         }
         mark(vars[i], &mut seen);
     }
-    m
+    None
 }
 
 // The first of m places that names what an earlier one names, by comparing each place with those before it.
-fn first_compared(m: usize, vars: &[u16]) -> usize
+fn first_compared(m: usize, vars: &[u16]) -> Option<usize>
     requires { m ≤ length vars.now }
-    ensures { result ≡ first_fail (made_once (makes_rows vars.now)) m }
+    ensures { result ≡ if_below m (first_fail (made_once (makes_rows vars.now)) m) }
 {
-    for place in 0..m {
-        if names(&vars[0..place], vars[place]) {
-            return place;
-        }
-    }
-    m
+    (0..m).find(|&place| vars[..place].contains(&vars[place]))
 }
 
 // The first of m places that names what an earlier one names. Few places are compared sooner than a row of marks is cleared.
-pub fn first_again(m: usize, vars: &[u16]) -> usize
+pub fn first_again(m: usize, vars: &[u16]) -> Option<usize>
     requires { m ≤ length vars.now }
-    ensures { result ≡ first_fail (made_once (makes_rows vars.now)) m }
+    ensures { result ≡ if_below m (first_fail (made_once (makes_rows vars.now)) m) }
 {
     if m <= 16 {
         return first_compared(m, vars);

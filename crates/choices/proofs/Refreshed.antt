@@ -1,5 +1,5 @@
 -- Where no chain closes every variable is determined, so neither check can refuse; elsewhere each refuses at the least variable that fails it. Assumes nothing.
-use Prim.Native.Nat.{ℕ, ◌≤◌, ◌<◌}
+use Prim.Native.Nat.{ℕ}
 use mathlib.Core.Bool.{true, false, not, ◌||◌}
 use mathlib.Core.Path.{◌≡◌, ap, sym, ◌∙◌}
 use lib.IntN.{ℤ}
@@ -8,7 +8,7 @@ use borrow.Author.Tests.{not-false}
 use Rattle.paper.specs.Lists.{first_fail, all_below}
 use Rattle.paper.specs.Net.{moved, able}
 use Rattle.paper.specs.Tables.{Tables, net, inputs_of, ends, values_in}
-use Rattle.paper.specs.Checks.{Verdict, accepted, refused, check, Move, pairs_of_move, Sound, fresh_lines, by_lines}
+use Rattle.paper.specs.Checks.{Verdict, accepted, check, Move, pairs_of_move, Sound, fresh_lines, by_lines}
 use Rattle.paper.specs.Chains.{determined, closes, stored_fresh}
 use Rattle.paper.proofs.Least.{all_below-at}
 use Rattle.paper.proofs.Scan.{first_fail-same}
@@ -17,7 +17,12 @@ use Rattle.paper.proofs.Accept.{made-below, inputs-below}
 use Rattle.paper.proofs.Lawful.{lawful}
 use Rattle.paper.proofs.Circle.{ends-everywhere}
 use Rattle.paper.proofs.Open.{open-determined}
-use Rattle.paper.proofs.Verdicts.{check-next, check-stops, check-passes}
+use Rattle.paper.proofs.Verdicts.{check-next}
+use Rattle.std.specs.Prelude.{Option, Ok, Err}
+use Rattle.integers.specs.Below.{if_below}
+use Rattle.tables.specs.Answers.{answer_of, unless_at}
+use Rattle.tables.specs.declared.Refusal.{Refusal}
+use Rattle.tables.proofs.Answered.{none_fails-is, none_fails-stops, none_fails-passes}
 use Rattle.choices.specs.Renewed.{is_fresh}
 
 module _ (t : Tables) (stored : List ℤ) (mv : Move) where
@@ -38,19 +43,19 @@ module _ (t : Tables) (stored : List ℤ) (mv : Move) where
           (all_below-at (ends t) t.n (not-false (all_below (ends t) t.n) e))
 
   -- some chain closes
-  module _ (e : closes t ≡ true) {stale : ℕ} (least : stale ≡ first_fail (is_fresh t stored) t.n) where
-    stale-is : stale ≡ first_fail (stored_fresh t (values_in t stored)) t.n
-    stale-is = least ∙ first_fail-same (is_fresh t stored) (stored_fresh t (values_in t stored)) t.n (λ v l. sym (ap (λ b. not b || is_fresh t stored v) e))
+  module _ (e : closes t ≡ true) {stale : Option ℕ} (least : stale ≡ if_below t.n (first_fail (is_fresh t stored) t.n)) where
+    stale_is : stale ≡ if_below t.n (first_fail (stored_fresh t (values_in t stored)) t.n)
+    stale_is =
+        least
+        ∙ ap (if_below t.n)
+        (first_fail-same (is_fresh t stored) (stored_fresh t (values_in t stored)) t.n (λ v l. sym (ap (λ b. not b || is_fresh t stored v) e)))
 
-    pub fresh-stale : stale < t.n → by_lines (fresh_lines mv t (values_in t stored)) accepted ≡ refused 21 stale
-    fresh-stale l = check-stops 21 t.n (stored_fresh t (values_in t stored)) twenty stale stale-is l
+    pub fresh-stale : (r : Refusal) → unless_at 21 stale ≡ Err r → Err r ≡ answer_of {A = Unit {0}} tt (by_lines (fresh_lines mv t (values_in t stored)) accepted)
+    fresh-stale r = none_fails-stops 21 t.n (stored_fresh t (values_in t stored)) stale stale_is twenty tt r
 
-    module _ (past : t.n ≤ stale) {waiting : ℕ} (first : waiting ≡ first_fail (determined t (moved (pairs_of_move mv) (values_in t stored))) t.n) where
-      pass : by_lines (fresh_lines mv t (values_in t stored)) accepted ≡ twenty
-      pass = check-passes 21 t.n (stored_fresh t (values_in t stored)) twenty stale (stale-is, past)
-
-      pub fresh-waiting : waiting < t.n → by_lines (fresh_lines mv t (values_in t stored)) accepted ≡ refused 20 waiting
-      fresh-waiting l = pass ∙ check-stops 20 t.n (determined t (moved (pairs_of_move mv) (values_in t stored))) accepted waiting first l
-
-      pub fresh-passed : t.n ≤ waiting → by_lines (fresh_lines mv t (values_in t stored)) accepted ≡ accepted
-      fresh-passed l = pass ∙ check-passes 20 t.n (determined t (moved (pairs_of_move mv) (values_in t stored))) accepted waiting (first, l)
+    pub fresh-waiting : (u : Unit) → unless_at 21 stale ≡ Ok u → {waiting : Option ℕ}
+        → waiting ≡ if_below t.n (first_fail (determined t (moved (pairs_of_move mv) (values_in t stored))) t.n)
+        → unless_at 20 waiting ≡ answer_of tt (by_lines (fresh_lines mv t (values_in t stored)) accepted)
+    fresh-waiting u past first =
+        ap (unless_at 20) first ∙ none_fails-is 20 t.n (determined t (moved (pairs_of_move mv) (values_in t stored)))
+        ∙ sym (ap (answer_of tt) (none_fails-passes 21 t.n (stored_fresh t (values_in t stored)) stale stale_is twenty u past))

@@ -1,26 +1,27 @@
--- The inputs of a row, one after another, until one has changed. Assumes nothing.
-use Prim.Native.Nat.{ℕ, suc, ◌+◌, ◌-◌, ◌≤◌, ◌<◌}
+-- The inputs of a row: those that its part of the entries names. Assumes nothing.
+use Prim.Native.Nat.{ℕ, suc, ◌+◌, ◌-◌, ◌<◌}
 use native.Mathlib.Omega.{arith}
 use mathlib.Core.Bool.{Bool, true, false, ◌||◌}
 use mathlib.Core.List.{List, [], ◌∷◌, Memᴰ}
 use mathlib.Core.Path.{◌≡◌, refl, ap, sym, ◌∙◌, subst}
 use lib.Dec.{ltb}
-use lib.ListN.{length}
+use lib.ListN.{length, get_or}
+use Rattle.std.proofs.lemmas.List.{get_or_default}
 use borrow.Author.Tests.{ltb-true}
-use Rattle.paper.specs.Lists.{any, nat}
+use Rattle.std.specs.List.{list_any}
+use Rattle.paper.specs.Lists.{any, all, nat}
 use Rattle.paper.proofs.Lists.{all_in}
-use Rattle.paper.proofs.Scan.{next}
 use Rattle.formulas.specs.Inputs.{part_of}
 use Rattle.routes.specs.Work.{entries}
+use Rattle.routes.proofs.Members.{at_place}
 use Rattle.routes.proofs.Asks.{lawful-work, idle, row-ins}
 use Rattle.closed_routes.specs.Looking.{shapes, Parts}
 use Rattle.closed_routes.specs.Whole.{whole_net}
 
--- those from place i on are left, and the others have not changed
-pub record Seeing (changes : ℕ → Bool) (vars : List ℕ) (first last i : ℕ) : Type 0 where
-  pub further : first ≤ i
-  pub rest : (u : ℕ) → Memᴰ u (entries vars i last) → Memᴰ u (entries vars first last)
-  pub same : any changes (entries vars i last) ≡ any changes (entries vars first last)
+-- the paper's test of a list is std's
+pub any-is : {A : Type 0} (test : A → Bool) (xs : List A) → list_any test xs ≡ any test xs
+any-is test [] = refl
+any-is test (x ∷ xs) = ap (test x ||◌) (any-is test xs)
 
 -- a row r that makes v, by a row of makers
 pub record Row (firsts counts vars by : List ℕ) (v r first last : ℕ) : Type 0 where
@@ -35,37 +36,14 @@ sees-none changes firsts counts vars by v e =
     sym (ap (any changes) ((lawful-work (shapes [] firsts counts vars) by).bare v (idle (shapes [] firsts counts vars) by v e)))
 
 module _ {firsts counts vars by : List ℕ} {v r first last : ℕ} (K : Row firsts counts vars by v r first last) where
-  pub seeing-inside : last ≤ length vars
-  seeing-inside = let h = K.parts.inside v r K.row in let z = K.last-is in omega arith
-
   part-is : entries vars first last ≡ part_of (nat firsts r) (nat counts r) vars
   part-is = let z = K.last-is in let f = K.first-is in let d : last - first ≡ nat counts r = omega arith in rw (d, f)
 
-  pub seeing-start : (changes : ℕ → Bool) → Seeing changes vars first last first
-  seeing-start changes = record { further = omega arith; rest = λ u m. m; same = refl }
+  pub row-inputs : entries vars first last ≡ (whole_net firsts counts vars by).ins v
+  row-inputs = part-is ∙ sym (row-ins (shapes [] firsts counts vars) by v r K.row)
 
-  module _ {changes : ℕ → Bool} {i : ℕ} (S : Seeing changes vars first last i) where
-    ends : {b : Bool} → b ≡ any changes (entries vars i last) → b ≡ any changes ((whole_net firsts counts vars by).ins v)
-    ends e = e ∙ S.same ∙ ap (any changes) (part-is ∙ sym (row-ins (shapes [] firsts counts vars) by v r K.row))
-
-    pub seeing-end : last ≤ i → false ≡ any changes ((whole_net firsts counts vars by).ins v)
-    seeing-end h = ends (let d : last - i ≡ 0 = omega arith in rw d refl)
-
-    module _ (h : i < last) {u : ℕ} (here : u ≡ nat vars i) where
-      next-is : entries vars i last ≡ u ∷ entries vars (i + 1) last
-      next-is = let k = seeing-inside in let d : last - i ≡ suc (last - (i + 1)) = omega arith in rw (next vars i 0 (omega arith), d, here)
-
-      pub seeing-low : u < length by
-      seeing-low =
-          ltb-true u (length by) (all_in (λ w. ltb w (length by)) (part_of (nat firsts r) (nat counts r) vars) (K.parts.inputs v r K.row)
-          (subst (Memᴰ u) part-is (S.rest u (subst (Memᴰ u) (sym next-is) (Memᴰ.head refl)))))
-
-      pub seeing-found : changes u ≡ true → true ≡ any changes ((whole_net firsts counts vars by).ins v)
-      seeing-found e = ends (sym (ap (any changes) next-is ∙ ap (◌|| any changes (entries vars (i + 1) last)) e))
-
-      pub seeing-next : changes u ≡ false → Seeing changes vars first last (i + 1)
-      seeing-next e = record {
-        further = let l = S.further in omega arith;
-        rest = λ w m. S.rest w (subst (Memᴰ w) (sym next-is) (Memᴰ.tail m));
-        same = sym (ap (any changes) next-is ∙ ap (◌|| any changes (entries vars (i + 1) last)) e) ∙ S.same;
-      }
+  -- each of them is a variable
+  pub input-low : (u k : ℕ) → k < length (entries vars first last) → u ≡ get_or (entries vars first last) k u → u < length by
+  input-low u k h e = ltb-true u (length by) (all_in (λ u. ltb u (length by)) (entries vars first last)
+      (subst (λ (us : List ℕ). all (λ u. ltb u (length by)) us ≡ true) (sym part-is) (K.parts.inputs v r K.row))
+      (subst (λ z. Memᴰ z (entries vars first last)) (sym (e ∙ get_or_default (entries vars first last) k u 0 h)) (at_place (entries vars first last) k h)))

@@ -15,9 +15,9 @@ use Rattle.paper.specs.Tables.{Tables, part}
 use Rattle.paper.proofs.Lists.{all_in}
 use Rattle.paper.proofs.Scan.{next}
 use Rattle.rows.specs.Asking.{next_place}
-use Rattle.routes.specs.Reach.{Closed, Reaching}
+use Rattle.routes.specs.Reach.{Reaching}
 use Rattle.routes.proofs.Members.{at_place}
-use Rattle.routes.proofs.Reach.{reaching-start, reaching-step, reaching-skip}
+use Rattle.routes.proofs.Reach.{reaching-step, reaching-skip}
 use Rattle.closed_routes.specs.Walk.{unmarked, Walked, Walking}
 use Rattle.closed_routes.proofs.Walks.{walking_start, walking-step, walking-long, walking-end, walking-less, walked-reached}
 use Rattle.routes.specs.Rows.{values_of}
@@ -113,9 +113,6 @@ module _ (t : Tables) (work : List ℕ) (values : List ℤ) (asked before : List
   -- its variables from place j on are left
   abbrev pub ListFrom : ℕ → List ℕ → Type 0
   ListFrom j = Reaching (works_out t work) (looks_at t work values) (λ u. Memᴰ u asked) (λ u. Memᴰ u (drop j asked)) before
-
-  pub list-start : Closed (works_out t work) (looks_at t work values) before → ListFrom 0 before
-  list-start c = reaching-start (works_out t work) (looks_at t work values) (λ u. Memᴰ u asked) before c
 
   module _ (j : ℕ) (flags : List ℕ) (a : ListFrom j flags) where
     pub list-next : j < length asked → (x : ℕ) (flags' : List ℕ) → x ≡ nat asked j → Walked (works_out t work) (looks_at t work values) x flags flags' → ListFrom (j + 1) flags'

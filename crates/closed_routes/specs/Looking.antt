@@ -3,6 +3,7 @@ use Rattle.std.specs.Prelude.{ℕ, suc, ◌+◌, ◌≤◌, ◌<◌, true, ◌�
 use mathlib.Core.List.{List, [], Memᴰ}
 use Rattle.paper.specs.Lists.{all, nat}
 use Rattle.paper.specs.Tables.{Tables}
+use Rattle.tables.specs.declared.lent.Tables as code-tables
 use Rattle.formulas.specs.Inputs.{part_of}
 use Rattle.routes.specs.Reach.{Reaching}
 use Rattle.routes.specs.Rows.{values_of}
@@ -11,6 +12,9 @@ use Rattle.routes.specs.Work.{rows, work_net, works_out}
 -- the rows as the walk reads them: parameters and coefficients play no part
 abbrev pub shapes : List ℕ → List ℕ → List ℕ → List ℕ → Tables
 shapes kinds firsts counts vars = rows kinds [] firsts counts vars []
+
+abbrev pub shapes_lent : code-tables.Tables → Tables
+shapes_lent t = shapes t.kinds.now t.firsts.now t.counts.now t.vars.now
 
 -- the rows of work stand in the tables, and their parts inside the entries; these name variables
 pub record Parts (firsts counts vars work : List ℕ) : Type 0 where

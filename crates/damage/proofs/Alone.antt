@@ -9,17 +9,15 @@ use lib.Dec.{ltb}
 use lib.IntN.{ℤ, pos}
 use lib.ListN.{length, get_or, take, drop}
 use borrow.Author.Tests.{ltb-true}
+use Rattle.std.specs.Prelude.{Result, is_ok}
 use Rattle.paper.specs.Lists.{every, nat}
 use Rattle.paper.specs.Tables.{Tables, lent}
 use Rattle.paper.specs.Checks.{Verdict, accepted, refused, check, require, kind_good, shape_good, number_good, row_lines, by_lines}
 use Rattle.paper.proofs.Lists.{each, eqb-self}
 use Rattle.paper.proofs.Scan.{next, part_length, part_same}
 use Rattle.paper.proofs.Sizes.{Sized}
-use Rattle.paper.proofs.Verdicts.{refused-not}
 use Rattle.tables.specs.Answers.{answer_of}
-use Rattle.tables.specs.declared.Answer.{Answer}
-use Rattle.tables.specs.declared.Answer.TheVariants.{Accepted, Refused}
-use Rattle.tables.proofs.Judged.{accepted-is, refused-is}
+use Rattle.tables.specs.declared.Refusal.{Refusal}
 use Rattle.damage.specs.Saved.{packed, alone_good}
 
 -- ── the table ──
@@ -76,19 +74,15 @@ one-check code good rest = go (good 0)
 abbrev three : Bool → Bool → Bool → Verdict
 three kind shape number = require 2 0 kind (require 3 0 shape (require 4 0 number accepted))
 
-three-yes : (a b c : Bool) → three a b c ≡ accepted → every (a ∷ b ∷ c ∷ []) ≡ true
-unfolding every
-three-yes true true true h = refl
-three-yes true true false h = refused-not h
-three-yes true false c h = refused-not h
-three-yes false b c h = refused-not h
+abbrev done : Unit {0}
+done = tt
 
-three-no : (a b c : Bool) {number place : ℕ} → three a b c ≡ refused number place → every (a ∷ b ∷ c ∷ []) ≡ false
+three-ok : (a b c : Bool) → is_ok (answer_of done (three a b c)) ≡ every (a ∷ b ∷ c ∷ [])
 unfolding every
-three-no true true true h = refused-not (sym h)
-three-no true true false h = refl
-three-no true false c h = refl
-three-no false b c h = refl
+three-ok true true true = refl
+three-ok true true false = refl
+three-ok true false c = refl
+three-ok false b c = refl
 
 alone-checks : (t : Tables) (r : ℕ) → let alone = packed t (r ∷ []) in by_lines (row_lines alone) accepted ≡ three (kind_good alone 0) (shape_good alone 0) (number_good alone 0)
 alone-checks t r =
@@ -105,12 +99,6 @@ module _ (t : Tables) (s : Sized t) (r : ℕ) (low : r < t.m) (first count : ℕ
   pub alone-sized : nat t.firsts r + nat t.counts r ≤ t.e → Sized (cut_out t r first count)
   alone-sized inside = rw (alone-cut t s r low first count f c) (packed-sized t s r inside)
 
-  module _ (told : Answer) (e : told ≡ answer_of 0 (by_lines (row_lines (cut_out t r first count)) accepted)) where
-    verdict : let alone = packed t (r ∷ []) in told ≡ answer_of 0 (three (kind_good alone 0) (shape_good alone 0) (number_good alone 0))
-    verdict = e ∙ ap (λ x. answer_of 0 (by_lines (row_lines x) accepted)) (alone-cut t s r low first count f c) ∙ ap (answer_of 0) (alone-checks t r)
-
-    pub alone-yes : (k : ℕ) → told ≡ Accepted k → true ≡ alone_good t r
-    alone-yes k h = sym (three-yes _ _ _ (accepted-is 0 k _ (sym verdict ∙ h)))
-
-    pub alone-no : (number place : ℕ) → told ≡ Refused number place → false ≡ alone_good t r
-    alone-no number place h = sym (three-no _ _ _ (refused-is 0 number place _ (sym verdict ∙ h)))
+  pub alone-told : {told : Result Unit Refusal} → told ≡ answer_of done (by_lines (row_lines (cut_out t r first count)) accepted) → is_ok told ≡ alone_good t r
+  alone-told e =
+      ap is_ok (e ∙ ap (λ x. answer_of done (by_lines (row_lines x) accepted)) (alone-cut t s r low first count f c) ∙ ap (answer_of done) (alone-checks t r)) ∙ three-ok _ _ _

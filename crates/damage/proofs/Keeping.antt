@@ -3,7 +3,7 @@
 use Prim.Native.Nat.{ℕ, ◌+◌, ◌≤◌, ◌<◌}
 use native.Mathlib.Numerals.{add-one}
 use native.Mathlib.Omega.{arith}
-use mathlib.Core.Bool.{Bool, true, false, cond, not, ◌&&◌, ◌||◌, or-true, or-false}
+use mathlib.Core.Bool.{Bool, true, false, cond, not, ◌&&◌, ◌||◌, or-true, or-false, false≢true}
 use mathlib.Core.List.{List, [], ◌∷◌, ◌++◌, map, append-nil}
 use mathlib.Core.Path.{◌≡◌, refl, ap, ap₂, sym, ◌∙◌}
 use lib.Dec.{eqb, leb}
@@ -112,11 +112,15 @@ module _ {makes counts rows : List ℕ} {made : List Bool} {used : ℕ} (s : Tak
   taken_next false h = rw append-nil s
 
 module _ {bytes : List ℕ} {t : Tables} where
-  -- one turn of the loop
-  pub taken-on : FileGives bytes t → (r : ℕ) {made made' : List Bool} {used used' : ℕ} {kept : Bool} → Taken t.makes t.counts (kept_rows bytes r) made used
-      → kept ≡ can_keep bytes (kept_rows bytes r) r → used' ≡ cond kept (used + nat t.counts r) used → made' ≡ cond kept (set made (nat t.makes r) true) made
+  -- one turn of the loop: the row is kept, or not
+  pub taken-kept : FileGives bytes t → (r : ℕ) {made made' : List Bool} {used used' : ℕ} → Taken t.makes t.counts (kept_rows bytes r) made used
+      → can_keep bytes (kept_rows bytes r) r ≡ true → used' ≡ used + nat t.counts r → made' ≡ set made (nat t.makes r) true
       → Taken t.makes t.counts (kept_rows bytes (r + 1)) made' used'
-  taken-on g r s k u m = rw (u, m, k, add-one r) (taken_next s r (can_keep bytes (kept_rows bytes r) r) (keep-few bytes t r (kept_rows bytes r) g s))
+  taken-kept g r s k u m = rw (u, m, add-one r, k) (taken_next s r true (λ e. keep-few bytes t r (kept_rows bytes r) g s k))
+
+  pub taken-passed : FileGives bytes t → (r : ℕ) {made : List Bool} {used : ℕ} → Taken t.makes t.counts (kept_rows bytes r) made used
+      → can_keep bytes (kept_rows bytes r) r ≡ false → Taken t.makes t.counts (kept_rows bytes (r + 1)) made used
+  taken-passed g r s k = rw (add-one r, k) (taken_next s r false (λ e. absurd (false≢true e)))
 
   -- its end
   pub kept-filled : {before row : List Bool} {i : ℕ} → Filled (keeps bytes) before row i → i ≡ t.m → KeptFlags bytes t row

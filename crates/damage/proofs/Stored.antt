@@ -2,11 +2,12 @@
 use Prim.Native.Nat.{ℕ, zero, suc, ◌+◌, ◌≤◌, ◌<◌}
 use native.Mathlib.Numerals.{add-one}
 use native.Mathlib.Omega.{arith}
-use mathlib.Core.Bool.{Bool, true, false, cond}
+use mathlib.Core.Bool.{Bool, true, false, cond, beq}
 use mathlib.Core.List.{List, [], ◌∷◌, ◌++◌}
-use mathlib.Core.Path.{◌≡◌, refl, ap, ◌∙◌}
-use lib.ListN.{length, length-append}
-use lib.Seq.{sets, length-sets}
+use mathlib.Core.Path.{◌≡◌, refl, ap, sym, ◌∙◌}
+use lib.ListN.{length, get_or, take, set, length-append}
+use Rattle.damage.specs.Flags.{flag_wanted}
+use lib.Seq.{sets, length-sets, get_or-take}
 use Rattle.paper.specs.Lists.{those, joined}
 use Rattle.paper.proofs.Bytes.{go_on}
 use Rattle.paper.proofs.Those.{joined-grown, joined-le}
@@ -52,3 +53,26 @@ module _ {A : Type 0} {f : ℕ → List A} {before now : List A} {at to d : ℕ}
 
   pub placed_end : (n : ℕ) → d ≡ n → (to ≡ at + length (joined f n)) × (now ≡ sets before at (joined f n))
   placed_end n e = rw (← e) (P.place, P.written)
+
+-- ── those that pass a test, stored as a loop comes to them ──
+module _ (p : ℕ → Bool) {before now : List ℕ} {at to d : ℕ} (P : Placed (λ v. cond (p v) (v ∷ []) []) before at now to d) where
+  pub placed-fits : p d ≡ true → (n : ℕ) → d < n → at + length (those p n) ≤ length before → to < length now
+  placed-fits e n l h =
+      let room = rw (those-joined p n) at h in
+      let fits = rw e at (placed-room P n l room) in omega arith
+
+  pub placed-taken : p d ≡ true → Placed (λ v. cond (p v) (v ∷ []) []) before at (set now to d) (to + 1) (d + 1)
+  placed-taken e = placed-next P (rw e (omega arith)) (rw e refl)
+
+  pub placed-passed : p d ≡ false → Placed (λ v. cond (p v) (v ∷ []) []) before at now to (d + 1)
+  placed-passed e = placed-next P (rw e (omega arith)) (rw e refl)
+
+pub wanted-is : (wanted flag : Bool) → flag_wanted wanted flag ≡ beq flag wanted
+wanted-is true true = refl
+wanted-is true false = refl
+wanted-is false true = refl
+wanted-is false false = refl
+
+-- the same of a flag among the first n
+pub wanted-of : (flags : List Bool) (wanted : Bool) (i n : ℕ) → i < n → {b : Bool} → beq (get_or (take n flags) i false) wanted ≡ b → flag_wanted wanted (get_or flags i false) ≡ b
+wanted-of flags wanted i n l e = ap (flag_wanted wanted) (sym (get_or-take n flags i false l)) ∙ wanted-is wanted (get_or (take n flags) i false) ∙ e

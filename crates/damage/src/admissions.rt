@@ -5,19 +5,16 @@ ghost use Rattle.paper.specs.File.{version1, ends_at};
 ghost use Rattle.order.specs.Numbering.{ended};
 ghost use Rattle.damage.specs.Starts.{start_test};
 
-use fields::places::ends_at;
+use fields::places::{Size, Version, ends_at};
 use integers::wide;
 
-// The entries of a row with this part are whole: they end within e and within the file.
-pub fn entries_whole(bytes: &[u8], n: usize, m: usize, e: usize, first: u16, count: u16) -> bool
-    requires { (n ≤ 4096) × (m ≤ n) × (e ≤ 16384) }
-    ensures { result ≡ leb (first + count) e && leb (ends_at version1 n m (first + count)) (length bytes.now) }
+// The entries of a row with this part are whole: they end within those of the file, and within the file.
+pub fn entries_whole(bytes: &[u8], size: Size, first: u16, count: u16) -> bool
+    requires { (size.n ≤ 4096) × (size.m ≤ size.n) × (size.e ≤ 16384) }
+    ensures { result ≡ leb (first + count) size.e && leb (ends_at version1 size.n size.m (first + count)) (length bytes.now) }
 {
     let end = wide(first) + wide(count);
-    if e < end {
-        return false;
-    }
-    ends_at(false, n, m, end) <= bytes.len()
+    end <= size.e && ends_at(Version::One, Size { e: end, ..size }) <= bytes.len()
 }
 
 // A row that makes v from `count` entries joins rows whose variables are marked and whose entries are counted: none of them makes v, and the
@@ -35,10 +32,7 @@ pub fn still(flag: bool, made: u16, state: &[u16; 4096]) -> bool
     requires { flag ≡ true → made < 4096 }
     ensures { result ≡ flag && ended state.now made }
 {
-    if !flag {
-        return false;
-    }
-    2 <= state[wide(made)]
+    flag && 2 <= state[wide(made)]
 }
 
 // A start value is kept: it is whole, and 0 at a made variable, and not blank at any other.
@@ -46,7 +40,8 @@ pub fn start_good(whole: bool, made: bool, value: i32) -> bool
     ensures { result ≡ start_test whole made value }
 {
     if made {
-        return whole & (value == 0);
+        whole & (value == 0)
+    } else {
+        whole & (value != i32::MIN)
     }
-    whole & (value != -2147483648)
 }

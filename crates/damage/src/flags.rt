@@ -1,29 +1,7 @@
 // Rows and variables by their flags: counted, and listed.
-ghost use Rattle.std.specs.Prelude.{cond, false, [], ◌∷◌, ◌++◌, ◌≡◌, ◌+◌, ◌≤◌, ◌<◌, length, drop};
+ghost use Rattle.std.specs.Prelude.{false, ◌++◌, ◌≡◌, ◌+◌, ◌≤◌, length, drop};
 ghost use Rattle.std.proofs.lemmas.List.Edits.{sets};
-ghost use Rattle.damage.specs.Flags.{flag_wanted, flagged};
-
-// The flag is the one wanted.
-fn choose(wanted: bool, flag: bool) -> bool
-    ensures { result ≡ flag_wanted wanted flag }
-{
-    if wanted {
-        return flag;
-    }
-    !flag
-}
-
-// Stores a number in a list if it is wanted: where the next would stand.
-fn add_if(wanted: bool, x: u16, at: usize, list: &mut [u16]) -> usize
-    requires { at + length (cond wanted (x ∷ []) []) ≤ length list.old }
-    ensures { (result ≡ at + length (cond wanted (x ∷ []) [])) × (list.new ≡ sets list.old at (cond wanted (x ∷ []) [])) }
-{
-    if !wanted {
-        return at;
-    }
-    list[at] = x;
-    at + 1
-}
+ghost use Rattle.damage.specs.Flags.{flagged};
 
 // Lists the numbers below n whose flag is the one wanted: where the list ends.
 pub fn list_flagged(n: usize, flags: &[bool], wanted: bool, at: usize, list: &mut [u16]) -> usize
@@ -31,21 +9,13 @@ pub fn list_flagged(n: usize, flags: &[bool], wanted: bool, at: usize, list: &mu
     ensures { (result ≡ at + length (flagged wanted flags.now n)) × (list.new ≡ sets list.old at (flagged wanted flags.now n)) }
 {
     let mut to = at;
-    for i in 0..n {
-        to = add_if(choose(wanted, flags[i]), i as u16, to, list);
+    for (i, &flag) in flags[..n].iter().enumerate() {
+        if flag == wanted {
+            list[to] = i as u16;
+            to += 1;
+        }
     }
     to
-}
-
-// One more if the flag is set.
-fn more_if(flag: bool, k: usize) -> usize
-    requires { k < 65536 }
-    ensures { result ≡ k + cond flag 1 0 }
-{
-    if flag {
-        return k + 1;
-    }
-    k
 }
 
 // How many numbers below n have the flag wanted.
@@ -54,8 +24,10 @@ pub fn count_flagged(n: usize, flags: &[bool], wanted: bool) -> usize
     ensures { result ≡ length (flagged wanted flags.now n) }
 {
     let mut k = 0;
-    for i in 0..n {
-        k = more_if(choose(wanted, flags[i]), k);
+    for &flag in &flags[..n] {
+        if flag == wanted {
+            k += 1;
+        }
     }
     k
 }

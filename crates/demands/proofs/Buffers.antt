@@ -2,13 +2,14 @@
 -- caller has. Assumes nothing.
 use Prim.Native.Nat.{ℕ, ◌+◌, ◌≤◌, ◌<◌}
 use native.Mathlib.Omega.{arith}
-use mathlib.Core.Bool.{Bool, true, false, ◌&&◌, true≢false}
+use mathlib.Core.Bool.{Bool, true, false, ◌&&◌}
 use mathlib.Core.List.{List, ◌++◌}
 use mathlib.Core.Path.{◌≡◌, refl, ap, sym, ◌∙◌}
 use lib.Dec.{leb}
 use lib.IntN.{ℤ, pos}
 use lib.ListN.{length, get_or, take, drop, replicate, length-append, length-replicate}
 use lib.Seq.{take_at, drop_at}
+use Rattle.std.specs.Prelude.{Ok, Err}
 use Rattle.paper.specs.Lists.{nat}
 use Rattle.paper.specs.Checks.{Verdict, accepted, refused, Move, by_lines}
 use Rattle.paper.specs.Moves.{Moves}
@@ -18,10 +19,11 @@ use Rattle.paper.proofs.Sizes.{sized-facts}
 use Rattle.paper.proofs.Outcomes.{build-judged}
 use Rattle.paper.proofs.UpTo.{trial-up-to}
 use Rattle.damage.specs.Saved.{saved_file, saved_list, dropped_rows, reset_values}
-use Rattle.salvage.specs.Salvage.{SalvageLent, SalvageLeft, salvage, SalvageHad}
+use Rattle.tables.specs.Answers.{refusal}
+use Rattle.salvage.specs.Salvage as outcome
+use Rattle.salvage.specs.Salvage.{SalvageLent, SalvageLeft, salvage, left_by_salvage, SalvageHad}
 use Rattle.salvage.specs.Promises.{SavedRight, ComesBack}
-use Rattle.salvage.specs.declared.Salvaged.{Salvaged}
-use Rattle.salvage.specs.declared.Salvaged.TheVariants as salvaged
+use Rattle.salvage.specs.declared.Saved as numbers
 use Rattle.salvage.proofs.Outcome.{salvage-headed, salvage-short, salvage-done}
 use Rattle.salvage.proofs.Builds.{salvage-builds}
 use Rattle.salvage.proofs.Same.{undamaged-same}
@@ -43,26 +45,18 @@ use Rattle.demands.proofs.Three.{built-ok, own-trial-fresh, reasons-long}
 use Rattle.demands.specs.Products.{BuffersRight}
 
 -- ── salvage: an accepted one has the saved file, and how many rows and values are listed ──
-abbrev is_saved : Salvaged → Bool
-is_saved (salvaged.Accepted size rows values) = true
-is_saved (salvaged.Refused number place) = false
-
-abbrev numbers_of : Salvaged → ℕ × ℕ × ℕ
-numbers_of (salvaged.Accepted size rows values) = (size, rows, values)
-numbers_of (salvaged.Refused number place) = (0, 0, 0)
-
 record Saved {l : SalvageLent} (o : SalvageHad l) (size rows values : ℕ) : Type 0 where
   head : by_lines (head_lines version1 l.bytes) accepted ≡ accepted
   file : o.file ≡ saved_file l.bytes ++ drop (length (saved_file l.bytes)) l.file
-  sizes : ◌≡◌ {A = ℕ × ℕ × ℕ} (length (saved_file l.bytes), length (dropped_rows l.bytes), length (reset_values l.bytes)) (size, rows, values)
+  sizes : outcome.saved (length (saved_file l.bytes)) (length (dropped_rows l.bytes)) (length (reset_values l.bytes)) ≡ outcome.saved size rows values
 
-saved-is : (l : SalvageLent) (o : SalvageHad l) (size rows values : ℕ) → o.answer ≡ salvaged.Accepted size rows values → Saved o size rows values
+saved-is : (l : SalvageLent) (o : SalvageHad l) (size rows values : ℕ) → o.answer ≡ Ok (outcome.saved size rows values) → Saved o size rows values
 saved-is l o size rows values e = go (by_lines (head_lines version1 l.bytes) accepted) refl
   where
     -- a refusal is none
-    wrong : (number place : ℕ) (file list : List ℕ) → record { answer = salvaged.Refused number place; file = file; list = list } ≡ salvage l → Saved o size rows values
+    wrong : (number place : ℕ) (file list : List ℕ) → left_by_salvage (Err (refusal number place)) file list ≡ salvage l → Saved o size rows values
     wrong number place file list q =
-        absurd (true≢false (sym (ap is_saved e) ∙ ap (λ (x : SalvageLeft). is_saved x.answer) (o.stated ∙ sym q)))
+        let a : o.answer ≡ Err (refusal number place) = ap (λ (x : SalvageLeft). x.answer) (o.stated ∙ sym q) in cc
 
     go : (v : Verdict) → by_lines (head_lines version1 l.bytes) accepted ≡ v → Saved o size rows values
     go (refused number place) h = wrong number place l.file l.list (salvage-headed l.bytes l.file l.list h)
@@ -73,15 +67,15 @@ saved-is l o size rows values e = go (by_lines (head_lines version1 l.bytes) acc
         fit true q = let is = o.stated ∙ sym (salvage-done l.bytes l.file l.list h q) in record {
           head = h;
           file = ap (λ (x : SalvageLeft). x.file) is;
-          sizes = sym (ap (λ (x : SalvageLeft). numbers_of x.answer) is) ∙ ap numbers_of e;
+          sizes = let a = sym (ap (λ (x : SalvageLeft). x.answer) is) ∙ e in cc;
         }
 
-module _ (l : SalvageLent) (small : (i : ℕ) → nat l.bytes i < 256) (o : SalvageHad l) (size rows values : ℕ) (e : o.answer ≡ salvaged.Accepted size rows values) where
+module _ (l : SalvageLent) (small : (i : ℕ) → nat l.bytes i < 256) (o : SalvageHad l) (size rows values : ℕ) (e : o.answer ≡ Ok (outcome.saved size rows values)) where
   saved : Saved o size rows values
   saved = saved-is l o size rows values e
 
   front : take size o.file ≡ saved_file l.bytes
-  front = ap (take size) saved.file ∙ take_at (saved_file l.bytes) (drop (length (saved_file l.bytes)) l.file) size (ap (λ x. x.0) saved.sizes)
+  front = ap (take size) saved.file ∙ take_at (saved_file l.bytes) (drop (length (saved_file l.bytes)) l.file) size (ap (λ (x : numbers.Saved). x.length) saved.sizes)
 
   saved-right : SavedRight o size
   saved-right = record {
@@ -92,8 +86,8 @@ module _ (l : SalvageLent) (small : (i : ℕ) → nat l.bytes i < 256) (o : Salv
           ap (λ x. x.0) is ∙ has.0,
           λ b q same full fits. ap (λ (x : BuildLeft). number_of x.answer) q.stated ∙ (build-judged b).zero (promise.builds b (same ∙ ap (λ x. cut version1 x.1) is ∙ has.1) full fits),
         );
-    rest = ap (drop size) saved.file ∙ drop_at (saved_file l.bytes) (drop (length (saved_file l.bytes)) l.file) size (ap (λ x. x.0) saved.sizes)
-        ∙ ap (λ k. drop k l.file) (ap (λ x. x.0) saved.sizes);
+    rest = ap (drop size) saved.file ∙ drop_at (saved_file l.bytes) (drop (length (saved_file l.bytes)) l.file) size (ap (λ (x : numbers.Saved). x.length) saved.sizes)
+        ∙ ap (λ k. drop k l.file) (ap (λ (x : numbers.Saved). x.length) saved.sizes);
   }
 
 undamaged : (l : SalvageLent) → ((i : ℕ) → nat l.bytes i < 256) → ComesBack l
@@ -103,7 +97,7 @@ undamaged l small t starts r ok b q is unclosed zero o size rows values e =
     let good = (build-judged b).good (sym (ap (λ (x : BuildLeft). number_of x.answer) q.stated) ∙ zero) in
     let same = undamaged-same l.bytes small (counted 0 0 0 (unbounded_contents t starts)).tables starts (sym (ap (λ x. x.0) r.stated) ∙ ok) b (is ∙ ap (λ x. x.1) r.stated) unclosed good in
     let none : length (dropped_rows l.bytes) + length (reset_values l.bytes) ≡ 0 = sym (length-append (dropped_rows l.bytes) (reset_values l.bytes)) ∙ ap length same.none in
-    let dropped = ap (λ x. x.1) has.sizes in let reset = ap (λ x. x.2) has.sizes in
+    let dropped = ap (λ (x : numbers.Saved). x.rows) has.sizes in let reset = ap (λ (x : numbers.Saved). x.values) has.sizes in
     (front l small o size rows values e ∙ same.file, omega arith, omega arith)
 
 -- ── a batch after a run: its own row of reasons changes neither the answer nor the results ──

@@ -3,20 +3,18 @@ use Prim.Native.Nat.{ℕ}
 use mathlib.Core.List.{List}
 use mathlib.Core.Path.{◌≡◌, refl, ap, sym, ◌∙◌}
 use lib.ListN.{take}
+use Rattle.std.specs.Prelude.{Result, Ok, Err}
 use Rattle.paper.specs.Tables.{Tables}
-use Rattle.paper.specs.Checks.{Verdict, accepted, refused}
+use Rattle.paper.specs.Checks.{Verdict, accepted}
 use Rattle.paper.specs.Calls.{number_of, answered}
 use Rattle.paper.specs.File.{Version, Contents, counted, write_lines, write_verdict, write, read_lines, read_verdict, read, convert_lines, convert_verdict, convert}
 use Rattle.paper.proofs.RoundTrips as paper
 use Rattle.paper.proofs.Converted.{convert-refused}
 use Rattle.files.specs.Answers.{verdict, has_read}
 use Rattle.files.specs.MoveAnswers.{has_converted}
-use Rattle.files.specs.declared.Written.{Written}
-use Rattle.files.specs.declared.Written.TheVariants as written
-use Rattle.files.specs.declared.headers.Reading.{Reading}
-use Rattle.files.specs.declared.headers.Reading.TheVariants as reading
-use Rattle.files.specs.declared.conversions.Converted.{Converted}
-use Rattle.files.specs.declared.conversions.Converted.TheVariants as converted
+use Rattle.tables.specs.Answers.{answer_of}
+use Rattle.tables.specs.declared.Refusal.{Refusal}
+use Rattle.fields.specs.declared.places.Size.{Size}
 use Rattle.files.specs.Stated.{WriteOutcome, left_written, ReadOutcome, left_read, MoveOutcome, left_moved}
 use Rattle.demands.specs.Refusals.{Works}
 use Rattle.demands.proofs.Judged.{works}
@@ -57,34 +55,25 @@ move-works from to bytes lent o =
     (λ wrong. ap (λ z. (x.0, z)) (convert-refused from to bytes lent (some_number x.0 wrong))) o.stated
 
 -- ── the code's answer from what is left ──
-abbrev written_by : Verdict → Written
-written_by accepted = written.Accepted
-written_by (refused number place) = written.Refused number place
+written_is : (r : Result Unit Refusal) → answer_of tt (verdict r) ≡ r
+written_is (Ok done) = refl
+written_is (Err r) = refl
 
-written_is : (r : Written) → written_by (verdict r) ≡ r
-written_is written.Accepted = refl
-written_is (written.Refused number place) = refl
+abbrev read_by : Verdict → Tables → Result Size Refusal
+read_by v t = answer_of (record { n = t.n; m = t.m; e = t.e }) v
 
-abbrev read_by : Verdict → Tables → Reading
-read_by accepted t = reading.Accepted t.n t.m t.e
-read_by (refused number place) t = reading.Refused number place
+read_is : (r : Result Size Refusal) (c : Contents) → let x = has_read r c in (read_by x.0 x.1.tables ≡ r) × (counted 0 0 0 x.1 ≡ counted 0 0 0 c)
+read_is (Ok size) c = (refl, refl)
+read_is (Err r) c = (refl, refl)
 
-read_is : (r : Reading) (c : Contents) → let x = has_read r c in (read_by x.0 x.1.tables ≡ r) × (counted 0 0 0 x.1 ≡ counted 0 0 0 c)
-read_is (reading.Accepted n m e) c = (refl, refl)
-read_is (reading.Refused number place) c = (refl, refl)
-
-abbrev converted_by : Verdict → ℕ → Converted
-converted_by accepted length = converted.Accepted length
-converted_by (refused number place) length = converted.Refused number place
-
-moved-is : (r : Converted) (l : List ℕ) → let x = has_converted r l in (converted_by x.0 x.1.0 ≡ r) × (x.1.1 ≡ l)
-moved-is (converted.Accepted length) l = (refl, refl)
-moved-is (converted.Refused number place) l = (refl, refl)
+moved-is : (r : Result ℕ Refusal) (l : List ℕ) → let x = has_converted r l in (answer_of x.1.0 x.0 ≡ r) × (x.1.1 ≡ l)
+moved-is (Ok length) l = (refl, refl)
+moved-is (Err r) l = (refl, refl)
 
 -- ── any two outcomes that a statement allows are equal ──
 pub write-one : (v : Version) (c : Contents) (lent : List ℕ) (o o' : WriteOutcome v c lent) → (o.answer ≡ o'.answer) × (o.bytes ≡ o'.bytes)
 write-one v c lent o o' = let e = o.stated ∙ sym o'.stated in
-    (sym (written_is o.answer) ∙ ap (λ x. written_by x.0) e ∙ written_is o'.answer, ap (λ x. x.1) e)
+    (sym (written_is o.answer) ∙ ap (λ x. answer_of tt x.0) e ∙ written_is o'.answer, ap (λ x. x.1) e)
 
 pub read_one : (v : Version) (bytes : List ℕ) (lent : Contents) (o o' : ReadOutcome v bytes lent) → (o.answer ≡ o'.answer) × (counted 0 0 0 o.rows ≡ counted 0 0 0 o'.rows)
 read_one v bytes lent o o' =
@@ -94,7 +83,7 @@ read_one v bytes lent o o' =
 pub move-one : (from to : Version) (bytes lent : List ℕ) (o o' : MoveOutcome from to bytes lent) → (o.answer ≡ o'.answer) × (o.buffer ≡ o'.buffer)
 move-one from to bytes lent o o' =
     let e = o.stated ∙ sym o'.stated in let a = moved-is o.answer o.buffer in let a' = moved-is o'.answer o'.buffer in
-    (sym a.0 ∙ ap (λ x. converted_by x.0 x.1.0) e ∙ a'.0, sym a.1 ∙ ap (λ x. x.1.1) e ∙ a'.1)
+    (sym a.0 ∙ ap (λ x. answer_of x.1.0 x.0) e ∙ a'.0, sym a.1 ∙ ap (λ x. x.1.1) e ∙ a'.1)
 
 -- ── what a moved file is taken for: the front of what the call left ──
 pub moved_front : {from to : Version} {bytes lent : List ℕ} (o : MoveOutcome from to bytes lent) → let x = (convert from to bytes lent).1 in

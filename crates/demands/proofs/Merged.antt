@@ -6,12 +6,14 @@ use mathlib.Core.Path.{◌≡◌, refl, ap, sym}
 use lib.Dec.{eqb}
 use lib.IntN.{ℤ}
 use lib.ListN.{length}
+use Rattle.std.specs.Prelude.{Result, Ok, Err}
 use Rattle.paper.specs.Calls.{Session, Model}
 use Rattle.figures.specs.Figures.{outcomes, totals, tallies, fits}
 use Rattle.figures.specs.Laws.{as_batch}
 use Rattle.figures.specs.declared.outcomes.Outcome.{Outcome}
-use Rattle.figures.specs.declared.Counted.{Counted}
-use Rattle.figures.specs.declared.Counted.TheVariants.{Accepted, Refused}
+use Rattle.figures.specs.declared.Totals.{Totals}
+use Rattle.tables.specs.Answers.{refusal}
+use Rattle.tables.specs.declared.Refusal.{Refusal}
 use Rattle.merging.specs.Merge.{merge_fits}
 use Rattle.merging.proofs.Joined.{joined-is-merged}
 use Rattle.capi.specs.Products.{figures_out, merged_out}
@@ -19,7 +21,7 @@ use Rattle.capi.specs.declared.FiguresOutcome.{FiguresOutcome}
 use Rattle.demands.specs.Products.{batch_for_c, JoinedForC}
 
 -- what is not refused fits
-fitted : (t : Bool) (a : Counted × List ℕ) (lent : List ℕ) → (figures_out (cond t a (Refused 1 0, lent))).0.number ≡ 0 → t ≡ true
+fitted : (t : Bool) (a : Result Totals Refusal × List ℕ) (lent : List ℕ) → (figures_out (cond t a (Err (refusal 1 0), lent))).0.number ≡ 0 → t ≡ true
 fitted true a lent is = refl
 fitted false a lent is = absurd (true≢false (sym (ap (λ k. eqb k 0) is)))
 
@@ -32,7 +34,7 @@ module _ (s : Session) (w : Model) (asked : ℕ) (moves moves' : List (List (ℕ
 
   -- the outcome of a batch that fits, or not
   abbrev given : Bool → List Outcome → List ℕ → FiguresOutcome × List ℕ
-  given t came lent = figures_out (cond t (Accepted (totals came), tallies came lent) (Refused 1 0, lent))
+  given t came lent = figures_out (cond t (Ok (totals came), tallies came lent) (Err (refusal 1 0), lent))
 
   abbrev of-both : Bool → Bool → FiguresOutcome × List ℕ
   of-both t t' = merged_out (given t os row).0 (given t' os' row').0 (given t os row).1 (given t' os' row').1 both

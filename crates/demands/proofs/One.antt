@@ -1,13 +1,14 @@
 -- Demand 1, each call by the law of its table: the verdict is by the table's lines, the paper says what a refusal leaves, and the
 -- contract carries both to the outcome. Assumes nothing.
 use mathlib.Core.Path.{◌≡◌, refl, ap, sym, ◌∙◌}
+use Rattle.std.specs.Prelude.{ℕ, Result, Ok, Err}
 use Rattle.paper.specs.Lists.{size}
 use Rattle.paper.specs.Checks.{pairs_of_move}
 use Rattle.paper.specs.Log.{Log}
 use Rattle.paper.specs.Calls.{Session, Answer, Accepted, Refused, evaluates, BuildLent, BuildLeft, build_lines, build_verdict, build_as_was, Model, stored_values, TrialLent, TrialLeft, asked_list, route_of, trial_lines, trial_verdict, trial_as_was, KeepLent, KeepLeft, kept_count, keep_as_was, keep_lines, keep_verdict, latest, TakeLent, take_lines, take_verdict}
 use Rattle.paper.proofs.Outcomes.{build-judged, trial-judged, keep-judged, take-judged}
-use Rattle.tables.specs.declared.Answer as code-answer
-use Rattle.tables.specs.declared.Answer.TheVariants as code
+use Rattle.tables.specs.Answers.{refusal}
+use Rattle.tables.specs.declared.Refusal as code-refusal
 use Rattle.records.specs.Left.{record_in, answer_in}
 use Rattle.records.specs.declared.Session as code-session
 use Rattle.records.specs.declared.Done.{Done}
@@ -50,15 +51,15 @@ module _ (s : Session) (g : Log) (w : Model) where
   take-works c o = call-works (take_lines s g w c) (left_taken o) _ (take-judged s g w c) refl refl refl o.stated
 
 -- ── the code's answer from what is left ──
-abbrev answer_by : Answer → code-answer.Answer
-answer_by (Accepted evaluations) = code.Accepted evaluations
-answer_by (Refused number place) = code.Refused number place
+abbrev answer_by : Answer → Result ℕ code-refusal.Refusal
+answer_by (Accepted evaluations) = Ok evaluations
+answer_by (Refused number place) = Err (refusal number place)
 
-answer-is : (r : code-answer.Answer) → answer_by (answer_in r) ≡ r
-answer-is (code.Accepted evaluations) = refl
-answer-is (code.Refused number place) = refl
+answer-is : (r : Result ℕ code-refusal.Refusal) → answer_by (answer_in r) ≡ r
+answer-is (Ok evaluations) = refl
+answer-is (Err refusal) = refl
 
-pub one_answer : {r r' : code-answer.Answer} → answer_in r ≡ answer_in r' → r ≡ r'
+pub one_answer : {r r' : Result ℕ code-refusal.Refusal} → answer_in r ≡ answer_in r' → r ≡ r'
 one_answer {r} {r'} e = sym (answer-is r) ∙ ap answer_by e ∙ answer-is r'
 
 pub one-record : {s s' : code-session.Session} → record_in s ≡ record_in s' → s ≡ s'

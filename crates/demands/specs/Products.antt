@@ -1,7 +1,7 @@
 -- The calls for C, those above the engine and the programs. Any two outcomes that the statement of one allows are equal, part by part: its answer, the record, and
 -- every row to its end; the four calls and those over files have this in demand 1. And what salvage, the departure board and a batch leave in the buffers that they
 -- are lent, over every outcome that their contracts allow; each crate's own pages say what that is. Assumes nothing.
-use Rattle.std.specs.Prelude.{ℕ, ◌<◌, ◌≤◌, Bool, true, List, ◌++◌, ◌≡◌, ℤ, pos, length, drop, replicate}
+use Rattle.std.specs.Prelude.{ℕ, ◌<◌, ◌≤◌, Bool, true, List, ◌++◌, ◌≡◌, ℤ, pos, length, drop, replicate, Option, Result, Ok}
 use Rattle.std.specs.Int.Signed.{lt_z}
 use Rattle.std.specs.Borrow.{Bor}
 use Rattle.paper.specs.Lists.{nat}
@@ -12,14 +12,13 @@ use Rattle.paper.specs.File.{Contents, counted}
 use Rattle.records.specs.declared.Session as code-session
 use Rattle.records.specs.declared.answers.Outcome.{Outcome}
 use Rattle.records.specs.Stated.{BuildOutcome, left_built}
+use Rattle.salvage.specs.Salvage as salvage
 use Rattle.salvage.specs.Salvage.{SalvageLent, SalvageLeft, SalvageHad}
 use Rattle.salvage.specs.Promises.{SavedRight, ComesBack}
-use Rattle.salvage.specs.declared.Salvaged.TheVariants as salvaged
 use Rattle.times.specs.Windows.{Board}
 use Rattle.times.specs.Order.{WindowGives}
 use Rattle.boards.specs.Board.{BoardLeft, BoardHad}
 use Rattle.boards.specs.Outcome.{ListedRight}
-use Rattle.boards.specs.declared.Listed.TheVariants as listed
 use Rattle.trials.specs.Batch.{Batch}
 use Rattle.trials.specs.Trials.{Question, Rows, trials}
 use Rattle.trials.specs.Laws.{EachAlone, OrderPermutes}
@@ -29,12 +28,12 @@ use Rattle.figures.specs.Figures.{figures}
 use Rattle.figures.specs.Outcomes.{tried_once}
 use Rattle.figures.specs.Laws.{Rearranged, as_batch, FoldOfTrials, BatchHad}
 use Rattle.figures.specs.declared.Totals.{Totals}
-use Rattle.figures.specs.declared.Counted.{Counted}
 use Rattle.tables.specs.Given.{part_named, VeryPart}
 use Rattle.tables.specs.declared.parts.Part.{Part}
 use Rattle.tables.specs.Entries.{went_on}
+use Rattle.tables.specs.declared.Refusal.{Refusal}
 use Rattle.tables.specs.declared.walker.Walker.{Walker}
-use Rattle.tables.specs.declared.walker.Found.{Found}
+use Rattle.tables.specs.declared.walker.Entry.{Entry}
 use Rattle.report.specs.Printed.{printed}
 use Rattle.capi.specs.Outcomes.{had_by_build, built_out, had_by_trial, tried_out, had_by_keep, kept_out, left_by_read, read_out, written_out, moved_out, salvaged_out}
 use Rattle.frequencies.specs.Reading.{Windows, ReadLeft}
@@ -71,7 +70,7 @@ pub record OneForC : Type 0 where
   -- frequencies.txt, read and written
   pub feed-read : (x : ReadLeft) → One (λ (a : ListOutcome × Windows). a) (feed_read x)
   pub feed-written : (x : WriteLeft) → One (λ (a : ListOutcome × List ℕ). a) (feed_written x)
-  pub batch : (x : Counted × List ℕ) → One (λ (a : FiguresOutcome × List ℕ). a) (figures_out x)
+  pub batch : (x : Result Totals Refusal × List ℕ) → One (λ (a : FiguresOutcome × List ℕ). a) (figures_out x)
   pub merged : (first second : FiguresOutcome) (xs ys lent : List ℕ) → One (λ (a : FiguresOutcome × List ℕ). a) (merged_out first second xs ys lent)
   pub many : (x : Answer × Rows) → One (λ (a : Outcome × Rows). a) (trials_out x)
   pub inputs-of-row : (part : ℕ × ℕ) → One (λ (r : Part). r) (part_named part)
@@ -84,10 +83,10 @@ pub record OneProduct : Type 0 where
   -- many moves in one call, and the figures of two batches merged
   pub many : (s : Session) (w : Model) (b : Batch) (q : Question) (lent : Rows) (r r' : Answer) (rows rows' : Rows)
       → (r, rows) ≡ trials s w b q lent → (r', rows') ≡ trials s w b q lent → (r ≡ r') × (rows ≡ rows')
-  pub merged : (a b : Totals) (xs ys lent : List ℕ) (r r' : Counted) (row row' : List ℕ) → (r, row) ≡ merge a b xs ys lent → (r', row') ≡ merge a b xs ys lent → (r ≡ r') × (row ≡ row')
+  pub merged : (a b : Totals) (xs ys lent : List ℕ) (r r' : Result Totals Refusal) (row row' : List ℕ) → (r, row) ≡ merge a b xs ys lent → (r', row') ≡ merge a b xs ys lent → (r ≡ r') × (row ≡ row')
   -- the part that is given back: what it holds, and where it lies
   pub inputs-of-row : (row : Bor (List ℕ)) (part : ℕ × ℕ) (r r' : Bor (List ℕ)) → VeryPart row part r → VeryPart row part r' → (r.now ≡ r'.now) × (r.ref_ptr ≡ r'.ref_ptr)
-  pub walker : (w w₁ w₂ : Walker) (r₁ r₂ : Found) → went_on w w₁ r₁ → went_on w w₂ r₂ → (r₁ ≡ r₂) × (w₁ ≡ w₂)
+  pub walker : (w w₁ w₂ : Walker) (r₁ r₂ : Option Entry) → went_on w w₁ r₁ → went_on w w₂ r₂ → (r₁ ≡ r₂) × (w₁ ≡ w₂)
   -- what `values` and `reasons` print, and the buffer beyond it
   pub prints : (reasons : Bool) (file before after after' : List ℕ) (r r' : ℕ)
       → r ≡ length (printed reasons file) → after ≡ printed reasons file ++ drop r before → r' ≡ length (printed reasons file) → after' ≡ printed reasons file ++ drop r' before
@@ -106,10 +105,10 @@ JoinedForC =
 -- ── what they leave in their buffers ──
 pub record BuffersRight : Type 0 where
   -- the file that salvage saves is read and built, and an undamaged one comes back
-  pub saved : (l : SalvageLent) → ((i : ℕ) → nat l.bytes i < 256) → (o : SalvageHad l) (size rows values : ℕ) → o.answer ≡ salvaged.Accepted size rows values → SavedRight o size
+  pub saved : (l : SalvageLent) → ((i : ℕ) → nat l.bytes i < 256) → (o : SalvageHad l) (size rows values : ℕ) → o.answer ≡ Ok (salvage.saved size rows values) → SavedRight o size
   pub undamaged : (l : SalvageLent) → ((i : ℕ) → nat l.bytes i < 256) → ComesBack l
   -- a board's row begins with the departures in time order
-  pub board : (b : Board) (o : BoardHad b) (size : ℕ) → o.answer ≡ listed.Accepted size → ListedRight o size
+  pub board : (b : Board) (o : BoardHad b) (size : ℕ) → o.answer ≡ Ok size → ListedRight o size
   pub window : (start end headway : ℤ) → lt_z (pos 0) headway ≡ true → WindowGives start end headway
   -- the order of a batch changes nothing
   pub batch : (s : Session) (w : Model) (asked : ℕ) (moves moves' : List (List (ℕ × ℤ))) → Rearranged moves moves' → (lent : List ℕ)

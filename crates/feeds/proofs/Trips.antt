@@ -10,6 +10,7 @@ use lib.IntN.{ℤ, pos, ◌+ℤ◌, ◌*ℤ◌}
 use lib.ListN.{length, get_or, take, length-map}
 use lib.Seq.{take-suc, take-length}
 use lib.Signed.{lt_z}
+use Rattle.std.specs.Prelude.{Ok}
 use Rattle.paper.specs.Lists.{any, total, those}
 use Rattle.paper.specs.Formula.{places, trips}
 use Rattle.paper.proofs.Lists.{clash, or-false-left, or-false-right}
@@ -22,7 +23,6 @@ use Rattle.frequencies.specs.Csv.{Row, row, is_quote, halved_from, halved}
 use Rattle.frequencies.specs.Values.{same}
 use Rattle.frequencies.specs.Reading.{Columns, columns_of, body_in, start_of, end_of, headway_of, Windows, windows_of, header, window_rows, ReadOutcome}
 use Rattle.frequencies.specs.Writing.{name_at, start_at, end_at, headway_given}
-use Rattle.frequencies.specs.declared.Carried.TheVariants.{Accepted}
 use Rattle.frequencies.proofs.Accepted.{ReadKnown, was_read}
 use Rattle.frequencies.proofs.ReadWritten.{told}
 use Rattle.feeds.specs.Feeds.{of_trip, rows_of_trip, row_times, trip_board}
@@ -176,7 +176,7 @@ module _ (bytes : List ℕ) (lent : Windows) (known : ReadKnown bytes lent) wher
           go false e = sym (unhalved bs e)
 
 -- what the board of a trip is lent gives what the rows of that trip give
-pub read-gives : (bytes trip : List ℕ) (lent : Windows) (o : ReadOutcome bytes lent) (count : ℕ) → o.answer ≡ Accepted count → (list : List ℤ) (z : ℤ)
+pub read-gives : (bytes trip : List ℕ) (lent : Windows) (o : ReadOutcome bytes lent) (count : ℕ) → o.answer ≡ Ok count → (list : List ℤ) (z : ℤ)
     → let c = columns_of (header bytes) in let b = trip_board bytes trip o.windows count list in
     times_given b z b.windows ≡ total (map (λ (r : Row). places z (row_times c r)) (rows_of_trip c trip (window_rows bytes)))
 read-gives bytes trip lent o count e list z =

@@ -1,17 +1,15 @@
 -- From the bytes of frequencies.txt to a trip's board: what the board lists is what the rows of that trip in the file say. Assumes nothing.
-use Rattle.std.specs.Prelude.{ℕ, ◌<◌, Bool, true, cond, List, [], ◌∷◌, map, ◌≡◌, ltb, ℤ, pos, ◌+ℤ◌, ◌*ℤ◌, length, get_or, take}
+use Rattle.std.specs.Prelude.{ℕ, ◌<◌, Bool, true, cond, List, [], ◌∷◌, map, ◌≡◌, ltb, ℤ, pos, ◌+ℤ◌, ◌*ℤ◌, length, get_or, take, Ok}
 use Rattle.std.specs.Int.Signed.{lt_z}
 use Rattle.paper.specs.Lists.{total, those}
 use Rattle.paper.specs.Formula.{places, trips}
 use Rattle.times.specs.Windows.{times, Board, lends}
 use Rattle.boards.specs.Board.{BoardHad}
-use Rattle.boards.specs.declared.Listed.TheVariants as listed
 use Rattle.frequencies.specs.Csv.{Row, halved}
 use Rattle.frequencies.specs.Values.{same}
 use Rattle.frequencies.specs.Reading.{Columns, columns_of, body_in, start_of, end_of, headway_of, Windows, header, window_rows, ReadOutcome}
 use Rattle.frequencies.specs.Writing.{name_at, start_at, end_at, headway_given}
 use Rattle.frequencies.specs.Laws.{WrittenIsRead, ReadIsWritten, ReadAgain, WrittenAgain, ReadRefused, WriteRefused, ReadOnce, WriteOnce}
-use Rattle.frequencies.specs.declared.Carried.TheVariants as carried
 
 -- ── in the file ──
 -- a row is of this trip: what stands in its trip_id, each two quotes one, is the name
@@ -35,8 +33,8 @@ trip_board bytes trip w count row = let chosen = those (λ i. same (name_at byte
 -- a file that was read, a name, and an accepted board of that trip: the list has each time as often as the rows of that trip give it, and of a row there is
 -- each start + k · headway that is before its end, and no other
 pub record FileToBoard (bytes trip : List ℕ) : Type 0 where
-  pub lists : (lent : Windows) (o : ReadOutcome bytes lent) (count : ℕ) → o.answer ≡ carried.Accepted count
-      → (row : List ℤ) (q : BoardHad (trip_board bytes trip o.windows count row)) (size : ℕ) → q.answer ≡ listed.Accepted size
+  pub lists : (lent : Windows) (o : ReadOutcome bytes lent) (count : ℕ) → o.answer ≡ Ok count
+      → (row : List ℤ) (q : BoardHad (trip_board bytes trip o.windows count row)) (size : ℕ) → q.answer ≡ Ok size
       → let c = columns_of (header bytes) in (z : ℤ) → places z (take size q.row) ≡ total (map (λ (r : Row). places z (row_times c r)) (rows_of_trip c trip (window_rows bytes)))
   pub gives : (c : Columns) (r : Row) → lt_z (pos 0) (headway_of c r) ≡ true → (k : ℕ)
       → ltb k (length (row_times c r)) ≡ lt_z (start_of c r +ℤ pos k *ℤ headway_of c r) (end_of c r)

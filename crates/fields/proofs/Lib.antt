@@ -1,4 +1,2 @@
-pub mod Widths
 pub mod Runs
-pub mod Signed
-pub mod Heads
+pub mod Copies

@@ -1,35 +1,55 @@
-// What the versions differ in, and where the parts of a file with these counts begin and end. The code says a version as whether its files have bounds.
+// What the versions differ in, and where the parts of a file begin and end.
 ghost use Rattle.std.specs.Prelude.{◌≡◌, ◌≤◌, ◌<◌};
-ghost use Rattle.paper.specs.File.{version_of, version_number, head_of, bounded, rows_from, entries_from, bounds_from, ends_at};
+ghost use Rattle.paper.specs.File.{version_number, head_of, bounded, rows_from, entries_from, bounds_from, ends_at};
+ghost use Rattle.fields.specs.Places.{version_in, Small};
+
+// The versions of a file: the second has bounds behind the entries.
+#[derive(Clone, Copy)]
+pub enum Version {
+    One,
+    Two,
+}
+
+// How many variables, rows and entries a file has.
+#[derive(Clone, Copy)]
+pub struct Size {
+    pub n: usize,
+    pub m: usize,
+    pub e: usize,
+}
 
 // The number in the header.
-pub fn version_number(bounds: bool) -> usize
-    ensures { result ≡ version_number (version_of bounds) }
-{
-    if bounds {
-        return 2;
+impl From<Version> for u16 {
+    ghost from_gives = { λ version r. r ≡ version_number (version_in version) };
+
+    fn from(version: Version) -> u16 {
+        match version {
+            Version::One => 1,
+            Version::Two => 2,
+        }
     }
-    1
 }
 
-// The length of the header.
-pub fn head_length(bounds: bool) -> usize
-    ensures { (result ≡ head_of (version_of bounds)) × (24 ≤ result) × (result ≤ 28) }
-{
-    if bounds {
-        return 28;
+impl Version {
+    // The length of the header.
+    pub fn head_length(self) -> usize
+        ensures { (result ≡ head_of (version_in self)) × (24 ≤ result) × (result ≤ 28) }
+    {
+        match self {
+            Version::One => 24,
+            Version::Two => 28,
+        }
     }
-    24
-}
 
-// Of n variables, how many have bounds in the file.
-pub fn bounded_count(bounds: bool, n: usize) -> usize
-    ensures { (result ≡ bounded (version_of bounds) n) × (result ≤ n) }
-{
-    if bounds {
-        return n;
+    // Of n variables, how many have bounds in the file.
+    pub fn bounded_count(self, n: usize) -> usize
+        ensures { (result ≡ bounded (version_in self) n) × (result ≤ n) }
+    {
+        match self {
+            Version::One => 0,
+            Version::Two => n,
+        }
     }
-    0
 }
 
 // Where the rows begin behind a header.
@@ -49,17 +69,17 @@ pub fn entries_at(head: usize, n: usize, m: usize) -> usize
 }
 
 // Where the entries end, and the bounds begin.
-pub fn bounds_at(head: usize, n: usize, m: usize, e: usize) -> usize
-    requires { (head ≤ 28) × (n < 65536) × (m < 65536) × (e < 65536) }
-    ensures { result ≡ bounds_from head n m e }
+pub fn bounds_at(head: usize, size: Size) -> usize
+    requires { (head ≤ 28) × Small size }
+    ensures { result ≡ bounds_from head size.n size.m size.e }
 {
-    entries_at(head, n, m) + 4 * e
+    entries_at(head, size.n, size.m) + 4 * size.e
 }
 
 // Where the file ends.
-pub fn ends_at(bounds: bool, n: usize, m: usize, e: usize) -> usize
-    requires { (n < 65536) × (m < 65536) × (e < 65536) }
-    ensures { result ≡ ends_at (version_of bounds) n m e }
+pub fn ends_at(version: Version, size: Size) -> usize
+    requires { Small size }
+    ensures { result ≡ ends_at (version_in version) size.n size.m size.e }
 {
-    bounds_at(head_length(bounds), n, m, e) + 8 * bounded_count(bounds, n)
+    bounds_at(version.head_length(), size) + 8 * version.bounded_count(size.n)
 }

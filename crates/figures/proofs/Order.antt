@@ -20,8 +20,9 @@ use Rattle.trials.specs.Laws.{Rearranged, same, behind, swapped, next}
 use Rattle.trials.proofs.Order.{length-kept, map-kept}
 use Rattle.figures.specs.Laws.{laid_behind, as_batch, OrderChangesNothing}
 use Rattle.figures.specs.declared.Totals.{Totals}
-use Rattle.figures.specs.declared.Counted.{Counted}
-use Rattle.figures.specs.declared.Counted.TheVariants.{Accepted, Refused}
+use Rattle.tables.specs.declared.Refusal.{Refusal}
+use Rattle.std.specs.Prelude.{Result, Ok, Err}
+use Rattle.tables.specs.Answers.{refusal}
 use Rattle.figures.proofs.Adding.{plus_assoc, plus_comm, totals-next}
 
 -- ── what another order leaves as it is ──
@@ -73,5 +74,5 @@ order-changes-nothing s w asked moves moves' r row =
     ∙ ap₂ (answer ((leb (length moves') 1000 && leb (length moves') (length (map length moves'))) && leb 22 (length row))) (totals-kept os)
     (over-same (λ k. having k (outcomes s w asked (as_batch moves))) 22 row (λ k. having k (outcomes s w asked (as_batch moves'))) (λ k l. having-kept k os))
   where
-    answer : Bool → Totals → List ℕ → Counted × List ℕ
-    answer b t left = cond b (Accepted t, left) (Refused 1 0, row)
+    answer : Bool → Totals → List ℕ → Result Totals Refusal × List ℕ
+    answer b t left = cond b (Ok t, left) (Err (refusal 1 0), row)

@@ -6,7 +6,8 @@ use lib.IntN.{ℤ, pos}
 use lib.ListN.{get_or}
 use Rattle.paper.specs.Checks.{Move}
 use Rattle.paper.specs.Calls.{Session, number_of, evaluations_of, Model}
-use Rattle.tables.specs.declared.Answer as answer
+use Rattle.std.specs.Prelude.{Result}
+use Rattle.tables.specs.declared.Refusal as answer
 use Rattle.records.specs.Left.{answer_in}
 use Rattle.trials.specs.Trials.{question, Given}
 use Rattle.trials.proofs.Low.{number-low, evaluations-low}
@@ -20,7 +21,7 @@ module _ (s : Session) (w : Model) (asked route : ℕ) (mv : Move) where
   tried-low = (number-low s w _, evaluations-low s w _)
 
   -- what the move is given by one question is what was tried
-  pub tried-is : (r : code.Tried) (a : answer.Answer) (results : List ℤ) (why : List ℕ) → Given s w (question 1 (asked ∷ []) route) mv (pos 0 ∷ []) (0 ∷ []) a results why
+  pub tried-is : (r : code.Tried) (a : Result ℕ answer.Refusal) (results : List ℤ) (why : List ℕ) → Given s w (question 1 (asked ∷ []) route) mv (pos 0 ∷ []) (0 ∷ []) a results why
       → r.number ≡ number_of (answer_in a) → r.evaluations ≡ evaluations_of (answer_in a) → r.result ≡ get_or results 0 (pos 0) → r ≡ tried_once s w asked route mv
   unfolding tried_once
   tried-is r a results why g p q y =

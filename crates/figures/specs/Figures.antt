@@ -1,15 +1,15 @@
 -- A batch of candidate moves in figures, as one function from what the call is lent to what it leaves, over the
 -- outcome of each move (`Outcomes`). Assumes nothing.
-use Rattle.std.specs.Prelude.{ℕ, Bool, cond, ◌&&◌, List, [], ◌∷◌, map, ℤ, pos, ◌+ℤ◌, eqb, leb, length}
+use Rattle.std.specs.Prelude.{ℕ, Bool, cond, ◌&&◌, List, [], ◌∷◌, map, Result, Ok, Err, ℤ, pos, ◌+ℤ◌, eqb, leb, length}
 use Rattle.integers.specs.Integers.{eq_z}
 use Rattle.paper.specs.Lists.{total, tally, over}
 use Rattle.paper.specs.Formula.{blank, lesser, greater}
 use Rattle.paper.specs.Calls.{Session, Model}
+use Rattle.tables.specs.Answers.{refusal}
+use Rattle.tables.specs.declared.Refusal.{Refusal}
 use Rattle.figures.specs.Outcomes.{outcome}
 use Rattle.figures.specs.declared.outcomes.Outcome.{Outcome}
 use Rattle.figures.specs.declared.Totals.{Totals}
-use Rattle.figures.specs.declared.Counted.{Counted}
-use Rattle.figures.specs.declared.Counted.TheVariants.{Accepted, Refused}
 pub use Rattle.trials.specs.Batch.{Batch, batch_of, moves_of}
 
 abbrev pub outcomes : Session → Model → ℕ → Batch → List Outcome
@@ -59,7 +59,7 @@ tallies os = over 22 (λ k. having k os)
 abbrev pub fits : Batch → List ℕ → Bool
 fits b by_number = (leb b.moves 1000 && leb b.moves (length b.pairs)) && leb 22 (length by_number)
 
-abbrev pub figures : Session → Model → ℕ → Batch → List ℕ → Counted × List ℕ
+abbrev pub figures : Session → Model → ℕ → Batch → List ℕ → Result Totals Refusal × List ℕ
 figures s w asked b by_number =
     let os = outcomes s w asked b in
-    cond (fits b by_number) (Accepted (totals os), tallies os by_number) (Refused 1 0, by_number)
+    cond (fits b by_number) (Ok (totals os), tallies os by_number) (Err (refusal 1 0), by_number)

@@ -1,6 +1,6 @@
 -- What holds of the figures: the order of the moves changes nothing, each route gives a move the same number, and they are read off what `trials` gives by each route.
 -- `proofs/Order`, `proofs/Routes` and `proofs/Read` prove it. Assumes nothing.
-use Rattle.std.specs.Prelude.{ℕ, true, List, [], ◌∷◌, ◌++◌, map, ◌≡◌, ℤ, pos, length, get_or, replicate}
+use Rattle.std.specs.Prelude.{ℕ, true, List, [], ◌∷◌, ◌++◌, map, ◌≡◌, Result, ℤ, pos, length, get_or, replicate}
 use Rattle.paper.specs.Lists.{between}
 use Rattle.paper.specs.Checks.{Move}
 use Rattle.paper.specs.Calls.{Session, Model, TrialLeft}
@@ -9,7 +9,8 @@ use Rattle.trials.specs.Batch.{Batch}
 use Rattle.trials.specs.Trials.{question, tries, number_given, evaluations_given}
 use Rattle.figures.specs.Figures.{moves_of, outcomes, figures}
 use Rattle.figures.specs.declared.outcomes.Outcome.{Outcome}
-use Rattle.figures.specs.declared.Counted.{Counted}
+use Rattle.tables.specs.declared.Refusal.{Refusal}
+use Rattle.figures.specs.declared.Totals.{Totals}
 pub use Rattle.trials.specs.Laws.{Rearranged}
 
 -- ── the order of the moves ──
@@ -49,6 +50,6 @@ FoldOfTrials = (s : Session) (w : Model) (asked : ℕ) (b : Batch) → let by = 
 
 -- ── what a caller has at exit; `stated` is the contract's equation ──
 pub record BatchHad (s : Session) (w : Model) (asked : ℕ) (b : Batch) (lent : List ℕ) : Type 0 where
-  pub answer : Counted
+  pub answer : Result Totals Refusal
   pub row : List ℕ
   pub stated : (answer, row) ≡ figures s w asked b lent

@@ -4,8 +4,22 @@ use Rattle.integers.specs.Integers.{away}
 use Rattle.paper.specs.Checks.{Move}
 use Rattle.paper.specs.Calls.{Session, Model, TrialLeft, trial, number_of, evaluations_of}
 use Rattle.paper.specs.Calls as calls
+use Rattle.tables.specs.Lent.{lent_tables, lent_bounds, lent_index}
+use Rattle.tables.specs.declared.lent.Model as code-model
 use Rattle.figures.specs.declared.outcomes.Tried.{Tried}
 use Rattle.figures.specs.declared.outcomes.Outcome.{Outcome}
+
+-- the model that is lent, with zeros for its reasons, of which none is read
+abbrev pub unreasoned : code-model.Model → Model
+unreasoned w = record {
+  tables = lent_tables w.tables;
+  bounds = lent_bounds w.bounds;
+  numbers = w.numbers.now;
+  order = w.order.now;
+  stored = w.stored.now;
+  index = lent_index w.index;
+  reasons = replicate 4096 0;
+}
 
 module _ (s : Session) (w : Model) (asked : ℕ) where
   -- as it is asked of the engine: one variable, a route, and rows of its own

@@ -1,5 +1,5 @@
 // What a move adds to the figures.
-ghost use Rattle.std.specs.Prelude.{cond, ◌≡◌};
+ghost use Rattle.std.specs.Prelude.{cond, ◌≡◌, ℤ};
 ghost use Rattle.paper.specs.Formula.{lesser, greater};
 ghost use Rattle.figures.specs.Figures.{one_of};
 ghost use Rattle.figures.specs.Outcomes.{SmallOutcome};
@@ -10,9 +10,12 @@ use crate::outcomes::Outcome;
 use crate::sums::add_value;
 use formulas::blanks::{BLANK, is_blank};
 
-// The greater of two results if max, else the lesser; a blank one is left out.
-pub fn one_of(max: bool, a: i32, b: i32) -> i32
-    ensures { result ≡ one_of (cond max greater lesser) a b }
+// One of two results, as `pick` gives it of two that have a value; a blank one is left out.
+fn one_of<F: Fn(i32, i32) -> i32>(pick: F, a: i32, b: i32) -> i32
+    ghost f: { ℤ → ℤ → ℤ }
+    requires may { F.IsAlwaysCallable pick }
+    requires picks { (x y r : ℤ) → F.post pick x y r → r ≡ f x y }
+    ensures { result ≡ one_of f a b }
 {
     if is_blank(a) {
         return b;
@@ -20,31 +23,28 @@ pub fn one_of(max: bool, a: i32, b: i32) -> i32
     if is_blank(b) {
         return a;
     }
-    if a <= b {
-        if max { b } else { a }
-    } else {
-        if max { a } else { b }
-    }
+    pick(a, b)
+}
+
+// The lesser of two results; a blank one is left out.
+pub fn least_of(a: i32, b: i32) -> i32
+    ensures { result ≡ one_of lesser a b }
+{
+    one_of(|x, y| x.min(y), a, b)
+}
+
+// The greater of two results; a blank one is left out.
+pub fn greatest_of(a: i32, b: i32) -> i32
+    ensures { result ≡ one_of greater a b }
+{
+    one_of(|x, y| x.max(y), a, b)
 }
 
 // The result of an accepted move, blank for a refused one.
 fn given_by(number: u32, res: i32) -> i32
     ensures { result ≡ result_given number res }
 {
-    if number == 0 {
-        return res;
-    }
-    BLANK
-}
-
-// 1 if a test is passed, else 0.
-fn one_if(test: bool) -> u32
-    ensures { result ≡ cond test 1 0 }
-{
-    if test {
-        return 1;
-    }
-    0
+    if number == 0 { res } else { BLANK }
 }
 
 // The figures with one more move.
@@ -55,9 +55,9 @@ pub(crate) fn add(totals: Totals, outcome: Outcome) -> Totals
     let value = given_by(outcome.number, outcome.result);
     let blank = (outcome.number == 0) & is_blank(outcome.result);
     Totals {
-        blank: totals.blank + one_if(blank),
-        least: one_of(false, totals.least, value),
-        greatest: one_of(true, totals.greatest, value),
+        blank: totals.blank + u32::from(blank),
+        least: least_of(totals.least, value),
+        greatest: greatest_of(totals.greatest, value),
         sum: add_value(totals.sum, value),
         first: totals.first + outcome.first,
         second: totals.second + outcome.second,

@@ -6,7 +6,7 @@ mod batch;
 mod outcomes;
 mod sums;
 
-pub use add::one_of;
+pub use add::{greatest_of, least_of};
 pub use batch::figures;
 
 // The figures of the moves together: blank results; least, greatest and sum of those that have a value; evaluations by each route.
@@ -19,11 +19,4 @@ pub struct Totals {
     pub first: u32,
     pub second: u32,
     pub third: u32,
-}
-
-// What the call answers.
-#[derive(Drop)]
-pub enum Counted {
-    Accepted { totals: Totals },
-    Refused { number: u32, place: u32 },
 }

@@ -13,5 +13,5 @@ pub(crate) fn add_value(sum: i64, value: i32) -> i64
     if is_blank(value) {
         return sum;
     }
-    sum + (value as i64)
+    sum + i64::from(value)
 }

@@ -1,44 +1,31 @@
--- Bytes copied one by one are a part of the file that they come from; and what a file with these counts is moved to, by what each step leaves.
--- Assumes nothing.
-use Prim.Native.Nat.{ℕ, zero, suc, ◌+◌, ◌-◌, ◌*◌, ◌≤◌, ◌<◌}
+-- What a file with these counts is moved to, by what each step leaves. Assumes nothing.
+use Prim.Native.Nat.{ℕ, ◌+◌, ◌-◌, ◌*◌, ◌≤◌, ◌<◌}
 use native.Mathlib.Omega.{arith}
-use mathlib.Core.List.{List, [], ◌∷◌, ◌++◌}
-use mathlib.Core.Path.{◌≡◌, refl, ap₂, sym, ◌∙◌}
-use lib.ListN.{length, take, drop, set, length-drop}
-use lib.Seq.{sets, get_or-drop}
-use Rattle.paper.specs.Lists.{nat, joined, below, first_fail}
+use mathlib.Core.List.{List}
+use mathlib.Core.Path.{◌≡◌, refl, ap, ◌∙◌}
+use lib.ListN.{length, take, drop}
+use lib.Seq.{sets}
+use Rattle.paper.specs.Lists.{joined, first_fail}
 use Rattle.paper.specs.Checks.{Verdict, accepted, refused}
 use Rattle.paper.specs.File.{Version, head_of, bounded, bounds_from, ends_at, head_bytes, n_in, header, full_bytes, full_in, convert}
-use Rattle.paper.proofs.Buffers.{below-list}
 use Rattle.paper.proofs.Verdicts.{Past}
 use Rattle.paper.proofs.Reading.{headed}
 use Rattle.paper.proofs.Converted.{convert-headless, convert-lost, convert-narrow, convert-done}
 use Rattle.files.specs.HeaderAnswers.{answer, Stated}
-use Rattle.files.specs.declared.headers.Reading.{Reading}
-use Rattle.files.specs.declared.headers.Reading.TheVariants.{Refused}
+use mathlib.Core.Bool.{Bool, true, false, cond}
+use lib.Dec.{ltb}
+use borrow.Author.Tests.{ltb-true, ltb-false}
+use Rattle.std.specs.Prelude.{Option, Ok, Err, Some, None}
+use Rattle.integers.specs.Below.{if_below}
+use Rattle.tables.specs.Answers.{refusal, unless_at}
+use Rattle.tables.specs.declared.Refusal.{Refusal}
 use Rattle.files.proofs.HeaderAnswered.{turned}
 use Rattle.files.specs.Moving.{full_at}
 
--- ── bytes from a place on, one by one ──
-abbrev pub byte_from : List ℕ → ℕ → ℕ → List ℕ
-byte_from bytes from i = nat bytes (from + i) ∷ []
-
-each-byte : (bytes : List ℕ) (from k : ℕ) → joined (byte_from bytes from) k ≡ below (nat (drop from bytes)) k
-each-byte bytes from zero = refl
-each-byte bytes from (suc k) = ap₂ (λ l x. l ++ (x ∷ [])) (each-byte bytes from k) (sym (get_or-drop from bytes k 0))
-
-pub bytes-part : (bytes : List ℕ) (from k : ℕ) → from + k ≤ length bytes → joined (byte_from bytes from) k ≡ take k (drop from bytes)
-bytes-part bytes from k l = let left = length-drop from bytes in each-byte bytes from k ∙ below-list (drop from bytes) 0 k (omega arith)
-
--- one byte stored is a run of one
-pub one_byte : (l : List ℕ) (at i x : ℕ) → set l (at + i) x ≡ sets l (at + 1 * i) (x ∷ [])
-one_byte l at i x = let z : at + 1 * i ≡ at + i = omega arith in rw z
-
 -- ── a file with a wrong header ──
-module _ (v : Version) (bytes : List ℕ) {r : Reading} (q : r ≡ answer bytes (header v bytes)) where
-  pub refused-move : {number place : ℕ} → r ≡ Refused number place → (to : Version) (file : List ℕ)
-      → ◌≡◌ {A = Verdict × (ℕ × List ℕ)} (refused number place, (0, file)) (convert v to bytes file)
-  refused-move {number} {place} h to file = convert-headless v to bytes file number place (turned bytes (header v bytes) (sym h ∙ q))
+pub refused-move : (v : Version) (bytes : List ℕ) {r : Refusal} → Err r ≡ answer bytes (header v bytes) → (to : Version) (file : List ℕ)
+    → ◌≡◌ {A = Verdict × (ℕ × List ℕ)} (refused r.number r.place, (0, file)) (convert v to bytes file)
+refused-move v bytes {r} q to file = convert-headless v to bytes file r.number r.place (turned bytes (header v bytes) q)
 
 -- ── a file with a right header and these counts ──
 pub record Facts (from : Version) (bytes : List ℕ) (n m e : ℕ) : Type 0 where
@@ -56,6 +43,21 @@ facts from bytes {n} {m} {e} s =
       e-most = omega arith;
       whole = rw (s.n-is, s.m-is, s.e-is) h.whole;
     }
+
+-- ── a place that is refused if there is one ──
+pub refused-at : (number m k : ℕ) {at : Option ℕ} {r : Refusal} → at ≡ if_below m k → Err r ≡ unless_at number at → (k < m) × (r ≡ refusal number k)
+refused-at number m k {at} {r} p q = go (ltb k m) refl (q ∙ ap (unless_at number) p)
+  where
+    go : (b : Bool) → ltb k m ≡ b → Err r ≡ unless_at number (cond b (Some k) None) → (k < m) × (r ≡ refusal number k)
+    go true e q = (ltb-true k m e, cc)
+    go false e q = let z : ◌≡◌ {A = ℕ} 0 1 = cc in absurd (omega arith)
+
+pub passed-at : (number m k : ℕ) {at : Option ℕ} {done : Unit {0}} → at ≡ if_below m k → Ok done ≡ unless_at number at → m ≤ k
+passed-at number m k {at} {done} p q = go (ltb k m) refl (q ∙ ap (unless_at number) p)
+  where
+    go : (b : Bool) → ltb k m ≡ b → Ok done ≡ unless_at number (cond b (Some k) None) → m ≤ k
+    go true e q = let z : ◌≡◌ {A = ℕ} 0 1 = cc in absurd (omega arith)
+    go false e q = ltb-false k m e
 
 module _ (from to : Version) (bytes : List ℕ) {n m e : ℕ} (s : Stated bytes (header from bytes) n m e) (file : List ℕ) (k : ℕ)
     (f : k ≡ first_fail (full_at bytes (bounds_from (head_of from) n m e)) (bounded from n)) where

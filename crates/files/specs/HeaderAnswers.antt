@@ -1,14 +1,17 @@
 -- The answer to a header as the paper numbers it. Assumes nothing.
-use Rattle.std.specs.Prelude.{List, ◌≡◌, ℕ}
-use Rattle.paper.specs.Checks.{Verdict, accepted, refused}
+use Rattle.std.specs.Prelude.{List, ◌≡◌, ℕ, Result}
+use Rattle.paper.specs.Checks.{Verdict, accepted}
 use Rattle.paper.specs.File.{n_in, m_in, e_in}
-use Rattle.files.specs.declared.headers.Reading.{Reading}
-use Rattle.files.specs.declared.headers.Reading.TheVariants as reading
+use Rattle.tables.specs.declared.Refusal.{Refusal}
+use Rattle.tables.specs.Answers.{answer_of}
+use Rattle.fields.specs.declared.places.Size.{Size}
+
+abbrev pub size_in : List ℕ → Size
+size_in bytes = record { n = n_in bytes; m = m_in bytes; e = e_in bytes }
 
 -- the answer that a verdict on a file gives
-abbrev pub answer : List ℕ → Verdict → Reading
-answer bytes accepted = reading.Accepted (n_in bytes) (m_in bytes) (e_in bytes)
-answer bytes (refused number place) = reading.Refused number place
+abbrev pub answer : List ℕ → Verdict → Result Size Refusal
+answer bytes = answer_of (size_in bytes)
 
 -- the verdict is acceptance, and these are the counts that the file states
 pub record Stated (bytes : List ℕ) (w : Verdict) (n m e : ℕ) : Type 0 where

@@ -11,83 +11,52 @@ ghost use Rattle.std.specs.Prelude.{◌≡◌};
 ghost use Rattle.paper.specs.Tables.{lent};
 ghost use Rattle.paper.specs.Checks.{accepted, by_lines};
 ghost use Rattle.files.specs.HeaderAnswers.{answer};
+ghost use Rattle.tables.specs.Lent.{lent_tables};
 ghost use Rattle.files.specs.Answers.{verdict, has_read};
+ghost use Rattle.files.specs.Lent.{lent_contents};
 ghost use Rattle.paper.specs.File as File;
 
-use crate::headers::{Reading, counts_as};
+use crate::headers::counts_as;
 use crate::lay::read_as;
 use crate::store::write_as;
+use fields::places::{Size, Version};
+use tables::Refusal;
+use tables::lent::{Bounds, Tables};
 
-// What a call that writes answers: the file stands in front of the bytes, or why not.
-#[derive(Drop)]
-pub enum Written {
-    Accepted,
-    Refused { number: u32, place: u32 },
-}
-
-// The counts that a file of version 1 states, or the first of its length, its version and its counts that is wrong.
-pub fn counts(bytes: &[u8]) -> Reading
+// The size that a file of version 1 states, or the first of its length, its version and its counts that is wrong.
+pub fn counts(bytes: &[u8]) -> Result<Size, Refusal>
     ensures { result ≡ answer bytes.now (by_lines (File.head_lines File.version1 bytes.now) accepted) }
 {
-    counts_as(bytes, false)
+    counts_as(bytes, Version::One)
 }
 
 // Stores the file of a model, of version 1, in front of the lent bytes.
-pub fn write(
-    n: usize,
-    m: usize,
-    e: usize,
-    starts: &[i32],
-    kinds: &[u16],
-    makes: &[u16],
-    params: &[i32],
-    firsts: &[u16],
-    counts: &[u16],
-    vars: &[u16],
-    coefs: &[i16],
-    bytes: &mut [u8],
-) -> Written
+pub fn write(tables: &Tables, starts: &[i32], bytes: &mut [u8]) -> Result<(), Refusal>
     ensures { (verdict result, bytes.new)
-        ≡ File.write File.version1 (File.unbounded_contents
-        (lent n m e kinds.now makes.now params.now firsts.now counts.now vars.now coefs.now)
-        starts.now) bytes.old }
+        ≡ File.write File.version1 (File.unbounded_contents (lent_tables tables.now) starts.now) bytes.old }
 {
-    let none = [0i32; 0];
-    write_as(
-        false, n, m, e, starts, kinds, makes, params, firsts, counts, vars, coefs, &none, &none,
-        bytes,
-    )
+    let none = Bounds {
+        lows: &[],
+        highs: &[],
+    };
+    write_as(Version::One, tables, starts, &none, bytes)
 }
 
 // Stores the file of a model with bounds, of version 2, in front of the lent bytes.
 pub fn write_bounded(
-    n: usize,
-    m: usize,
-    e: usize,
+    tables: &Tables,
     starts: &[i32],
-    kinds: &[u16],
-    makes: &[u16],
-    params: &[i32],
-    firsts: &[u16],
-    counts: &[u16],
-    vars: &[u16],
-    coefs: &[i16],
-    lows: &[i32],
-    highs: &[i32],
+    bounds: &Bounds,
     bytes: &mut [u8],
-) -> Written
+) -> Result<(), Refusal>
     ensures { (verdict result, bytes.new)
-        ≡ File.write File.version2 (File.contents
-        (lent n m e kinds.now makes.now params.now firsts.now counts.now vars.now coefs.now)
-        starts.now lows.now highs.now) bytes.old }
+        ≡ File.write File.version2 (lent_contents tables.now starts.now bounds.now) bytes.old }
 {
-    write_as(
-        true, n, m, e, starts, kinds, makes, params, firsts, counts, vars, coefs, lows, highs,
-        bytes,
-    )
+    write_as(Version::Two, tables, starts, bounds, bytes)
 }
 
 // Lays the model that a file of version 1 holds over the lent rows.
+// Stays: the rows are written: with a struct of them lent as `&mut` the goal `returns-clause-kinds_after` of lay_rows stayed open, and each row would need a clause that it is still the caller's.
 pub fn read(
     bytes: &[u8],
     starts: &mut [i32],
@@ -98,7 +67,7 @@ pub fn read(
     counts: &mut [u16],
     vars: &mut [u16],
     coefs: &mut [i16],
-) -> Reading
+) -> Result<Size, Refusal>
     ensures { has_read result (File.unbounded_contents
         (lent 0 0 0 kinds.new makes.new params.new firsts.new counts.new vars.new coefs.new)
         starts.new)
@@ -106,15 +75,24 @@ pub fn read(
         (lent 0 0 0 kinds.old makes.old params.old firsts.old counts.old vars.old coefs.old)
         starts.old) }
 {
-    let mut lows = [0i32; 0];
-    let mut highs = [0i32; 0];
     read_as(
-        false, bytes, starts, kinds, makes, params, firsts, counts, vars, coefs, &mut lows,
-        &mut highs,
+        Version::One,
+        bytes,
+        starts,
+        kinds,
+        makes,
+        params,
+        firsts,
+        counts,
+        vars,
+        coefs,
+        &mut [],
+        &mut [],
     )
 }
 
 // Lays the model with bounds that a file of version 2 holds over the lent rows.
+// Stays: the rows are written: with a struct of them lent as `&mut` the goal `returns-clause-kinds_after` of lay_rows stayed open, and each row would need a clause that it is still the caller's.
 pub fn read_bounded(
     bytes: &[u8],
     starts: &mut [i32],
@@ -127,7 +105,7 @@ pub fn read_bounded(
     coefs: &mut [i16],
     lows: &mut [i32],
     highs: &mut [i32],
-) -> Reading
+) -> Result<Size, Refusal>
     ensures { has_read result (File.contents
         (lent 0 0 0 kinds.new makes.new params.new firsts.new counts.new vars.new coefs.new)
         starts.new lows.new highs.new)
@@ -136,6 +114,17 @@ pub fn read_bounded(
         starts.old lows.old highs.old) }
 {
     read_as(
-        true, bytes, starts, kinds, makes, params, firsts, counts, vars, coefs, lows, highs,
+        Version::Two,
+        bytes,
+        starts,
+        kinds,
+        makes,
+        params,
+        firsts,
+        counts,
+        vars,
+        coefs,
+        lows,
+        highs,
     )
 }

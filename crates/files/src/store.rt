@@ -1,60 +1,47 @@
 // Writing, whatever the version.
 ghost use Rattle.std.specs.Prelude.{◌≡◌};
-ghost use Rattle.paper.specs.Tables.{lent};
+ghost use Rattle.fields.specs.Places.{version_in};
 ghost use Rattle.files.specs.Answers.{verdict};
+ghost use Rattle.files.specs.Lent.{lent_contents};
 ghost use Rattle.paper.specs.File as File;
 
-use crate::Written;
 use crate::lay::rows_held;
 use fields::limits::put_bounds;
 use fields::lines::{put_entries, put_header, put_rows, put_starts};
-use fields::places::{bounded_count, bounds_at, ends_at, head_length};
+use fields::places::{Size, Version, bounds_at, ends_at};
+use tables::lent::{Bounds, Tables};
+use tables::{Refusal, refused};
 
 // Stores the file of a model in front of the lent bytes.
+// Stays: a version beside bounds that version 1 leaves empty, as `File.write` and `File.unbounded_contents` have it.
 pub fn write_as(
-    bounds: bool,
-    n: usize,
-    m: usize,
-    e: usize,
+    version: Version,
+    tables: &Tables,
     starts: &[i32],
-    kinds: &[u16],
-    makes: &[u16],
-    params: &[i32],
-    firsts: &[u16],
-    counts: &[u16],
-    vars: &[u16],
-    coefs: &[i16],
-    lows: &[i32],
-    highs: &[i32],
+    bounds: &Bounds,
     bytes: &mut [u8],
-) -> Written
+) -> Result<(), Refusal>
     ensures { (verdict result, bytes.new)
-        ≡ File.write (File.version_of bounds) (File.contents
-        (lent n m e kinds.now makes.now params.now firsts.now counts.now vars.now coefs.now)
-        starts.now lows.now highs.now) bytes.old }
+        ≡ File.write (version_in version) (lent_contents tables.now starts.now bounds.now) bytes.old }
 {
-    let held = rows_held(
-        bounds, n, m, e, starts, kinds, makes, params, firsts, counts, vars, coefs, lows, highs,
-    );
-    if !held {
-        return Written::Refused {
-            number: 1,
-            place: 0,
-        };
+    if !rows_held(version, tables, starts, bounds) {
+        return Err(refused(1, 0));
     }
-    if bytes.len() < ends_at(bounds, n, m, e) {
-        return Written::Refused {
-            number: 1,
-            place: 0,
-        };
+    let size = Size {
+        n: tables.n,
+        m: tables.m,
+        e: tables.e,
+    };
+    if bytes.len() < ends_at(version, size) {
+        return Err(refused(1, 0));
     }
-    let head = head_length(bounds);
-    let at = bounds_at(head, n, m, e);
-    let count = bounded_count(bounds, n);
-    put_header(bytes, bounds, n, m, e);
-    put_starts(bytes, head, n, starts);
-    put_rows(bytes, head, n, m, kinds, makes, params, firsts, counts);
-    put_entries(bytes, head, n, m, e, vars, coefs);
-    put_bounds(bytes, at, count, lows, highs);
-    Written::Accepted
+    let head = version.head_length();
+    let at = bounds_at(head, size);
+    let count = version.bounded_count(tables.n);
+    put_header(bytes, version, size);
+    put_starts(bytes, head, tables.n, starts);
+    put_rows(bytes, head, tables);
+    put_entries(bytes, head, tables);
+    put_bounds(bytes, at, count, bounds);
+    Ok(())
 }

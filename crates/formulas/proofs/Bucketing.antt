@@ -60,8 +60,3 @@ together z (x ∷ xs) = go (eq_z x z) refl (together z xs)
 
 pub alone : {xs : List ℤ} {counts : List ℕ} {k : ℕ} → Bucketed xs counts → (z : ℤ) → k ≡ bucket_of z → k < 2048 → nat counts k < 2 → leb 2 (places z xs) ≡ false
 alone {xs} {counts} {k} b z e low few = lt-leb 2 (places z xs) (omega (arith, together z xs, b.at k low ∙ ap (λ j. tally (λ x. eqb (bucket_of x) j) xs) e))
-
--- ── at most one more each time ──
-pub one-most : (t : Bool) {n : ℕ} → n ≡ cond t 1 0 → n ≤ 1
-one-most true e = omega arith
-one-most false e = omega arith

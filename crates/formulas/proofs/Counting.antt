@@ -74,3 +74,8 @@ blank-copied xs held n long e =
   where
     room : n ≤ length held
     room = let all = ap (λ (l : List ℤ). length l) e in let cut = length-take n held in omega arith
+
+-- ── at most one more each time ──
+pub one-most : (t : Bool) {n : ℕ} → n ≡ cond t 1 0 → n ≤ 1
+one-most true e = omega arith
+one-most false e = omega arith

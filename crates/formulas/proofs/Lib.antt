@@ -4,5 +4,6 @@ pub mod Counting
 pub mod Bucketing
 pub mod Skipping
 pub mod Pairs
+pub mod Marking
 pub mod Sums
 pub mod Rows

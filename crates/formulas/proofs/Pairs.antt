@@ -3,7 +3,7 @@ use Prim.Native.Nat.{ℕ, ◌+◌, ◌≤◌, ◌<◌}
 use native.Mathlib.Nat.{le_refl, lt_irrefl}
 use native.Mathlib.Omega.{arith}
 use mathlib.Core.Bool.{Bool, true, false, cond, not, ◌||◌, or-false, or_assoc}
-use mathlib.Core.List.{List, ◌∷◌}
+use mathlib.Core.List.{List, [], ◌∷◌}
 use mathlib.Core.Path.{◌≡◌, refl, ap, ap₂, sym, ◌∙◌, subst, fun_ext}
 use borrow.Author.Tests.{ltb-true, ltb-false, le-leb, lt-leb, eqb-true, eqb-false}
 use lib.Dec.{eqb, ltb, leb}
@@ -67,6 +67,20 @@ module _ {p : ℤ → Bool} {xs : List ℤ} {first : ℕ} where
 pub same_bits : (x z : ℤ) → SFits w32 x → SFits w32 z → eqb (of_z w32 x) (of_z w32 z) ≡ eq_z x (to_z w32 (of_z w32 z))
 same_bits x z f g = eqb-bits w32 x z f g ∙ ap (eq_z x) (sym (to_z-of_z g))
 
+-- one of the values of a short list
+pub one-any : (z : ℤ) → ◌≡◌ {A = ℤ → Bool} (λ x. any (eq_z x) (z ∷ [])) (λ x. eq_z x z)
+one-any z = fun_ext (λ x. or-false (eq_z x z))
+
+pub four-any : (a b c d : ℤ) → (λ (x : ℤ). any (eq_z x) (a ∷ b ∷ c ∷ d ∷ [])) ≡ among_four a b c d
+four-any a b c d = fun_ext (λ x. go (eq_z x a) (eq_z x b) (eq_z x c) (eq_z x d))
+  where
+    go : (p q r s : Bool) → (p || (q || (r || (s || false)))) ≡ (p || q || r || s)
+    go true q r s = refl
+    go false true r s = refl
+    go false false true s = refl
+    go false false false true = refl
+    go false false false false = refl
+
 -- ── what the other places decide ──
 eq_z-back : (a b : ℤ) → eq_z a b ≡ eq_z b a
 eq_z-back a b = go (eq_z a b) refl (eq_z b a) refl
@@ -96,7 +110,7 @@ three-besides a b s t u =
     flat false true = refl
     flat false false = sym (or_assoc t u (ltb 0 b))
 
-again : (a b : Bool) → cond b all_bits (cond a all_bits 0) ≡ cond (a || b) all_bits 0
+pub again : (a b : Bool) → cond b all_bits (cond a all_bits 0) ≡ cond (a || b) all_bits 0
 again true true = refl
 again true false = refl
 again false b = refl
@@ -104,6 +118,10 @@ again false b = refl
 set? : (t : Bool) → not (eqb (cond t all_bits 0) 0) ≡ t
 set? true = refl
 set? false = refl
+
+-- the test of the mark of a value
+pub told-at : (m : ℕ) {some : Bool} {l r : List ℕ} → l ≡ r → nat r m ≡ cond some all_bits 0 → not (eqb (nat l m) 0) ≡ some
+told-at m {some} e q = ap (λ l. not (eqb (nat l m) 0)) e ∙ ap (λ n. not (eqb n 0)) q ∙ set? some
 
 by-four : (P : ℤ → ℤ → ℤ → ℤ → Type 0) {a b c d a' b' c' d' : ℤ} → a ≡ a' → b ≡ b' → c ≡ c' → d ≡ d' → P a b c d → P a' b' c' d'
 by-four P {a} {b} {c} {d} {a'} {b'} {c'} {d'} ea eb ec ed w =

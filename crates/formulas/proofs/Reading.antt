@@ -1,12 +1,12 @@
 -- A row's inputs place by place. Assumes nothing.
-use Prim.Native.Nat.{ℕ, zero, suc, ◌+◌, ◌≤◌, ◌<◌}
+use Prim.Native.Nat.{ℕ, zero, suc, ◌+◌, ◌-◌, ◌≤◌, ◌<◌}
 use native.Mathlib.Omega.{arith}
 use mathlib.Core.Bool.{◌||◌, or-false, or_assoc}
 use mathlib.Core.List.{List, [], ◌∷◌}
 use mathlib.Core.Path.{◌≡◌, refl, ap, sym, ◌∙◌}
 use lib.IntN.{ℤ, pos}
 use lib.ListN.{length, get_or, take, drop, length-map, drop_of_length-le}
-use lib.Seq.{take_all}
+use lib.Seq.{take_all, get_or-take, get_or-drop}
 use Rattle.integers.specs.Integers.{eq_z}
 use Rattle.paper.specs.Lists.{nat}
 use Rattle.paper.specs.Formula.{blank, input_at, some_blank}
@@ -34,6 +34,13 @@ pub inputs-at : (vars : List ℕ) (values : List ℤ) (i : ℕ) → i < length v
 inputs-at [] values i h = absurd (omega arith)
 inputs-at (v ∷ vars) values zero h = refl
 inputs-at (v ∷ vars) values (suc i) h = inputs-at vars values i (omega arith)
+
+-- the value of the variable in place i, or in place i of all but the first
+pub this-input : (vars : List ℕ) (values : List ℤ) (i v : ℕ) → i < length vars → v ≡ nat vars i → get_or values v (pos 0) ≡ input_at (inputs vars values) i
+this-input vars values i v h e = ap (λ u. get_or values u (pos 0)) e ∙ sym (inputs-at vars values i h)
+
+pub later-input : (vars : List ℕ) (values : List ℤ) (i v : ℕ) → i + 1 < length vars → v ≡ nat (take (length vars - 1) (drop 1 vars)) i → get_or values v (pos 0) ≡ input_at (inputs vars values) (i + 1)
+later-input vars values i v h e = let q : 1 + i ≡ i + 1 = omega arith in this-input vars values (i + 1) v h (e ∙ get_or-take (length vars - 1) (drop 1 vars) i 0 (omega arith) ∙ get_or-drop 1 vars i 0 ∙ ap (nat vars) q)
 
 -- ── whether one of two or of three is blank ──
 pub two-blank : (vars : List ℕ) (values : List ℤ) → length vars ≡ 2

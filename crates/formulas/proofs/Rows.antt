@@ -12,7 +12,7 @@ use Rattle.paper.specs.Lists.{between}
 use Rattle.paper.specs.Checks.{arity}
 use Rattle.paper.proofs.Lists.{and_left, and_right, all-at}
 use Rattle.paper.proofs.Scan.{part_length}
-use Rattle.formulas.specs.Inputs.{part_of}
+use Rattle.formulas.specs.Inputs.{part_of, Within}
 use Rattle.formulas.specs.Row.{Row, PartFits}
 
 -- ── how many inputs ──
@@ -40,12 +40,11 @@ three-inputs kind n k suits =
     eqb-true n 3 (rw k at last)
 
 -- ── a row's part ──
-pub part-row : {kind first count : ℕ} {coefs : List ℤ} {vars : List ℕ} {values : List ℤ} → PartFits kind first count coefs vars values
-    → Row kind (part_of first count coefs) (part_of first count vars) values
-part-row {kind} {first} {count} {coefs} {vars} {values} p =
-    let v = part_length vars first count p.in-vars in
-    record {
-      same = part_length coefs first count p.in-coefs ∙ sym v;
-      suits = ap (arity kind) v ∙ p.suits;
-      within = record { each = λ i h. ltb-true _ _ (all-at (λ u. ltb u (length values)) (part_of first count vars) p.below i 0 h) };
-    }
+module _ {kind first count : ℕ} {coefs : List ℤ} {vars : List ℕ} {values : List ℤ} (p : PartFits kind first count coefs vars values) where
+  pub part-row : Row kind (part_of first count coefs) (part_of first count vars)
+  part-row =
+      let v = part_length vars first count p.in-vars in
+      record { same = part_length coefs first count p.in-coefs ∙ sym v; suits = ap (arity kind) v ∙ p.suits }
+
+  pub part-within : Within (part_of first count vars) values
+  part-within = record { each = λ i h. ltb-true _ _ (all-at (λ u. ltb u (length values)) (part_of first count vars) p.below i 0 h) }

@@ -8,12 +8,13 @@ use mathlib.Core.Path.{◌≡◌, refl, ap, sym, ◌∙◌}
 use borrow.Author.Tests.{le-leb, eqb-false}
 use lib.IntN.{ℤ, pos, negsuc, nat_abs, ◌+ℤ◌, ◌-ℤ◌, +ℤ_assoc, +ℤ_idr}
 use lib.ListN.{length, drop}
-use lib.Signed.{le_z}
+use lib.Signed.{lt_z, le_z}
+use Rattle.std.specs.Int.{int_min, int_max}
 use mir.Syntax.{w32}
 use mir.Val.{SFits}
 use Rattle.integers.specs.Integers.{up, dn, eq_z}
 use Rattle.integers.proofs.Parts.{one-part, dif-bal}
-use Rattle.integers.proofs.Order.{le_yes, le-no, yes_le, no_le, eq_z-yes, nat_abs-away}
+use Rattle.integers.proofs.Order.{lt_yes, lt_no, le_yes, le-no, yes_le, no_le, eq_z-yes, nat_abs-away}
 use Rattle.integers.proofs.Ranges.{fits-parts}
 use Rattle.paper.specs.Formula.{blank, fit, lesser, greater, valued, extreme, input_at}
 use Rattle.formulas.specs.Inputs.{inputs}
@@ -111,6 +112,22 @@ module _ (y x : ℤ) (f : SFits w32 y) (g : SFits w32 x) where
       go false true d e = known y d
       go false false d e = known (choice max y x) (of-choice HasValue max (has_value y f d) (has_value x g e)).not-blank
 
+-- the lesser, as the method of the numbers has it
+pub min-lesser : (a b : ℤ) → int_min a b ≡ lesser a b
+min-lesser a b = go (lt_z b a) refl
+  where
+    go : (t : Bool) → lt_z b a ≡ t → cond t b a ≡ lesser a b
+    go true e = ap (λ t. cond t a b) (sym (no_le a b (lt_yes b a e)))
+    go false e = ap (λ t. cond t a b) (sym (yes_le a b (lt_no b a e)))
+
+-- and the greater
+pub max-greater : (a b : ℤ) → int_max a b ≡ greater a b
+max-greater a b = go (lt_z b a) refl
+  where
+    go : (t : Bool) → lt_z b a ≡ t → cond t a b ≡ greater a b
+    go true e = ap (λ t. cond t b a) (sym (no_le a b (lt_yes b a e)))
+    go false e = ap (λ t. cond t b a) (sym (yes_le a b (lt_no b a e)))
+
 -- ── the walk ──
 -- what it holds past the inputs before i stands for an input that leaves, with those from i on, what all leave
 pub record Left (max : Bool) (vars : List ℕ) (values : List ℤ) (i : ℕ) (z : ℤ) : Type 0 where
@@ -144,3 +161,8 @@ module _ {max : Bool} {vars : List ℕ} {values : List ℤ} where
       go : (b : Bool) → eq_z l.best blank ≡ b → l.best ≡ extreme (choice max) (cond b [] (l.best ∷ []))
       go true e = eq_z-yes l.best blank e
       go false e = refl
+
+-- one step of MIN
+pub least-next : {vars : List ℕ} {values : List ℤ} {i : ℕ} {x z s y : ℤ} → Left false vars values i z → i < length vars → SFits w32 x → x ≡ input_at (inputs vars values) i
+    → s ≡ stands_as false x → y ≡ int_min z s → Left false vars values (i + 1) y
+least-next {x = x} {z} {s} l h f e q r = left-next l h f e (r ∙ min-lesser z s ∙ ap (lesser z) q)

@@ -5,7 +5,8 @@ ghost use Rattle.paper.specs.Formula.{blank, fit};
 ghost use Rattle.paper.specs.Calls.{blanks_among};
 
 // No value.
-pub const BLANK: i32 = -2147483648;
+// Stays: the number for no value in the lent rows (the C interface), and the paper's `blank`.
+pub const BLANK: i32 = i32::MIN;
 
 // Whether a value is blank.
 pub fn is_blank(value: i32) -> bool
@@ -19,9 +20,10 @@ pub fn blanks_among(n: usize, values: &[i32]) -> u32
     requires { (n ≤ length values.now) × (n ≤ 4096) }
     ensures { result ≡ blanks_among n (λ v. get_or values.now v (pos 0)) }
 {
-    let mut count: u32 = 0;
-    for v in 0..n {
-        if is_blank(values[v]) {
+    // Stays: the machine code of `filter` and `count` branches at each value and takes one at a time, where this takes several.
+    let mut count = 0;
+    for &value in &values[..n] {
+        if is_blank(value) {
             count += 1;
         }
     }
@@ -32,21 +34,14 @@ pub fn blanks_among(n: usize, values: &[i32]) -> u32
 pub fn fitted(exact: i64) -> i32
     ensures { result ≡ fit exact }
 {
-    if exact < -2147483647 {
-        return BLANK;
-    }
-    if exact <= 2147483647 {
-        exact as i32
-    } else {
-        BLANK
-    }
+    i32::try_from(exact).unwrap_or(BLANK)
 }
 
 // The exact a - b.
 pub fn difference(a: i32, b: i32) -> i64
     ensures { result ≡ a -ℤ b }
 {
-    (a as i64) - (b as i64)
+    i64::from(a) - i64::from(b)
 }
 
 // The exact sum + a * b.

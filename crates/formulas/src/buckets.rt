@@ -5,13 +5,12 @@ ghost use Rattle.formulas.specs.Buckets.{bucket_of, Bucketed};
 
 use crate::inputs::one_if;
 use crate::shares::sharing_pairs;
-use integers::bits32;
 
 // The bucket of a value.
 fn bucket(x: i32) -> usize
     ensures { (result ≡ bucket_of x) × (result < 2048) }
 {
-    let bits = bits32(x) as usize;
+    let bits = x.cast_unsigned() as usize;
     bits * 2654435769 / 2097152 % 2048
 }
 
@@ -21,12 +20,11 @@ fn count_buckets(held: &[i32], counts: &mut [u16]) -> usize
     requires bucketed { Bucketed [] counts.old }
     ensures { (result ≤ length held.now) × Bucketed held.now counts.new }
 {
-    let mut later: usize = 0;
-    for i in 0..held.len() {
-        let k = bucket(held[i]);
-        let before = counts[k];
-        later += one_if(before != 0);
-        counts[k] = before + 1;
+    let mut later = 0;
+    for &x in held {
+        let k = bucket(x);
+        later += one_if(counts[k] != 0);
+        counts[k] += 1;
     }
     later
 }
@@ -36,10 +34,10 @@ fn holding(z: i32, held: &[i32]) -> u32
     requires { length held.now ≤ 256 }
     ensures { result ≡ Formula.places z held.now }
 {
-    let mut n: u32 = 0;
-    for i in 0..held.len() {
-        let same = held[i] == z;
-        if same {
+    // Stays: the machine code of `filter` and `count` branches at each value and takes one at a time, where this takes several.
+    let mut n = 0;
+    for &x in held {
+        if x == z {
             n += 1;
         }
     }
@@ -52,11 +50,7 @@ fn held_twice(z: i32, held: &[i32], counts: &[u16]) -> bool
     requires bucketed { Bucketed held.now counts.now }
     ensures { result ≡ leb 2 (Formula.places z held.now) }
 {
-    let k = bucket(z);
-    if counts[k] < 2 {
-        return false;
-    }
-    2 <= holding(z, held)
+    2 <= counts[bucket(z)] && 2 <= holding(z, held)
 }
 
 // How many of these places hold a value that another of them also holds, by the buckets.
@@ -65,9 +59,9 @@ fn sharing_buckets(held: &[i32], counts: &[u16]) -> usize
     requires bucketed { Bucketed held.now counts.now }
     ensures { result ≡ Formula.sharing held.now }
 {
-    let mut n: usize = 0;
-    for i in 0..held.len() {
-        n += one_if(held_twice(held[i], held, counts));
+    let mut n = 0;
+    for &x in held {
+        n += one_if(held_twice(x, held, counts));
     }
     n
 }
@@ -80,6 +74,7 @@ pub fn sharing_places(held: &[i32]) -> usize
     if held.len() < 48 {
         return sharing_pairs(held);
     }
+    // Stays: rows of a fixed length, since no call allocates.
     let mut counts = [0u16; 2048];
     let later = count_buckets(held, &mut counts);
     if held.len() < 5 * later {

@@ -1,24 +1,23 @@
 // ELEMENT: the first input is an index from 0 into the others, the candidates.
 ghost use Rattle.std.specs.Prelude.{◌<◌, ◌≡◌, length};
 ghost use Rattle.paper.specs.Formula as Formula;
-ghost use Rattle.formulas.specs.Inputs.{inputs, Within};
+ghost use Rattle.formulas.specs.Given.{inputs_of};
 
 use crate::blanks::BLANK;
-use crate::inputs::input;
+use crate::inputs::Inputs;
 
 // ELEMENT: the value of the chosen candidate, blank where the index chooses none.
-pub fn element(vars: &[u16], values: &[i32]) -> i32
-    requires vars_nonzero { 0 < length vars.now }
-    requires within { Within vars.now values.now }
-    ensures { result ≡ Formula.element (inputs vars.now values.now) }
+pub fn element(row: Inputs) -> i32
+    requires { 0 < length row.vars.now }
+    ensures { result ≡ Formula.element (inputs_of row.entry) }
 {
-    let index = input(vars, values, 0);
+    let index = row.at(0);
     if index < 0 {
         return BLANK;
     }
     let place = index as usize + 1;
-    if place < vars.len() {
-        input(vars, values, place)
+    if place < row.len() {
+        row.at(place)
     } else {
         BLANK
     }

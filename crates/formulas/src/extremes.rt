@@ -1,76 +1,49 @@
 // MIN and MAX: one walk along the inputs, which leaves the lesser or the greater of each two. A blank stands in it on the side where every value is
 // left before it, so it is left only if no input has a value.
-ghost use Rattle.std.specs.Prelude.{◌<◌, ◌≡◌, cond, length};
+ghost use Rattle.std.specs.Prelude.{◌<◌, ◌≡◌, false, length};
 ghost use Rattle.paper.specs.Formula.{lesser, greater, valued};
 ghost use Rattle.paper.specs.Formula as Formula;
-ghost use Rattle.formulas.specs.Inputs.{inputs, Within};
+ghost use Rattle.formulas.specs.Given.{inputs_of};
 ghost use Rattle.formulas.specs.Standing.{stands_as, stands_for};
 
 use crate::blanks::{fitted, is_blank};
-use crate::inputs::input;
+use crate::inputs::Inputs;
 
-// The greater of two numbers if max, else the lesser.
-fn one_of(max: bool, a: i32, b: i32) -> i32
-    ensures { result ≡ cond max greater lesser a b }
+// What an input of MIN stands as: 1 less, which leaves room for a blank above all values.
+fn standing(x: i32) -> i32
+    ensures { result ≡ stands_as false x }
 {
-    if a <= b {
-        if max { b } else { a }
-    } else {
-        if max { a } else { b }
-    }
-}
-
-// What an input stands as: itself, which puts a blank below all values; else 1 less, which leaves room for a blank above them.
-fn standing(below: bool, x: i32) -> i32
-    ensures { result ≡ stands_as below x }
-{
-    if below {
-        return x;
-    }
-    if is_blank(x) { 2147483647 } else { x - 1 }
+    if is_blank(x) { i32::MAX } else { x - 1 }
 }
 
 // The input that stands as this number.
-fn stood_for(below: bool, z: i32) -> i32
-    ensures { result ≡ stands_for below z }
+fn stood_for(z: i32) -> i32
+    ensures { result ≡ stands_for false z }
 {
-    if below {
-        return z;
+    fitted(i64::from(z) + 1)
+}
+
+// MIN: the least input that has a value, blank if none has.
+pub fn least(row: Inputs) -> i32
+    requires { 0 < length row.vars.now }
+    ensures { result ≡ Formula.extreme lesser (valued (inputs_of row.entry)) }
+{
+    let mut left = standing(row.at(0));
+    for &v in &row.vars[1..] {
+        left = left.min(standing(row.values[usize::from(v)]));
     }
-    fitted(z as i64 + 1)
+    stood_for(left)
 }
 
-// The greatest of the inputs that have a value if max, else the least of them; blank if none has.
-fn extreme(max: bool, vars: &[u16], values: &[i32]) -> i32
-    requires vars_nonzero { 0 < length vars.now }
-    requires within { Within vars.now values.now }
-    ensures { result ≡ Formula.extreme (cond max greater lesser) (valued (inputs vars.now values.now)) }
+// Stays: as one with MIN a walk would be given the choice and what an input stands as, which is no plainer.
+// MAX: the greatest input that has a value, blank if none has: a blank lies below all values.
+pub fn greatest(row: Inputs) -> i32
+    requires { 0 < length row.vars.now }
+    ensures { result ≡ Formula.extreme greater (valued (inputs_of row.entry)) }
 {
-    // where a blank stands, so that every value is left before it
-    let below = max;
-    let mut left = standing(below, input(vars, values, 0));
-    let mut i: usize = 1;
-    while i < vars.len() {
-        left = one_of(max, left, standing(below, input(vars, values, i)));
-        i += 1;
+    let mut left = row.at(0);
+    for &v in &row.vars[1..] {
+        left = left.max(row.values[usize::from(v)]);
     }
-    stood_for(below, left)
-}
-
-// MIN: the least input that has a value.
-pub fn least(vars: &[u16], values: &[i32]) -> i32
-    requires vars_nonzero { 0 < length vars.now }
-    requires within { Within vars.now values.now }
-    ensures { result ≡ Formula.extreme lesser (valued (inputs vars.now values.now)) }
-{
-    extreme(false, vars, values)
-}
-
-// MAX: the greatest input that has a value.
-pub fn greatest(vars: &[u16], values: &[i32]) -> i32
-    requires vars_nonzero { 0 < length vars.now }
-    requires within { Within vars.now values.now }
-    ensures { result ≡ Formula.extreme greater (valued (inputs vars.now values.now)) }
-{
-    extreme(true, vars, values)
+    left
 }

@@ -1,6 +1,5 @@
 -- A call is accepted just where every check was passed: the checks stand in a chain that stops at the first that fails. Assumes nothing.
 use Prim.Native.Nat.{ℕ, ◌<◌}
-use native.Mathlib.Omega.{arith}
 use mathlib.Core.Bool.{Bool, true, false, cond, ◌&&◌, false≢true}
 use mathlib.Core.List.{List, [], ◌∷◌, ◌++◌}
 use mathlib.Core.Path.{◌≡◌, refl, ap, sym, ◌∙◌}
@@ -45,7 +44,8 @@ use Rattle.frequencies.specs.Writing.{
   write_frequencies,
   WriteOutcome,
 }
-use Rattle.frequencies.specs.declared.Carried.TheVariants.{Accepted}
+use Rattle.std.specs.Prelude.{Ok}
+use Rattle.tables.proofs.Answered.{accepted-is, accepted-as}
 
 -- ── one check over all rows ──
 module _ (number : ℕ) (good : Row → Bool) where
@@ -191,16 +191,15 @@ module _ (count : ℕ) (text : List ℕ) (w : Windows) (buffer : List ℕ) where
       ∙ require-next 9 0 (room_in count text w buffer) accepted k.room
 
 -- ── what a caller has of an accepted call ──
-counted-accepted : (v : Verdict) (n m : ℕ) → carried_by v n ≡ Accepted m → (v ≡ accepted) × (n ≡ m)
-counted-accepted accepted n m e = (refl, cc)
-counted-accepted (refused number place) n m e = absurd (let z : ◌≡◌ {A = ℕ} 0 1 = cc in omega arith)
+counted-accepted : (v : Verdict) (n m : ℕ) → carried_by v n ≡ Ok m → (v ≡ accepted) × (n ≡ m)
+counted-accepted v n m e = (accepted-is n m v e, accepted-as n m v e)
 
 pub record WasRead (bytes : List ℕ) (lent : Windows) (windows : Windows) (count : ℕ) : Type 0 where
   pub known : ReadKnown bytes lent
   pub many : length (window_rows bytes) ≡ count
   pub filled : windows ≡ windows_of (columns_of (header bytes)) (window_rows bytes) lent
 
-pub was_read : (bytes : List ℕ) (lent : Windows) (o : ReadOutcome bytes lent) (count : ℕ) → o.answer ≡ Accepted count → WasRead bytes lent o.windows count
+pub was_read : (bytes : List ℕ) (lent : Windows) (o : ReadOutcome bytes lent) (count : ℕ) → o.answer ≡ Ok count → WasRead bytes lent o.windows count
 unfolding read_frequencies
 was_read bytes lent o count e =
     let v = read_verdict bytes lent in let (ok, many) = counted-accepted v (length (window_rows bytes)) count (sym (ap (λ (l : ReadLeft). l.answer) o.stated) ∙ e) in
@@ -210,7 +209,7 @@ was_read bytes lent o count e =
       filled = ap (λ (l : ReadLeft). l.windows) o.stated ∙ ap (λ v'. leaves v' (windows_of (columns_of (header bytes)) (window_rows bytes) lent) lent) ok;
     }
 
-pub read_answer : (bytes : List ℕ) (lent : Windows) (o : ReadOutcome bytes lent) → ReadKnown bytes lent → o.answer ≡ Accepted (length (window_rows bytes))
+pub read_answer : (bytes : List ℕ) (lent : Windows) (o : ReadOutcome bytes lent) → ReadKnown bytes lent → o.answer ≡ Ok (length (window_rows bytes))
 unfolding read_frequencies
 read_answer bytes lent o k = ap (λ (l : ReadLeft). l.answer) o.stated ∙ ap (λ v. carried_by v (length (window_rows bytes))) (read-passes bytes lent k)
 
@@ -219,7 +218,7 @@ pub record WasWritten (count : ℕ) (text : List ℕ) (w : Windows) (lent buffer
   pub many : length (file_bytes count text w) ≡ size
   pub filled : take size buffer ≡ file_bytes count text w
 
-pub was-written : (count : ℕ) (text : List ℕ) (w : Windows) (lent : List ℕ) (o : WriteOutcome count text w lent) (size : ℕ) → o.answer ≡ Accepted size
+pub was-written : (count : ℕ) (text : List ℕ) (w : Windows) (lent : List ℕ) (o : WriteOutcome count text w lent) (size : ℕ) → o.answer ≡ Ok size
     → WasWritten count text w lent o.buffer size
 unfolding write_frequencies
 was-written count text w lent o size e =
@@ -233,7 +232,7 @@ was-written count text w lent o size e =
     }
 
 pub write-answer : (count : ℕ) (text : List ℕ) (w : Windows) (lent : List ℕ) (o : WriteOutcome count text w lent) → WriteKnown count text w lent
-    → o.answer ≡ Accepted (length (file_bytes count text w))
+    → o.answer ≡ Ok (length (file_bytes count text w))
 unfolding write_frequencies
 write-answer count text w lent o k =
     ap (λ (l : WriteLeft). l.answer) o.stated ∙ ap (λ v. carried_by v (length (file_bytes count text w))) (write-passes count text w lent k)

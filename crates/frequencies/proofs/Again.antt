@@ -12,11 +12,13 @@ use mir.Val.{SFits}
 use borrow.Author.Tests.{leb-true, le-leb}
 use Rattle.integers.proofs.Ranges.{parts-fit}
 use Rattle.paper.specs.Lists.{joined}
-use Rattle.paper.specs.Checks.{Verdict, accepted, refused, leaves}
+use Rattle.paper.specs.Checks.{Verdict, leaves}
 use Rattle.frequencies.specs.Reading.{Windows, window_rows, ReadLeft, carried_by, read_verdict, read_frequencies, ReadOutcome}
 use Rattle.frequencies.specs.Writing.{window_bytes, head_bytes, file_bytes, room_in, write_verdict, WriteLeft, write_frequencies}
 use Rattle.frequencies.specs.Laws.{SameWindow, Fitting, ReadAgain, WrittenAgain, ReadRefused, WriteRefused, ReadOnce, WriteOnce}
-use Rattle.frequencies.specs.declared.Carried.TheVariants.{Accepted, Refused}
+use Rattle.std.specs.Prelude.{Ok, Err}
+use Rattle.tables.specs.Answers.{refusal}
+use Rattle.tables.proofs.Answered.{refused-is}
 use Rattle.frequencies.proofs.Accepted.{was_read, was-written}
 use Rattle.frequencies.proofs.ReadWritten.{Spoken, found, read-is-written}
 use Rattle.frequencies.proofs.WrittenRead.{written-is-read}
@@ -25,7 +27,7 @@ use Rattle.frequencies.proofs.WrittenRead.{written-is-read}
 spoken-fits : (least : ℕ) (z : ℤ) → Spoken least z → SFits w32 z
 spoken-fits least z s = rw s.is (parts-fit w32 (pos s.value) (omega (arith, s.small)) (omega arith))
 
-read-fitting : (bytes : List ℕ) (lent : Windows) (o : ReadOutcome bytes lent) (count : ℕ) → o.answer ≡ Accepted count → Fitting count o.windows
+read-fitting : (bytes : List ℕ) (lent : Windows) (o : ReadOutcome bytes lent) (count : ℕ) → o.answer ≡ Ok count → Fitting count o.windows
 read-fitting bytes lent o count e =
     let k = was_read bytes lent o count e in
     rw k.filled record {
@@ -58,13 +60,12 @@ written-again count text w fit buffer o size e lent wide p again l q =
     let bytes-are = same-file count text w file p.windows same in
     let small = leb-true (length (file_bytes count text w)) (min (length buffer) 2147483647) k.known.room in
     let room : room_in count file p.windows again ≡ true = rw (← bytes-are) (le-leb (length (file_bytes count text w)) (min (length again) 2147483647) (omega (arith, k.many))) in
-    let answer : q.answer ≡ Accepted size = read-is-written file lent p count read again room q ∙ ap Accepted (ap length (sym bytes-are) ∙ k.many) in
+    let answer : q.answer ≡ Ok size = read-is-written file lent p count read again room q ∙ ap Ok (ap length (sym bytes-are) ∙ k.many) in
     (answer, (was-written count file p.windows again q size answer).filled ∙ sym bytes-are ∙ sym k.filled)
 
 -- ── refused ──
-as-was : {A : Type 0} (v : Verdict) (count number place : ℕ) (after before : A) → carried_by v count ≡ Refused number place → leaves v after before ≡ before
-as-was accepted count number place after before e = absurd (let z : ◌≡◌ {A = ℕ} 0 1 = cc in omega arith)
-as-was (refused n p) count number place after before e = refl
+as-was : {A : Type 0} (v : Verdict) (count number place : ℕ) (after before : A) → carried_by v count ≡ Err (refusal number place) → leaves v after before ≡ before
+as-was v count number place after before e = ap (λ x. leaves x after before) (refused-is count (refusal number place) v e)
 
 pub read-refused : ReadRefused
 unfolding read_frequencies

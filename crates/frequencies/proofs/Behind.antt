@@ -5,9 +5,10 @@ use mathlib.Core.Bool.{Bool, true, false, cond, ◌&&◌, ◌||◌}
 use mathlib.Core.List.{List, [], ◌∷◌}
 use mathlib.Core.Path.{◌≡◌, refl, ap, sym, ◌∙◌}
 use lib.Dec.{eqb}
-use lib.ListN.{length, take, drop, drop_of_length-le, get_or-eq_default}
+use lib.ListN.{length, take, drop, drop_of_length-le}
 use lib.Seq.{drop-drop}
-use borrow.Author.Tests.{eq-eqb, ne_eqb}
+use Rattle.std.specs.List.{starts_with}
+use borrow.Author.Tests.{eqb-true, eqb-false, eq-eqb, ne_eqb}
 use Rattle.paper.specs.Lists.{every, nat}
 use Rattle.paper.proofs.Lists.{clash, and_right}
 use Rattle.paper.proofs.Scan.{next}
@@ -95,32 +96,31 @@ module _ (bytes : List ℕ) (mark : ℕ) where
         body = ap (λ n. take n (drop mark bytes)) size ∙ cut-here (drop mark bytes) (ap (λ n. only_ends (drop n bytes)) (sym same) ∙ s.ends);
       }
 
--- ── the byte order mark: it is not there where one of its bytes is not ──
-module _ (bytes : List ℕ) where
-  pub mark-first : (nat bytes 0 ≡ 239 → ⊥) → 0 ≡ mark_length bytes
-  unfolding every
-  mark-first h = rw (ne_eqb (nat bytes 0) 239 h)
+-- ── the byte order mark ──
+swapped : (x y : ℕ) → eqb x y ≡ eqb y x
+swapped x y = go (eqb y x) refl
+  where
+    go : (b : Bool) → eqb y x ≡ b → eqb x y ≡ b
+    go true e = eq-eqb x y (sym (eqb-true y x e))
+    go false e = ne_eqb x y (λ p. eqb-false y x e (sym p))
 
-  pub mark-second : (nat bytes 1 ≡ 187 → ⊥) → 0 ≡ mark_length bytes
-  unfolding every
-  mark-second h = go (eqb (nat bytes 0) 239)
-    where
-      go : (a : Bool) → ◌≡◌ {A = ℕ} 0 (cond (a && (eqb (nat bytes 1) 187 && (eqb (nat bytes 2) 191 && true))) 3 0)
-      go true = rw (ne_eqb (nat bytes 1) 187 h)
-      go false = refl
+pub mark-is : (bytes : List ℕ) → cond (starts_with eqb bytes (239 ∷ 187 ∷ 191 ∷ [])) 3 0 ≡ mark_length bytes
+unfolding every
+mark-is [] = refl
+mark-is (a ∷ []) = one (eqb 239 a) (eqb a 239)
+  where
+    one : (x y : Bool) → ◌≡◌ {A = ℕ} (cond (x && false) 3 0) (cond (y && false) 3 0)
+    one true true = refl
+    one true false = refl
+    one false true = refl
+    one false false = refl
+mark-is (a ∷ b ∷ []) = two (eqb 239 a) (eqb 187 b) (eqb a 239) (eqb b 187)
+  where
+    off : (x y : Bool) → (x && (y && false)) ≡ false
+    off true true = refl
+    off true false = refl
+    off false y = refl
 
-  pub mark-third : (nat bytes 2 ≡ 191 → ⊥) → 0 ≡ mark_length bytes
-  unfolding every
-  mark-third h = go (eqb (nat bytes 0) 239) (eqb (nat bytes 1) 187)
-    where
-      go : (a b : Bool) → ◌≡◌ {A = ℕ} 0 (cond (a && (b && (eqb (nat bytes 2) 191 && true))) 3 0)
-      go true true = rw (ne_eqb (nat bytes 2) 191 h)
-      go true false = refl
-      go false b = refl
-
-  pub mark-short : length bytes < 3 → 0 ≡ mark_length bytes
-  mark-short h = let e = get_or-eq_default bytes 0 {n = 2} (omega arith) in mark-third (λ q. omega arith)
-
-  pub mark-there : nat bytes 0 ≡ 239 → nat bytes 1 ≡ 187 → nat bytes 2 ≡ 191 → 3 ≡ mark_length bytes
-  unfolding every
-  mark-there a b c = rw (eq-eqb (nat bytes 0) 239 a, eq-eqb (nat bytes 1) 187 b, eq-eqb (nat bytes 2) 191 c)
+    two : (x y z w : Bool) → ◌≡◌ {A = ℕ} (cond (x && (y && false)) 3 0) (cond (z && (w && false)) 3 0)
+    two x y z w = rw (off x y, off z w)
+mark-is (a ∷ b ∷ c ∷ l) = rw (swapped 239 a, swapped 187 b, swapped 191 c)

@@ -1,37 +1,30 @@
 -- The file grows by one line for each window, and so does its size; a size cut at a bound tells all that is asked below it. Assumes nothing.
-use Prim.Native.Nat.{ℕ, zero, suc, ◌+◌, min}
+use Prim.Native.Nat.{ℕ, suc, ◌+◌, min}
 use native.Mathlib.Numerals.{add-one}
 use native.Mathlib.Omega.{arith}
 use mathlib.Core.List.{List, ◌++◌}
-use mathlib.Core.Path.{◌≡◌, refl, ap, sym, ◌∙◌}
-use lib.IntN.{nat_abs}
+use mathlib.Core.Path.{◌≡◌, refl}
 use lib.ListN.{length, length-append}
 use Rattle.paper.specs.Lists.{joined}
 use Rattle.frequencies.specs.Puts.{Puts}
 use Rattle.frequencies.specs.Reading.{Windows}
-use Rattle.frequencies.specs.Writing.{start_at, end_at, headway_given, exact_given, name_at, window_bytes, head_bytes, file_bytes, line_bytes}
+use Rattle.frequencies.specs.Writing.{window_bytes, head_bytes, file_bytes}
 use Rattle.frequencies.proofs.Putting.{puts_then}
-use Rattle.frequencies.proofs.Saying.{line-exact}
 
 module _ (text : List ℕ) (w : Windows) where
-  -- a window's line without its exact_times
-  abbrev pub line_at : ℕ → List ℕ
-  line_at i = line_bytes (name_at text w i) (nat_abs (start_at w i)) (nat_abs (end_at w i)) (nat_abs (headway_given w i)) 0
-
   pub file-starts : length (file_bytes 0 text w) ≡ 53
   unfolding file_bytes
   file-starts = refl
 
-  pub file-grows : (i : ℕ) → length (file_bytes (suc i) text w) ≡ length (file_bytes i text w) + length (line_at i)
+  pub file-grows : (i : ℕ) → length (file_bytes (suc i) text w) ≡ length (file_bytes i text w) + length (window_bytes text w i)
   unfolding file_bytes
   file-grows i =
       let f = window_bytes text w in
       let a = length-append head_bytes (joined f i ++ f i) in let b = length-append (joined f i) (f i) in let c = length-append head_bytes (joined f i) in
-      let e : length (f i) ≡ length (line_at i) = line-exact (name_at text w i) (nat_abs (start_at w i)) (nat_abs (end_at w i)) (nat_abs (headway_given w i)) (exact_given w i) in
-      omega (arith, a, b, c, e)
+      omega (arith, a, b, c)
 
   -- one turn of a loop that counts the bytes up to a bound
-  pub size-next : (i k s most : ℕ) → k ≡ min (length (file_bytes i text w)) most → s ≡ length (line_at i) → min (k + s) most ≡ min (length (file_bytes (i + 1) text w)) most
+  pub size-next : (i k s most : ℕ) → k ≡ min (length (file_bytes i text w)) most → s ≡ length (window_bytes text w i) → min (k + s) most ≡ min (length (file_bytes (i + 1) text w)) most
   size-next i k s most e h = rw (add-one i) (omega (arith, e, h, file-grows i))
 
   -- one turn of a loop that puts the lines
@@ -43,10 +36,3 @@ module _ (text : List ℕ) (w : Windows) where
   pub file-put : {l l₁ l₂ : List ℕ} {k next : ℕ} (count : ℕ) → Puts head_bytes l 0 l₁ k → Puts (joined (window_bytes text w) count) l₁ k l₂ next → Puts (file_bytes count text w) l 0 l₂ next
   unfolding file_bytes
   file-put count p q = puts_then p q
-
--- how long the file is says nothing of exact_times
-pub same_size : (text : List ℕ) (w w' : Windows) → ((i : ℕ) → line_at text w i ≡ line_at text w' i) → (n : ℕ) → length (file_bytes n text w) ≡ length (file_bytes n text w')
-same_size text w w' same zero = file-starts text w ∙ sym (file-starts text w')
-same_size text w w' same (suc n) =
-    let h = same_size text w w' same n in let l = ap length (same n) in let a = file-grows text w n in let b = file-grows text w' n in
-    omega (arith, h, l, a, b)

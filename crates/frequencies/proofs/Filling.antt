@@ -1,23 +1,23 @@
 -- Rows filled from the front: what was put stays, and what is left belongs behind it. Assumes nothing.
-use Prim.Native.Nat.{ℕ, suc, ◌+◌, ◌-◌, ◌<◌}
+use Prim.Native.Nat.{ℕ, suc, ◌+◌, ◌-◌, ◌≤◌, ◌<◌}
 use native.Mathlib.Numerals.{add-one}
 use native.Mathlib.Omega.{arith}
-use mathlib.Core.Bool.{Bool, true, false, cond}
+use mathlib.Core.Bool.{cond}
 use mathlib.Core.List.{List, [], ◌∷◌, ◌++◌, append_assoc}
 use mathlib.Core.Path.{◌≡◌, refl, ap, sym, ◌∙◌}
 use lib.IntN.{ℤ}
 use lib.ListN.{length, take, drop, set, length-set, take-append-drop}
 use lib.Seq.{take-suc-set, drop-set-lt}
-use borrow.Author.Tests.{leb-true}
 use Rattle.paper.specs.Lists.{any}
-use Rattle.paper.proofs.Lists.{each}
 use Rattle.frequencies.specs.Csv.{is_quote, Row, row_of, front}
 use Rattle.frequencies.specs.Values.{time, headway, exact}
 use Rattle.frequencies.specs.Reading.{Windows, windows_in, windows_of, laid_over, room_for}
 use Rattle.frequencies.specs.Reading as reading
-use Rattle.frequencies.specs.Scan.{Scannable, RowScanned, scanned_at}
+use Rattle.std.specs.Prelude.{Option, None, Some, IfSome}
+use Rattle.frequencies.specs.Scan.{Scannable, RowScanned, Later, rows_from, row_behind, scanned_at}
+use Rattle.frequencies.specs.declared.fields.Place.{Place}
 use Rattle.frequencies.specs.Heading.{columns_in}
-use Rattle.frequencies.specs.Filling.{Room, Held, window_put, rows_from, laid_from, windows_from, SameSizes, Filled, still_to_fill}
+use Rattle.frequencies.specs.Filling.{Room, Held, window_put, laid_from, windows_from, SameSizes, Filled, still_to_fill}
 use Rattle.frequencies.proofs.Scanning.{split-line}
 use Rattle.frequencies.specs.declared.rows.Columns.{Columns}
 use Rattle.frequencies.specs.declared.rows.RowScan.{RowScan}
@@ -51,21 +51,6 @@ module _ (c : reading.Columns) where
   windows-last i w =
       windows-same (windows_from i c [] w) (laid-last i w.name_places) (laid-last i w.name_lengths) (laid-last i w.name_doubled) (laid-last i w.starts)
       (laid-last i w.ends) (laid-last i w.headways) (laid-last i w.exacts) (laid-last i w.lines)
-
--- where there is room for so many, each lent row has them
-pub room-lent : (k : ℕ) (w : Windows) → room_for k w ≡ true → Room k w
-room-lent k w e =
-    let t = each _ e in
-    record {
-      name-places = leb-true _ _ t.0;
-      name-lengths = leb-true _ _ t.1.0;
-      name-doubled = leb-true _ _ t.1.1.0;
-      starts = leb-true _ _ t.1.1.1.0;
-      ends = leb-true _ _ t.1.1.1.1.0;
-      headways = leb-true _ _ t.1.1.1.1.1.0;
-      exacts = leb-true _ _ t.1.1.1.1.1.1.0;
-      lines = leb-true _ _ t.1.1.1.1.1.1.1.0;
-    }
 
 -- ── the next row ──
 module _ (bytes : List ℕ) (c : Columns) (next line : ℕ) (here : Scannable bytes next line) (r : RowScan) (s : RowScanned bytes next line c r) where
@@ -123,11 +108,11 @@ module _ (bytes : List ℕ) (c : Columns) (next line : ℕ) (here : Scannable by
 
 -- ── the walk over the rows ──
 module _ (bytes : List ℕ) (c : Columns) where
-  pub filled_none : (at line : ℕ) (more : Bool) (w : Windows) → Scannable bytes at line → Room (length (rows_from bytes at line more)) w
-      → Filled bytes c (rows_from bytes at line more) w at line more 0 w
-  filled_none at line more w h m = record {
-    all = windows-first (columns_in c) (rows_from bytes at line more) w;
-    room = let z : 0 + length (rows_from bytes at line more) ≡ length (rows_from bytes at line more) = omega arith in rw z m;
+  pub filled_none : (first : Option Place) (w : Windows) → IfSome first (λ p. Scannable bytes p.at p.line) → Room (length (rows_from bytes first)) w
+      → Filled bytes c (rows_from bytes first) w first 0 w
+  filled_none first w h m = record {
+    all = windows-first (columns_in c) (rows_from bytes first) w;
+    room = let z : 0 + length (rows_from bytes first) ≡ length (rows_from bytes first) = omega arith in rw z m;
     sizes = record {
       name-places = refl;
       name-lengths = refl;
@@ -138,13 +123,16 @@ module _ (bytes : List ℕ) (c : Columns) where
       exacts = refl;
       lines = refl;
     };
-    scannable = h;
-    few = λ e. omega arith;
+    here = go first h;
   }
+    where
+      go : (o : Option Place) → IfSome o (λ p. Scannable bytes p.at p.line) → IfSome o (λ p. Scannable bytes p.at p.line × (0 ≤ p.at))
+      go None h = tt
+      go (Some p) h = (h, omega arith)
 
-  module _ {rs : List Row} {w : Windows} {next line i : ℕ} {more : Bool} {v : Windows} (f : Filled bytes c rs w next line more i v) (e : more ≡ true) where
-    now-room : Room (i + suc (length (scanned_at bytes next line c).rows)) v
-    now-room = rw e at f.room
+  module _ {rs : List Row} {w : Windows} {i : ℕ} {v : Windows} (p : Place) (f : Filled bytes c rs w (Some p) i v) where
+    now-room : Room (i + suc (length (scanned_at bytes p.at p.line c).rows)) v
+    now-room = f.room
 
     pub filled-room : Room (i + 1) v
     filled-room =
@@ -160,30 +148,32 @@ module _ (bytes : List ℕ) (c : Columns) where
           lines = let h = m.lines in omega arith;
         }
 
-    pub filled_next : (r : RowScan) → RowScanned bytes next line c r → (v' : Windows) → v' ≡ window_put bytes r line i v
-        → Filled bytes c rs w r.next r.line r.more (i + 1) v'
-    filled_next r s v' p =
-        let here = f.scannable in
-        let rest = (scanned_at bytes next line c).rows in
+    pub filled_next : (r : RowScan) → RowScanned bytes p.at p.line c r → (v' : Windows) → v' ≡ window_put bytes r p.line i v
+        → Filled bytes c rs w (row_behind r.behind) (i + 1) v'
+    filled_next r s v' e =
+        let here = f.here.0 in
+        let rest = (scanned_at bytes p.at p.line c).rows in
         let z = ap length s.rows in
-        rw p
+        rw e
         record {
           all =
-              ap (λ l. windows_from (i + 1) (columns_in c) l (window_put bytes r line i v)) (sym s.rows) ∙ windows-next bytes c next line here r s i v rest now-room
-              ∙ ap (λ m. windows_from i (columns_in c) (rows_from bytes next line m) v) (sym e) ∙ f.all;
-          room = rw z at (room_next bytes c next line here r s i v (length rest) now-room);
-          sizes = sizes-next bytes c next line here r s i v f.sizes;
-          scannable = s.scannable;
-          few = λ g. let h = s.on g in let l = f.few e in omega arith;
+              ap (λ l. windows_from (i + 1) (columns_in c) l (window_put bytes r p.line i v)) (sym s.rows) ∙ windows-next bytes c p.at p.line here r s i v rest now-room
+              ∙ f.all;
+          room = rw z at (room_next bytes c p.at p.line here r s i v (length rest) now-room);
+          sizes = sizes-next bytes c p.at p.line here r s i v f.sizes;
+          here = go (row_behind r.behind) s.beyond;
         }
-
-    pub filled-less : (r : RowScan) → RowScanned bytes next line c r → still_to_fill bytes r.next r.more < still_to_fill bytes next more
-    filled-less r s = rw e (go r.more refl)
       where
-        go : (b : Bool) → r.more ≡ b → cond b 1 0 + (length bytes - r.next) < 1 + (length bytes - next)
-        go true g = let h = s.on g in let l = s.scannable.fits in omega arith
-        go false g = let h = s.begins in omega arith
+        go : (o : Option Place) → IfSome o (Later bytes p.at) → IfSome o (λ q. Scannable bytes q.at q.line × (i + 1 ≤ q.at))
+        go None h = tt
+        go (Some q) h = let l = h.on in let k = f.here.1 in (h.scannable, omega arith)
 
-  pub filled-all : {rs : List Row} {w v : Windows} {next line i : ℕ} {more : Bool} → Filled bytes c rs w next line more i v → more ≡ false → v ≡ windows_of (columns_in c) rs w
-  filled-all {v = v} {next} {line} {i} f e =
-      sym (windows-last (columns_in c) i v) ∙ ap (λ m. windows_from i (columns_in c) (rows_from bytes next line m) v) (sym e) ∙ f.all
+    pub filled-less : (r : RowScan) → RowScanned bytes p.at p.line c r → still_to_fill bytes (row_behind r.behind) < still_to_fill bytes (Some p)
+    filled-less r s = go (row_behind r.behind) s.beyond
+      where
+        go : (o : Option Place) → IfSome o (Later bytes p.at) → still_to_fill bytes o < 1 + (length bytes - p.at)
+        go None h = omega arith
+        go (Some q) h = let l = h.on in let k = h.scannable.fits in omega arith
+
+  pub filled-all : {rs : List Row} {w v : Windows} {i : ℕ} → Filled bytes c rs w None i v → v ≡ windows_of (columns_in c) rs w
+  filled-all {v = v} {i} f = sym (windows-last (columns_in c) i v) ∙ f.all

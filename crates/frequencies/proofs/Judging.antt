@@ -18,7 +18,8 @@ use Rattle.paper.proofs.Verdicts.{check-rest, check-held, require-next, require-
 use Rattle.frequencies.specs.Puts.{Puts, Sayable, AllSayable, AllExact}
 use Rattle.frequencies.specs.Reading.{Windows, carried_by}
 use Rattle.frequencies.specs.Writing.{start_at, end_at, headway_given, file_bytes, rows_lent, doubled_at, times_at, headway_good_at, exact_good_at, named_at, room_in, write_verdict, left_by_writing, write_frequencies}
-use Rattle.frequencies.specs.declared.Carried.{Carried}
+use Rattle.std.specs.Prelude.{Result}
+use Rattle.tables.specs.declared.Refusal.{Refusal}
 
 -- ── what the call is lent ──
 pub record Lent : Type 0 where
@@ -160,10 +161,10 @@ module _ (b : Lent) where
     all-counted l = omega (arith, e, m, l)
 
   -- ── the answer, and what is left, by the verdict ──
-  pub answers : (r : Carried) (v : Verdict) → verdict b ≡ v → r ≡ carried_by v (length (file b)) → r ≡ carried_by (verdict b) (length (file b))
+  pub answers : (r : Result ℕ Refusal) (v : Verdict) → verdict b ≡ v → r ≡ carried_by v (length (file b)) → r ≡ carried_by (verdict b) (length (file b))
   answers r v e p = p ∙ ap (λ x. carried_by x (length (file b))) (sym e)
 
-  pub writing-meets : (r : Carried) (after : List ℕ) (v : Verdict) → verdict b ≡ v → r ≡ carried_by v (length (file b))
+  pub writing-meets : (r : Result ℕ Refusal) (after : List ℕ) (v : Verdict) → verdict b ≡ v → r ≡ carried_by v (length (file b))
       → after ≡ leaves v (file b ++ drop (length (file b)) b.buffer) b.buffer → left_by_writing r after ≡ write_frequencies b.count b.text b.windows b.buffer
   unfolding write_frequencies
   writing-meets r after v e p q =

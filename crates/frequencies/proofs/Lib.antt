@@ -12,7 +12,6 @@ pub mod Digits
 pub mod Quoting
 pub mod Saying
 pub mod Filed
-pub mod Answered
 pub mod Judging
 pub mod Told
 pub mod Times

@@ -1,18 +1,23 @@
 -- A name looked for field by field: what was found before a field and what the field says is so of both. Assumes nothing.
-use Prim.Native.Nat.{ℕ, zero, suc, ◌+◌, ◌-◌, ◌≤◌, ◌<◌}
+use Prim.Native.Nat.{ℕ, zero, suc, ◌+◌, ◌-◌, ◌≤◌}
 use native.Mathlib.Omega.{arith}
 use mathlib.Core.Bool.{Bool, true, false, cond, not, ◌&&◌}
 use mathlib.Core.List.{List, [], ◌∷◌}
 use mathlib.Core.Path.{◌≡◌, refl, ap, sym, ◌∙◌}
 use lib.Dec.{eqb, leb}
-use lib.ListN.{length, take, drop}
+use lib.ListN.{take, drop}
 use borrow.Author.Tests.{eqb-true, eqb-false, eq-eqb, ne_eqb}
 use Rattle.paper.specs.Lists.{every}
-use Rattle.frequencies.specs.Csv.{Field, field, body, Rest, row_of, front, split}
+use Rattle.frequencies.specs.Csv.{Field, field, body, row_of, front, split}
 use Rattle.frequencies.specs.Values.{same, names, column, named, trip_id, start_time, end_time, headway_secs, exact_times}
 use Rattle.frequencies.specs.Reading as reading
-use Rattle.frequencies.specs.Scan.{Scannable, FieldScanned, RowScanned}
-use Rattle.frequencies.specs.Heading.{fields_left, Sought, SoughtNext, Found, Headed}
+use Rattle.frequencies.specs.Scan.{Scannable, FieldScanned, RowScanned, fields_behind, row_behind, Beyond, Later}
+use Rattle.std.specs.Prelude.{◌≢◌, Option, None, Some, IfSome}
+use Rattle.frequencies.specs.declared.fields.Place.{Place}
+use Rattle.frequencies.specs.declared.fields.Behind.{Behind}
+use Rattle.frequencies.specs.declared.fields.Behind.TheVariants.{Comma, Line, File}
+use Rattle.frequencies.proofs.ByField.{field-less}
+use Rattle.frequencies.specs.Heading.{FewFound, Sought, SoughtNext, Found, Headed}
 use Rattle.frequencies.specs.declared.fields.FieldScan.{FieldScan}
 use Rattle.frequencies.specs.declared.header.Named.{Named}
 use Rattle.frequencies.specs.declared.rows.Columns.{Columns}
@@ -42,62 +47,65 @@ module _ (name : List ℕ) (fs : List Field) where
   }
 
 -- ── one field more ──
-module _ (bytes name : List ℕ) (n : Named) (f : FieldScan) (s : FieldScanned bytes n.next n.line f) (on : n.comma ≡ true) where
+module _ (bytes name : List ℕ) (n : Named) (from : Place) (on : n.behind ≡ Comma from) (f : FieldScan) (s : FieldScanned bytes from.at from.line f) where
   abbrev raw_of : List ℕ
-  raw_of = take (f.end - n.next) (drop n.next bytes)
-
-  abbrev rest_of : Rest
-  rest_of = split f.next f.line front (drop f.next bytes)
+  raw_of = take (f.end - from.at) (drop from.at bytes)
 
   -- the fields that were left are this one and the ones that are left now
-  left_is : fields_left bytes n ≡ field n.next raw_of ∷ cond f.comma (rest_of.first ∷ rest_of.fields) []
-  left_is = ap (λ b. cond b (row_of (split n.next n.line front (drop n.next bytes))).fields []) on ∙ ap (λ r. (row_of r).fields) s.is
-
-  falls : (b : Bool) → f.comma ≡ b → cond b 1 0 + (length bytes - f.next) < cond n.comma 1 0 + (length bytes - n.next)
-  falls true e = let l = s.on (s.more e) in let h = s.begins in let w = s.scannable.fits in rw on (omega arith)
-  falls false e = let h = s.begins in let k = s.ends in rw on (omega arith)
+  left_is : fields_behind bytes n.behind ≡ field from.at raw_of ∷ fields_behind bytes f.behind
+  left_is = ap (fields_behind bytes) on ∙ ap (λ r. (row_of r).fields) s.is
 
   one : {a : ℕ} (t : Bool) → a ≡ cond t 1 0 → a ≤ 1
   one true e = omega arith
   one false e = omega arith
 
   pub sought-next : (is : Bool) (a b : ℕ) → is ≡ same (body raw_of) name → a ≡ passed_by n.count is → b ≡ cond is 1 0
-      → n.column ≤ n.next → n.count ≤ n.next
-      → SoughtNext bytes name n record { column = n.column + a; count = n.count + b; next = f.next; line = f.line; comma = f.comma }
+      → n.column ≤ from.at → n.count ≤ from.at
+      → SoughtNext bytes name from n record { column = n.column + a; count = n.count + b; behind = f.behind }
   sought-next is a b e p q few many = record {
-    part = λ fs t. sought-on name fs n record { column = n.column + a; count = n.count + b; next = f.next; line = f.line; comma = f.comma }
-        (field n.next raw_of) (cond f.comma (rest_of.first ∷ rest_of.fields) []) is (rw left_is at t) e (ap (n.count +◌) q) (ap (n.column +◌) p);
-    less = falls f.comma refl;
-    scannable = s.scannable;
-    few = λ h. let l = s.on (s.more h) in let begins = s.begins in let u = one (eqb n.count 0 && not is) p in let v = one is q in (omega arith, omega arith);
+    part = λ fs t. sought-on name fs n record { column = n.column + a; count = n.count + b; behind = f.behind }
+        (field from.at raw_of) (fields_behind bytes f.behind) is (rw left_is at t) e (ap (n.count +◌) q) (ap (n.column +◌) p);
+    less = field-less bytes from f s;
+    few = go f.behind s.beyond;
   }
+    where
+      go : (b' : Behind) → Beyond bytes f.end b' → FewFound bytes record { column = n.column + a; count = n.count + b; behind = b' }
+      go (Comma k) l =
+          let h = l.on in let begins = s.begins in let u = one (eqb n.count 0 && not is) p in let v = one is q in
+          (l.scannable, omega arith, omega arith)
+      go (Line k) l = tt
+      go File l = tt
 
 -- ── all fields ──
-abbrev pub seek_from : ℕ → ℕ → Named
-seek_from at line = record { column = 0; count = 0; next = at; line = line; comma = true }
+abbrev pub seek_from : Place → Named
+seek_from from = record { column = 0; count = 0; behind = Comma from }
 
 abbrev fields_at : List ℕ → ℕ → ℕ → List Field
 fields_at bytes at line = (row_of (split at line front (drop at bytes))).fields
 
 -- the fields up to where looking has come
 pub record Seeking (bytes : List ℕ) (at line : ℕ) (name : List ℕ) (n : Named) : Type 0 where
-  pub so : Sought name (fields_at bytes at line) (fields_left bytes n) n
-  pub scannable : Scannable bytes n.next n.line
-  pub few : n.comma ≡ true → (n.column ≤ n.next) × (n.count ≤ n.next)
+  pub so : Sought name (fields_at bytes at line) (fields_behind bytes n.behind) n
+  pub few : FewFound bytes n
 
-pub seeking-start : (bytes name : List ℕ) {at line : ℕ} → Scannable bytes at line → Seeking bytes at line name (seek_from at line)
-seeking-start bytes name s = record { so = record { times = omega arith; place = omega arith }; scannable = s; few = λ e. (omega arith, omega arith) }
+pub seeking-start : (bytes name : List ℕ) (from : Place) → Scannable bytes from.at from.line → Seeking bytes from.at from.line name (seek_from from)
+seeking-start bytes name from s = record { so = record { times = omega arith; place = omega arith }; few = (s, omega arith, omega arith) }
 
 module _ {bytes : List ℕ} {at line : ℕ} {name : List ℕ} {n : Named} (s : Seeking bytes at line name n) where
-  pub seeking-next : {r : Named} → SoughtNext bytes name n r → Seeking bytes at line name r
-  seeking-next t = record { so = t.part (fields_at bytes at line) s.so; scannable = t.scannable; few = t.few }
+  pub seeking-next : {r : Named} {from : Place} → SoughtNext bytes name from n r → Seeking bytes at line name r
+  seeking-next t = record { so = t.part (fields_at bytes at line) s.so; few = t.few }
 
-  pub seeking-end : n.comma ≡ false → Found bytes at line name n
+  pub seeking-end : ((p : Place) → n.behind ≢ Comma p) → Found bytes at line name n
   seeking-end e =
-      let left : fields_left bytes n ≡ [] = ap (λ b. cond b (row_of (split n.next n.line front (drop n.next bytes))).fields []) e in
+      let left : fields_behind bytes n.behind ≡ [] = none n.behind e in
       let t : n.count + 0 ≡ named name (fields_at bytes at line) = sym (ap (λ l. n.count + named name l) left) ∙ s.so.times in
       record { times = omega arith; place = last (eqb n.count 0) (sym (ap (λ l. n.column + cond (eqb n.count 0) (column name l) 0) left) ∙ s.so.place) }
     where
+      none : (b : Behind) → ((p : Place) → b ≢ Comma p) → fields_behind bytes b ≡ []
+      none (Comma q) e = absurd (e q refl)
+      none (Line q) e = refl
+      none File e = refl
+
       last : (b : Bool) {a : ℕ} → n.column + cond b 0 0 ≡ a → n.column ≡ a
       last true h = omega arith
       last false h = omega arith
@@ -116,6 +124,10 @@ five-columns : {a a' b b' c c' d d' e e' : ℕ} → a ≡ a' → b ≡ b' → c 
     → ◌≡◌ {A = reading.Columns} (record { trip = a; start = b; end = c; headway = d; exact = e }) (record { trip = a'; start = b'; end = c'; headway = d'; exact = e' })
 five-columns p q r s t = rw (p, q, r, s, t)
 
+later : (bytes : List ℕ) (at : ℕ) (o : Option Place) → IfSome o (Later bytes at) → IfSome o (λ p. Scannable bytes p.at p.line)
+later bytes at None h = tt
+later bytes at (Some p) h = h.scannable
+
 module _ (bytes : List ℕ) (at : ℕ) {trip start end headway exact : Named} (f₁ : Found bytes at 1 trip_id trip) (f₂ : Found bytes at 1 start_time start)
     (f₃ : Found bytes at 1 end_time end) (f₄ : Found bytes at 1 headway_secs headway) (f₅ : Found bytes at 1 exact_times exact) where
   abbrev columns_found : Columns
@@ -127,11 +139,9 @@ module _ (bytes : List ℕ) (at : ℕ) {trip start end headway exact : Named} (f
         good = (((eqb trip.count 1 && eqb start.count 1) && eqb end.count 1) && eqb headway.count 1) && leb exact.count 1;
         width = row.width;
         right = row.right;
-        next = row.next;
-        line = row.line;
-        more = row.more;
+        next = row_behind row.behind;
       }
-  headed s = record {
+  headed {row} s = record {
     columns = five-columns f₁.place f₂.place f₃.place f₄.place f₅.place;
     good = rw (f₁.times, f₂.times, f₃.times, f₄.times, f₅.times)
         (let fs = fields_at bytes at 1 in
@@ -139,5 +149,5 @@ module _ (bytes : List ℕ) (at : ℕ) {trip start end headway exact : Named} (f
     width = s.width;
     right = s.right;
     rows = s.rows;
-    scannable = s.scannable;
+    here = later bytes at (row_behind row.behind) s.beyond;
   }

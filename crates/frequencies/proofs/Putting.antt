@@ -1,15 +1,13 @@
 -- Bytes put one behind the other are one run, where there is room for both. Assumes nothing.
-use Prim.Native.Nat.{ℕ, ◌+◌, ◌-◌, ◌≤◌, ◌<◌}
-use native.Mathlib.Numerals.{add-one}
+use Prim.Native.Nat.{ℕ, ◌+◌, ◌-◌, ◌≤◌}
 use native.Mathlib.Omega.{arith}
 use mathlib.Core.Bool.{Bool, true, false, cond}
 use mathlib.Core.List.{List, [], ◌∷◌, ◌++◌}
 use mathlib.Core.Path.{◌≡◌, refl, ap, sym, subst, ◌∙◌}
 use borrow.Author.Tests.{leb-true, leb-false, le-leb, lt-leb}
 use lib.Dec.{leb}
-use lib.ListN.{length, take, set, length-append}
-use lib.Seq.{sets, length-sets, length-take-le, take-suc, take_all}
-use Rattle.paper.specs.Lists.{nat}
+use lib.ListN.{length, set, length-append}
+use lib.Seq.{sets, length-sets}
 use Rattle.paper.proofs.Bytes.{go_on}
 use Rattle.frequencies.specs.Puts.{Puts}
 
@@ -45,17 +43,9 @@ room-left size at count h = go (leb count (size - at)) refl
     go true e = let l = leb-true count (size - at) e in sym (le-leb (at + count) size (omega (arith, h, l)))
     go false e = let l = leb-false count (size - at) e in sym (lt-leb (at + count) size (omega (arith, h, l)))
 
--- without room nothing is said; with it, a run that was stored byte by byte
+-- without room nothing is said
 pub puts-no-room : (xs l : List ℕ) (at : ℕ) → leb (at + length xs) (length l) ≡ false → Puts xs l at l at
 puts-no-room xs l at e = let h = leb-false (at + length xs) (length l) e in record { put = λ r. absurd (omega (arith, h, r)) }
-
-pub stored_next : (l : List ℕ) (at : ℕ) (xs : List ℕ) (i : ℕ) {l₁ : List ℕ} → i < length xs → l₁ ≡ sets l at (take i xs) → set l₁ (at + i) (nat xs i) ≡ sets l at (take (i + 1) xs)
-stored_next l at xs i h e =
-    let n = length-take-le i xs (omega arith) in
-    rw (add-one i, take-suc xs i 0 h) (go_on l at (take i xs) (nat xs i ∷ []) (at + i) e (omega (arith, n)) refl)
-
-pub puts-stored : (xs l : List ℕ) (at i : ℕ) {after : List ℕ} → length xs ≤ i → after ≡ sets l at (take i xs) → Puts xs l at after (at + length xs)
-puts-stored xs l at i h e = record { put = λ r. (e ∙ ap (sets l at) (take_all i xs h), refl) }
 
 -- ── one of two, by a test ──
 module _ {l after : List ℕ} {at next : ℕ} (xs ys : List ℕ) {t : Bool} where

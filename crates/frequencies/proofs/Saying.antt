@@ -1,4 +1,4 @@
--- A window's line: the bytes of its name are a part of the text, and how long the line is says nothing of exact_times. Assumes nothing.
+-- A window's line: the bytes of its name are a part of the text. Assumes nothing.
 use Prim.Native.Nat.{ℕ, ◌+◌, ◌-◌, min}
 use native.Mathlib.Omega.{arith}
 use mathlib.Core.Bool.{Bool, true, false}
@@ -31,6 +31,3 @@ line-long name start end headway exact = long (name_bytes name) (time_bytes star
   where
     long : (a b c d : List ℕ) → length (a ++ (44 ∷ []) ++ b ++ (44 ∷ []) ++ c ++ (44 ∷ []) ++ d ++ (44 ∷ (48 + exact) ∷ 10 ∷ [])) ≡ length a + length b + length c + length d + 6
     long a b c d = simp length-append (omega arith)
-
-pub line-exact : (name : List ℕ) (start end headway exact : ℕ) → length (line_bytes name start end headway exact) ≡ length (line_bytes name start end headway 0)
-line-exact name start end headway exact = line-long name start end headway exact ∙ sym (line-long name start end headway 0)

@@ -4,6 +4,7 @@ use native.Mathlib.Numerals.{add-one}
 use native.Mathlib.Omega.{arith}
 use mathlib.Core.Bool.{Bool, true, false, cond, not, ◌&&◌, ◌||◌, true≢false, false≢true}
 use mathlib.Core.List.{List, [], ◌∷◌}
+use mir.Val.{bool_byte}
 use mathlib.Core.Path.{◌≡◌, refl, ap, sym, ◌∙◌}
 use lib.Dec.{eqb, ltb}
 use lib.ListN.{length, take, drop, drop_of_length-le}
@@ -15,7 +16,13 @@ use Rattle.frequencies.specs.Csv.{is_line_feed, is_return, is_quote, is_comma, l
 use Rattle.frequencies.specs.Scan.{Scannable, headed_by, goes_on, stays_in, closing_mode, Reached, QuotesPassed, QuotesClosed, PlainPassed, PlainEnded, EndPassed, FieldScanned, behind_field}
 use Rattle.frequencies.specs.declared.fields.Closing.{Closing}
 use Rattle.frequencies.specs.declared.fields.Plain.{Plain}
-use Rattle.frequencies.specs.declared.fields.Ending.{Ending}
+use Rattle.frequencies.specs.declared.fields.Behind.{Behind}
+use Rattle.frequencies.specs.declared.fields.Behind.TheVariants.{Comma, Line, File}
+
+-- 1 for a test that is passed
+pub one-or-none : (b : Bool) → bool_byte b ≡ cond b 1 0
+one-or-none true = refl
+one-or-none false = refl
 
 -- ── the first byte ──
 -- where a test of the bytes that are left is passed, and nothing does not pass it, there is one
@@ -306,27 +313,18 @@ module _ (bytes : List ℕ) (at line : ℕ) where
 
 -- ── the end of a field ──
 module _ (bytes : List ℕ) (at line : ℕ) (here : Scannable bytes at line) where
-  pub end-file : length bytes ≤ at → EndPassed bytes at line record { next = at; line = line; comma = false; more = false }
+  pub end-file : length bytes ≤ at → EndPassed bytes at line File
   unfolding split
-  end-file h = record {
-    is = ap (split at line plain) (past_end bytes at h);
-    begins = omega arith;
-    scannable = here;
-    on = λ e. absurd (false≢true e);
-    more = λ e. e;
-  }
+  end-file h = record { is = ap (split at line plain) (past_end bytes at h); beyond = tt }
 
-  pub end-comma : at < length bytes → eqb 44 (nat bytes at) ≡ true → EndPassed bytes at line record { next = at + 1; line = line; comma = true; more = true }
+  pub end-comma : at < length bytes → eqb 44 (nat bytes at) ≡ true → EndPassed bytes at line (Comma (record { at = at + 1; line = line }))
   end-comma h e = record {
     is = ap (split at line plain) (next-byte bytes at h) ∙ split-comma at line (nat bytes at) (drop (at + 1) bytes) e ∙ rw add-one refl;
-    begins = omega arith;
-    scannable = record { fits = omega arith; small = here.small; lines = let l = here.lines in omega arith };
-    on = λ z. omega arith;
-    more = λ z. refl;
+    beyond = record { scannable = record { fits = omega arith; small = here.small; lines = let l = here.lines in omega arith }; on = omega arith };
   }
 
   pub end_line : at < length bytes → goes_on (drop at bytes) ≡ false → eqb 44 (nat bytes at) ≡ false
-      → EndPassed bytes at line record { next = at + (1 + cond (eqb 13 (nat bytes at)) 1 0); line = line + 1; comma = false; more = true }
+      → EndPassed bytes at line (Line (record { at = at + (1 + cond (eqb 13 (nat bytes at)) 1 0); line = line + 1 }))
   end_line h g e =
       let b = nat bytes at in let k : ℕ = cond (eqb 13 b) 1 0 in
       let n = next-byte bytes at h in
@@ -334,10 +332,7 @@ module _ (bytes : List ℕ) (at line : ℕ) (here : Scannable bytes at line) whe
       let p : drop k (drop (at + 1) bytes) ≡ drop (at + (1 + k)) bytes = drop-drop k (at + 1) bytes ∙ ap (λ z. drop z bytes) z in
       record {
         is = ap (split at line plain) n ∙ split-end at line b (drop (at + 1) bytes) (ap goes_on (sym n) ∙ g) e ∙ rw (place (eqb 13 b), p, add-one) refl;
-        begins = omega arith;
-        scannable = record { fits = fits (eqb 13 b) refl; small = here.small; lines = let l = here.lines in omega arith };
-        on = λ z. omega arith;
-        more = λ z. refl;
+        beyond = record { scannable = record { fits = fits (eqb 13 b) refl; small = here.small; lines = let l = here.lines in omega arith }; on = omega arith };
       }
     where
       place : (r : Bool) → cond r (suc (suc at)) (suc at) ≡ at + (1 + cond r 1 0)
@@ -357,7 +352,7 @@ module _ (bytes : List ℕ) (at line : ℕ) where
   scanned = split at line front (drop at bytes)
 
   -- the way to where it ends says what it is
-  module _ (end line' : ℕ) (e : Ending) (way : Reached at scanned end (split end line' plain (drop end bytes))) (ends : EndPassed bytes end line' e) where
+  module _ (end line' : ℕ) (e : Behind) (way : Reached at scanned end (split end line' plain (drop end bytes))) (ends : EndPassed bytes end line' e) where
     way-size : at + length scanned.first.raw ≡ end
     way-size = let h = way.size ∙ ap (λ (z : Rest). end + length z.first.raw) ends.is in omega arith
 
@@ -366,19 +361,15 @@ module _ (bytes : List ℕ) (at line : ℕ) where
         let h = way-size in let n : length scanned.first.raw ≡ end - at = omega arith in
         split-raw front at line (drop at bytes) ∙ ap (λ k. take k (drop at bytes)) n
 
-    way-is : scanned
-        ≡ behind_field e.comma e.more (field at (take (end - at) (drop at bytes))) line (split e.next e.line front (drop e.next bytes))
+    way-is : scanned ≡ behind_field bytes e (field at (take (end - at) (drop at bytes))) line
     way-is =
         rest-is scanned (split_at front at line (drop at bytes)) way-raw (way.fields ∙ ap (λ (z : Rest). z.fields) ends.is)
         (split-line front at line (drop at bytes)) (way.rows ∙ ap (λ (z : Rest). z.rows) ends.is)
 
-  pub plain-scanned : headed_by 34 (drop at bytes) ≡ false → (p : Plain) → PlainEnded bytes at p → (e : Ending) → EndPassed bytes p.end line e
+  pub plain-scanned : headed_by 34 (drop at bytes) ≡ false → (p : Plain) → PlainEnded bytes at p → (e : Behind) → EndPassed bytes p.end line e
       → FieldScanned bytes at line record {
         end = p.end;
-        next = e.next;
-        line = e.line;
-        comma = e.comma;
-        more = e.more;
+        behind = e;
         quoted = false;
         right = not p.quote;
       }
@@ -396,22 +387,17 @@ module _ (bytes : List ℕ) (at line : ℕ) where
             ∙ ap (λ (z : Rest). not (any is_quote z.first.raw)) same ∙ ap not (pass.passed.quotes line)
             ∙ ap (λ (z : Rest). not (p.quote || any is_quote z.first.raw)) ends.is ∙ ap not (or-none p.quote));
         begins = pass.passed.begins;
-        ends = ends.begins;
-        scannable = ends.scannable;
-        on = ends.on;
-        more = ends.more;
+        fits = pass.passed.fits;
+        beyond = ends.beyond;
       }
 
-  pub quoted-scanned : headed_by 34 (drop at bytes) ≡ true → (q : Closing) → QuotesClosed bytes (at + 1) line q → (p : Plain) → PlainEnded bytes q.end p
-      → (e : Ending) → EndPassed bytes p.end q.line e
+  pub quoted-scanned : headed_by 34 (drop at bytes) ≡ true → (q : Closing) → QuotesClosed bytes (at + 1) line q → (p : Plain) → PlainEnded bytes q.end.at p
+      → (e : Behind) → EndPassed bytes p.end q.end.line e
       → FieldScanned bytes at line record {
         end = p.end;
-        next = e.next;
-        line = e.line;
-        comma = e.comma;
-        more = e.more;
+        behind = e;
         quoted = true;
-        right = q.closing && eqb p.end q.end;
+        right = q.closing && eqb p.end q.end.at;
       }
   quoted-scanned h q closed p pass e ends =
       let b = nat bytes at in
@@ -420,26 +406,24 @@ module _ (bytes : List ℕ) (at line : ℕ) where
       let inner = split (at + 1) line inside (drop (at + 1) bytes) in
       let opens : scanned ≡ onto at line b inner =
       ap (split at line front) n ∙ split-open at line b (drop (at + 1) bytes) first ∙ rw add-one refl in
-      let same = split-closed q.closing q.end q.line (drop q.end bytes) closed.out in
-      let rest = split q.end q.line plain (drop q.end bytes) in
-      let last = pass.passed.way q.line in
-      let way = reached-on (reached-byte (reached-none at scanned) opens) (reached-on closed.passed.way (reached-on (reached-from q.end same) last)) in
-      let raw = way-raw p.end q.line e way ends in
-      let size : q.end + length rest.first.raw ≡ p.end =
+      let same = split-closed q.closing q.end.at q.end.line (drop q.end.at bytes) closed.out in
+      let rest = split q.end.at q.end.line plain (drop q.end.at bytes) in
+      let last = pass.passed.way q.end.line in
+      let way = reached-on (reached-byte (reached-none at scanned) opens) (reached-on closed.passed.way (reached-on (reached-from q.end.at same) last)) in
+      let raw = way-raw p.end q.end.line e way ends in
+      let size : q.end.at + length rest.first.raw ≡ p.end =
       (let h = last.size ∙ ap (λ (z : Rest). p.end + length z.first.raw) ends.is in omega arith) in
       record {
-        is = way-is p.end q.line e way ends;
+        is = way-is p.end q.end.line e way ends;
         quoted = sym (ap in_quotes (sym raw ∙ ap (λ (z : Rest). z.first.raw) opens) ∙ first);
         right = sym
             (ap quotes_right (sym raw ∙ ap (λ (z : Rest). z.first.raw) opens) ∙ opened b inner.first.raw first ∙ closed.passed.closed
             ∙ ap (λ (z : Rest). closed_from q.closing z.first.raw) same
-            ∙ closed-right q.closing q.end (drop q.end bytes) rest.first.raw closed.out
-            (split-raw plain q.end q.line (drop q.end bytes)) ∙ ap (λ k. q.closing && eqb k q.end) size);
+            ∙ closed-right q.closing q.end.at (drop q.end.at bytes) rest.first.raw closed.out
+            (split-raw plain q.end.at q.end.line (drop q.end.at bytes)) ∙ ap (λ k. q.closing && eqb k q.end.at) size);
         begins = let a = closed.passed.begins in let c = pass.passed.begins in omega arith;
-        ends = ends.begins;
-        scannable = ends.scannable;
-        on = ends.on;
-        more = ends.more;
+        fits = pass.passed.fits;
+        beyond = ends.beyond;
       }
     where
       opened : (b : ℕ) (bs : List ℕ) → eqb 34 b ≡ true → quotes_right (b ∷ bs) ≡ closed_from false bs

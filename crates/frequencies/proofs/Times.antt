@@ -1,20 +1,20 @@
 -- A field's bytes at their places: what a time, exact_times and a name are said by. Assumes nothing.
 use Prim.Native.Nat.{ℕ, suc, ◌+◌, ◌-◌, ◌*◌, ◌≤◌, ◌<◌}
 use native.Mathlib.Omega.{arith}
-use mathlib.Core.Bool.{Bool, true, false, ◌&&◌}
+use mathlib.Core.Bool.{Bool, ◌&&◌}
 use mathlib.Core.List.{List, [], ◌∷◌}
 use mathlib.Core.Path.{◌≡◌, refl, ap, ap₂, sym, ◌∙◌}
-use lib.Dec.{eqb, ltb}
+use lib.Dec.{ltb}
 use lib.IntN.{ℤ}
-use lib.ListN.{length, take, drop, drop_of_length-le}
+use lib.ListN.{length, take, drop}
 use lib.Seq.{drop-cons}
-use borrow.Author.Tests.{lt-ltb, le-ltb, eq-eqb, ne_eqb}
+use borrow.Author.Tests.{lt-ltb, le-ltb}
 use Rattle.paper.specs.Lists.{all, every, between, nat}
 use Rattle.paper.specs.Formula.{blank}
-use Rattle.paper.proofs.Scan.{next}
-use Rattle.frequencies.specs.Values.{is_digit, is_colon, number, sixtieth, as_value, time, exact, same}
-use Rattle.frequencies.specs.Told.{told}
-use Rattle.frequencies.proofs.Told.{and-true, value-told, time-tests}
+use Rattle.frequencies.specs.Values.{is_digit, is_colon, number, sixtieth, as_value, time, exact}
+use Rattle.frequencies.specs.Told.{said}
+use Rattle.frequencies.proofs.Told.{told, told-said, blank-big, and-true, value-told, time-tests}
+use Rattle.std.specs.Prelude.{Option, None, unwrap_or}
 
 -- ── a time ──
 pub time-short : (bs : List ℕ) → length bs < 7 → blank ≡ time bs
@@ -27,10 +27,10 @@ pair bs j h = ap (take 2) (drop-cons bs j 0 (omega arith)) ∙ ap (λ l. nat bs 
 
 -- hours of two digits
 pub hours-two : (bs : List ℕ) (k : ℕ) → k ≡ 2 → k ≤ length bs
-    → told (between 48 (nat bs 0) 57 && is_digit (nat bs 1)) (number (nat bs 0 ∷ nat bs 1 ∷ [])) ≡ told (all is_digit (take k bs)) (number (take k bs))
+    → said (between 48 (nat bs 0) 57 && is_digit (nat bs 1)) (number (nat bs 0 ∷ nat bs 1 ∷ [])) ≡ said (all is_digit (take k bs)) (number (take k bs))
 hours-two bs k e h =
-    ap (λ g. told (is_digit (nat bs 0) && g) (number (nat bs 0 ∷ nat bs 1 ∷ []))) (sym (and-true (is_digit (nat bs 1))))
-    ∙ ap (λ l. told (all is_digit l) (number l)) (sym (pair bs 0 (omega arith)) ∙ ap (λ n. take n bs) (sym e))
+    ap (λ g. said (is_digit (nat bs 0) && g) (number (nat bs 0 ∷ nat bs 1 ∷ []))) (sym (and-true (is_digit (nat bs 1))))
+    ∙ ap (λ l. said (all is_digit l) (number l)) (sym (pair bs 0 (omega arith)) ∙ ap (λ n. take n bs) (sym e))
 
 module _ (bs : List ℕ) (k : ℕ) where
   -- two digits by the places at which they stand
@@ -86,6 +86,41 @@ pub time-long : (bs : List ℕ) (k : ℕ) → 6 < length bs → k ≡ length bs 
 unfolding time
 time-long bs k h e = time-by bs k h e ∙ ap (time_by bs) e
 
+-- by what was said of the three; where one is none it is blank
+module _ (bs : List ℕ) (k : ℕ) (l : 6 < length bs) (e : k ≡ length bs - 6) (h m s : Option ℕ)
+    (p : h ≡ said (all is_digit (take k bs)) (number (take k bs)))
+    (q : m ≡ said (between 48 (nat bs (k + 1)) 53 && is_digit (nat bs (k + 2))) (number (nat bs (k + 1) ∷ nat bs (k + 2) ∷ [])))
+    (r : s ≡ said (between 48 (nat bs (k + 4)) 53 && is_digit (nat bs (k + 5))) (number (nat bs (k + 4) ∷ nat bs (k + 5) ∷ []))) where
+  abbrev parted : Bool
+  parted = is_colon (nat bs k) && is_colon (nat bs (k + 3))
+
+  abbrev or_big : Option ℕ → ℕ
+  or_big o = unwrap_or o 2147483648
+
+  pub time-said : time bs ≡ as_value parted (3600 * or_big h + 60 * or_big m + or_big s)
+  time-said =
+      sym
+      (ap (as_value parted)
+      (ap₂ ◌+◌ (ap₂ (λ a b. 3600 * a + 60 * b) (told-said (all is_digit (take k bs)) (number (take k bs)) h p)
+      (told-said (between 48 (nat bs (k + 1)) 53 && is_digit (nat bs (k + 2))) (number (nat bs (k + 1) ∷ nat bs (k + 2) ∷ [])) m q))
+      (told-said (between 48 (nat bs (k + 4)) 53 && is_digit (nat bs (k + 5))) (number (nat bs (k + 4) ∷ nat bs (k + 5) ∷ [])) s r))
+      ∙ time-long bs k l e)
+
+  pub no-hours : h ≡ None → time bs ≡ blank
+  no-hours n =
+      time-said ∙ ap (λ o. as_value parted (3600 * or_big o + 60 * or_big m + or_big s)) n
+      ∙ blank-big parted (3600 * 2147483648 + 60 * or_big m + or_big s) (omega arith)
+
+  pub no-minutes : m ≡ None → time bs ≡ blank
+  no-minutes n =
+      time-said ∙ ap (λ o. as_value parted (3600 * or_big h + 60 * or_big o + or_big s)) n
+      ∙ blank-big parted (3600 * or_big h + 60 * 2147483648 + or_big s) (omega arith)
+
+  pub no-seconds : s ≡ None → time bs ≡ blank
+  no-seconds n =
+      time-said ∙ ap (λ o. as_value parted (3600 * or_big h + 60 * or_big m + or_big o)) n
+      ∙ blank-big parted (3600 * or_big h + 60 * or_big m + 2147483648) (omega arith)
+
 -- ── exact_times ──
 pub exact_none : (bs : List ℕ) → length bs ≡ 0 → 0 ≡ exact bs
 unfolding exact
@@ -97,32 +132,3 @@ unfolding exact
 exact-many [] h = absurd (omega arith)
 exact-many (b ∷ []) h = absurd (omega arith)
 exact-many (b ∷ c ∷ bs) h = refl
-
-pub exact_one : (bs : List ℕ) → 0 < length bs → length bs ≤ 1 → exact (nat bs 0 ∷ []) ≡ exact bs
-exact_one [] h k = absurd (omega arith)
-exact_one (b ∷ []) h k = refl
-exact_one (b ∷ c ∷ bs) h k = absurd (omega arith)
-
--- ── two fields are the same ──
-pub same-short : (xs ys : List ℕ) → (length xs ≡ length ys → ⊥) → false ≡ same xs ys
-same-short [] [] h = absurd (h refl)
-same-short [] (y ∷ ys) h = refl
-same-short (x ∷ xs) [] h = refl
-same-short (x ∷ xs) (y ∷ ys) h = go (eqb x y) (same-short xs ys (λ e. h (ap suc e)))
-  where
-    go : (b : Bool) → false ≡ same xs ys → false ≡ (b && same xs ys)
-    go true e = e
-    go false e = refl
-
-module _ (xs ys : List ℕ) (i : ℕ) (h : i < length xs) (k : i < length ys) where
-  same_at : same (drop i xs) (drop i ys) ≡ (eqb (nat xs i) (nat ys i) && same (drop (i + 1) xs) (drop (i + 1) ys))
-  same_at = rw (next xs i 0 h, next ys i 0 k)
-
-  pub same_next : nat xs i ≡ nat ys i → same (drop (i + 1) xs) (drop (i + 1) ys) ≡ same (drop i xs) (drop i ys)
-  same_next e = sym (same_at ∙ rw (eq-eqb (nat xs i) (nat ys i) e))
-
-  pub same-off : (nat xs i ≡ nat ys i → ⊥) → false ≡ same (drop i xs) (drop i ys)
-  same-off e = sym (same_at ∙ rw (ne_eqb (nat xs i) (nat ys i) e))
-
-pub same_end : (xs ys : List ℕ) (i : ℕ) → length xs ≤ i → length ys ≤ i → true ≡ same (drop i xs) (drop i ys)
-same_end xs ys i h k = sym (rw (drop_of_length-le xs h, drop_of_length-le ys k))

@@ -1,15 +1,18 @@
 -- A running number that stops where no value can be: digit by digit it is the number that the digits say. Assumes nothing.
-use Prim.Native.Nat.{ℕ, ◌+◌, ◌-◌, ◌*◌, ◌≤◌, ◌<◌}
+use Rattle.std.specs.Option.{option_eq}
+use Prim.Native.Nat.{ℕ, zero, suc, ◌+◌, ◌-◌, ◌*◌, ◌≤◌, ◌<◌}
 use native.Mathlib.Omega.{arith}
 use mathlib.Core.Bool.{Bool, true, false, cond, ◌&&◌}
 use mathlib.Core.List.{List, [], ◌∷◌}
 use mathlib.Core.Path.{◌≡◌, refl, ap, ap₂, sym, ◌∙◌}
-use lib.Dec.{leb, ltb}
-use borrow.Author.Tests.{leb-true, leb-false, le-leb, lt-leb}
+use lib.Dec.{eqb, leb, ltb}
+use borrow.Author.Tests.{lt-ltb, ne_eqb, leb-true, leb-false, le-leb, lt-leb}
 use Rattle.paper.specs.Lists.{all, every, between}
 use Rattle.paper.specs.Formula.{blank}
 use Rattle.frequencies.specs.Values.{is_digit, number, number_from, as_value}
-use Rattle.frequencies.specs.Told.{told, told_next}
+use Rattle.frequencies.specs.Told.{said, value_said}
+use Rattle.std.specs.Prelude.{Option, None, Some, unwrap_or}
+use lib.IntN.{pos}
 
 -- ── tests ──
 pub and-true : (a : Bool) → (a && true) ≡ a
@@ -21,16 +24,35 @@ and-false true = refl
 and-false false = refl
 
 -- ── a number, or what no value is ──
-pub told-yes : (n : ℕ) → n ≤ 2147483647 → told true n ≡ n
-told-yes n h = rw (le-leb n 2147483647 h)
+-- with what cannot be a value as one number more
+abbrev pub told : Bool → ℕ → ℕ
+told good n = cond (good && leb n 2147483647) n 2147483648
 
-told-false : (a : Bool) (n : ℕ) → told (a && false) n ≡ 2147483648
-told-false true n = refl
-told-false false n = refl
+pub told-said : (good : Bool) (n : ℕ) (r : Option ℕ) → r ≡ said good n → unwrap_or r 2147483648 ≡ told good n
+told-said good n r e = rw e (go (good && leb n 2147483647))
+  where
+    go : (b : Bool) → ◌≡◌ {A = ℕ} (unwrap_or (cond b (Some n) None) 2147483648) (cond b n 2147483648)
+    go true = refl
+    go false = refl
 
-pub told-no : (good : Bool) (n : ℕ) → 2147483647 < n → told good n ≡ 2147483648
-told-no true n h = rw (lt-leb n 2147483647 h)
-told-no false n h = refl
+pub said-yes : (good : Bool) (n : ℕ) → good ≡ true → n ≤ 2147483647 → Some n ≡ said good n
+said-yes good n e h = rw (e, le-leb n 2147483647 h)
+
+said-no : (good : Bool) (n : ℕ) → 2147483647 < n → None ≡ said good n
+said-no true n h = rw (lt-leb n 2147483647 h)
+said-no false n h = refl
+
+pub said-off : (good : Bool) (n : ℕ) → good ≡ false → None ≡ said good n
+said-off good n e = rw e
+
+-- what was said, read back
+pub said-is : (good : Bool) (n k : ℕ) → Some k ≡ said good n → (k ≡ n) × (good ≡ true) × (n ≤ 2147483647)
+said-is true n k e = go (leb n 2147483647) refl e
+  where
+    go : (b : Bool) → leb n 2147483647 ≡ b → Some k ≡ cond b (Some n) None → (k ≡ n) × (◌≡◌ {A = Bool} true true) × (n ≤ 2147483647)
+    go true q e = (cc, refl, leb-true n 2147483647 q)
+    go false q e = cc
+said-is false n k e = cc
 
 -- ── digit by digit ──
 from_le : (n : ℕ) (bs : List ℕ) → n ≤ number_from n bs
@@ -38,62 +60,36 @@ from_le n [] = omega arith
 from_le n (b ∷ bs) = let h = from_le (10 * n + (b - 48)) bs in omega arith
 
 -- what is said of n and the digits that are left
-abbrev pub told_from : ℕ → List ℕ → ℕ
-told_from n bs = told (leb n 2147483647 && all is_digit bs) (number_from n bs)
+abbrev pub said_from : ℕ → List ℕ → Option ℕ
+said_from n bs = said (all is_digit bs) (number_from n bs)
 
-pub told-next : (n b : ℕ) (bs : List ℕ) → told_from n (b ∷ bs) ≡ told_from (told_next n b) bs
-told-next n b bs = go (is_digit b) refl
-  where
-    m : ℕ
-    m = 10 * n + (b - 48)
+module _ (n b : ℕ) (bs : List ℕ) where
+  pub said-next : (k : ℕ) → Some k ≡ said (is_digit b) (10 * n + (b - 48)) → said_from k bs ≡ said_from n (b ∷ bs)
+  said-next k e = let s = said-is (is_digit b) (10 * n + (b - 48)) k e in rw (s.0, s.1)
 
-    go : (d : Bool) → is_digit b ≡ d → told (leb n 2147483647 && (d && all is_digit bs)) (number_from m bs) ≡ told_from (told d m) bs
-    go false d = told-false (leb n 2147483647) (number_from m bs)
-    go true d = deep (leb m 2147483647) refl
-      where
-        deep : (b' : Bool) → leb m 2147483647 ≡ b' → told (leb n 2147483647 && all is_digit bs) (number_from m bs) ≡ told_from (cond b' m 2147483648) bs
-        deep true e = let l = leb-true m 2147483647 e in rw (le-leb n 2147483647 (omega arith), e)
-        deep false e = told-no (leb n 2147483647 && all is_digit bs) (number_from m bs) (let l = leb-false m 2147483647 e in let h = from_le m bs in omega arith)
+  pub said-stops : None ≡ said (is_digit b) (10 * n + (b - 48)) → None ≡ said_from n (b ∷ bs)
+  said-stops = go (is_digit b) (leb (10 * n + (b - 48)) 2147483647) refl
+    where
+      m : ℕ
+      m = 10 * n + (b - 48)
 
-pub told-end : (n : ℕ) → n ≤ 2147483648 → n ≡ told_from n []
-told-end n h = go (leb n 2147483647) refl
-  where
-    go : (b : Bool) → leb n 2147483647 ≡ b → n ≡ cond ((b && true) && b) n 2147483648
-    go true e = refl
-    go false e = let l = leb-false n 2147483647 e in omega arith
-
--- a byte that is no digit
-pub no-digit-low : (b : ℕ) → b < 48 → is_digit b ≡ false
-no-digit-low b h = rw (lt-leb 48 b h)
-
-pub no-digit-high : (b : ℕ) → 57 < b → is_digit b ≡ false
-no-digit-high b h = let l = le-leb 48 b (omega arith) in rw (l, lt-leb b 57 h)
-
-pub digit-yes : (b : ℕ) → 48 ≤ b → b ≤ 57 → is_digit b ≡ true
-digit-yes b h k = rw (le-leb 48 b h, le-leb b 57 k)
+      go : (d l : Bool) → leb m 2147483647 ≡ l → None ≡ cond (d && l) (Some m) None → None ≡ said (d && all is_digit bs) (number_from m bs)
+      go false l q e = refl
+      go true true q e = cc
+      go true false q e = let low = leb-false m 2147483647 q in let h = from_le m bs in said-no (all is_digit bs) (number_from m bs) (omega arith)
 
 -- two digits of which the first is at most `most`
 module _ (t o most : ℕ) where
-  abbrev pair_told : ℕ
-  pair_told = told (between 48 t most && is_digit o) (number (t ∷ o ∷ []))
+  abbrev pub pair_said : Option ℕ
+  pair_said = said (between 48 t most && is_digit o) (number (t ∷ o ∷ []))
 
-  pub pair-low : t < 48 → 2147483648 ≡ pair_told
-  pair-low h = rw (lt-leb 48 t h)
-
-  pub pair-high : 48 ≤ t → most < t → 2147483648 ≡ pair_told
-  pair-high l h = rw (le-leb 48 t l, lt-leb t most h)
-
-  pub pair-ones : is_digit o ≡ false → 2147483648 ≡ pair_told
-  pair-ones e = sym (ap (λ g. told (between 48 t most && g) (number (t ∷ o ∷ []))) e ∙ told-false (between 48 t most) (number (t ∷ o ∷ [])))
-
-  pub pair-yes : 48 ≤ t → t ≤ most → is_digit o ≡ true → 10 * (t - 48) + (o - 48) ≤ 2147483647 → 10 * (t - 48) + (o - 48) ≡ pair_told
+  pub pair-yes : 48 ≤ t → t ≤ most → is_digit o ≡ true → 10 * (t - 48) + (o - 48) ≤ 2147483647 → Some (10 * (t - 48) + (o - 48)) ≡ pair_said
   pair-yes l h e small =
       let n : 10 * (t - 48) + (o - 48) ≡ number (t ∷ o ∷ []) = omega arith in
-      let k : number (t ∷ o ∷ []) ≤ 2147483647 = omega arith in
-      n ∙ sym (ap₂ (λ a b. told (a && b) (number (t ∷ o ∷ []))) (ap₂ ◌&&◌ (le-leb 48 t l) (le-leb t most h)) e ∙ told-yes (number (t ∷ o ∷ [])) k)
+      ap Some n ∙ said-yes _ (number (t ∷ o ∷ [])) (ap₂ ◌&&◌ (ap₂ ◌&&◌ (le-leb 48 t l) (le-leb t most h)) e) (omega arith)
 
 -- ── values ──
-blank-big : (good : Bool) (n : ℕ) → 2147483647 < n → as_value good n ≡ blank
+pub blank-big : (good : Bool) (n : ℕ) → 2147483647 < n → as_value good n ≡ blank
 blank-big true n h = rw (lt-leb n 2147483647 h)
 blank-big false n h = refl
 
@@ -109,13 +105,16 @@ value-told f up p true n = go (leb n 2147483647) refl
         blank-big p (f 2147483648) (let h = up 2147483648 in omega arith)
         ∙ sym (blank-big (p && true) (f n) (let h = up n in omega arith))
 
-pub value-positive : (good : Bool) (n : ℕ) → as_value (ltb 0 (told good n)) (told good n) ≡ as_value (good && ltb 0 n) n
-value-positive false n = refl
-value-positive true n = go (leb n 2147483647) refl
+-- of a number that is not 0
+pub headway-said : (good : Bool) (n : ℕ) (r : Option ℕ) → r ≡ said good n → cond (option_eq eqb r (Some 0)) blank (value_said r) ≡ as_value (good && ltb 0 n) n
+headway-said false n r e = rw e refl
+headway-said true n r e = rw e (go n (leb n 2147483647))
   where
-    go : (b : Bool) → leb n 2147483647 ≡ b → as_value (ltb 0 (cond b n 2147483648)) (cond b n 2147483648) ≡ as_value (ltb 0 n) n
-    go true e = refl
-    go false e = sym (blank-big (ltb 0 n) n (leb-false n 2147483647 e))
+    go : (n : ℕ) (b : Bool) → cond (option_eq eqb (cond b (Some n) None) (Some 0)) blank (value_said (cond b (Some n) None)) ≡ cond (ltb 0 n && b) (pos n) blank
+    go zero true = refl
+    go (suc n) true = rw (lt-ltb 0 (suc n) (omega arith), ne_eqb (suc n) 0 (λ e. omega arith)) refl
+    go zero false = refl
+    go (suc n) false = rw (and-false (ltb 0 (suc n))) refl
 
 -- ── a time's tests, in the order in which they are joined ──
 pub time-tests : (a b c p q : Bool) → ((((p && q) && a) && b) && c) ≡ every (true ∷ a ∷ p ∷ b ∷ q ∷ c ∷ [])

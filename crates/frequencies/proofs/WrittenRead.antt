@@ -41,7 +41,7 @@ use Rattle.frequencies.specs.Reading.{
 }
 use Rattle.frequencies.specs.Writing.{start_at, end_at, headway_given, exact_given, standing, name_at, file_bytes}
 use Rattle.frequencies.specs.Laws.{SameWindow, Fitting, WrittenIsRead}
-use Rattle.frequencies.specs.declared.Carried.TheVariants.{Accepted}
+use Rattle.std.specs.Prelude.{Ok}
 use Rattle.frequencies.proofs.Quoted.{plain-right, plain_body, shown, name_body, name-right, shown-some, shown-back, halved-some}
 use Rattle.frequencies.proofs.Spoken.{time-back, headway-back, exact-back, decimal-plain, time-plain, exact-plain}
 use Rattle.frequencies.proofs.Runs.{Lined, fields_at, RowOf, plain-apart, name-apart}
@@ -197,8 +197,8 @@ module _ (count : ℕ) (text : List ℕ) (w : Windows) (fit : Fitting count w) (
       names = rw columns-are (passes (name_good five) (λ i l. rw (row-says i l).name (lt-ltb 0 (length (shown (name_at text w i))) (shown-some (name_at text w i) (window i l).named))));
     }
 
-    read_back : (p : ReadOutcome bytes into) → p.answer ≡ Accepted count
-    read_back p = read_answer bytes into p readable ∙ ap Accepted many
+    read_back : (p : ReadOutcome bytes into) → p.answer ≡ Ok count
+    read_back p = read_answer bytes into p readable ∙ ap Ok many
 
     same-window : (p : ReadOutcome bytes into) (i : ℕ) → i < count → SameWindow text w bytes p.windows i
     same-window p i l =

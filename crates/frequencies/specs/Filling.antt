@@ -1,12 +1,13 @@
 -- What filling says of the lent rows: the windows of the rows passed stand in the first places, and those of the rows that are left belong behind them.
 -- Assumes nothing.
-use Rattle.std.specs.Prelude.{ℕ, ◌+◌, ◌-◌, ◌≤◌, Bool, true, cond, List, [], ◌++◌, map, ◌≡◌, length, take, drop, set}
+use Rattle.std.specs.Prelude.{ℕ, ◌+◌, ◌-◌, ◌≤◌, cond, List, ◌++◌, map, ◌≡◌, length, take, drop, set, Option, None, Some, IfSome}
 use Rattle.paper.specs.Lists.{any}
-use Rattle.frequencies.specs.Csv.{is_quote, Row, all_rows, front, split}
+use Rattle.frequencies.specs.Csv.{is_quote, Row}
 use Rattle.frequencies.specs.Values.{time, headway, exact}
 use Rattle.frequencies.specs.Reading.{Windows, windows_of, start_of, end_of, headway_of, exact_of, name_place_of, name_length_of, name_doubled_of}
 use Rattle.frequencies.specs.Reading as reading
-use Rattle.frequencies.specs.Scan.{Scannable}
+use Rattle.frequencies.specs.Scan.{Scannable, rows_from}
+use Rattle.frequencies.specs.declared.fields.Place.{Place}
 use Rattle.frequencies.specs.Heading.{columns_in}
 use Rattle.frequencies.specs.declared.rows.Columns.{Columns}
 use Rattle.frequencies.specs.declared.rows.RowScan.{RowScan}
@@ -27,30 +28,26 @@ pub record Room (k : ℕ) (w : Windows) : Type 0 where
 pub record Held (bytes : List ℕ) (r : RowScan) (line : ℕ) : Type 0 where
   pub small : length bytes ≤ 2147483647
   pub on : line ≤ 2147483648
-  pub trip : r.trip_at + r.trip_size ≤ length bytes
-  pub start : r.start_at + r.start_size ≤ length bytes
-  pub end : r.end_at + r.end_size ≤ length bytes
-  pub headway : r.headway_at + r.headway_size ≤ length bytes
-  pub exact : r.exact_at + r.exact_size ≤ length bytes
+  pub trip : r.trip.at + r.trip.size ≤ length bytes
+  pub start : r.start.at + r.start.size ≤ length bytes
+  pub end : r.end.at + r.end.size ≤ length bytes
+  pub headway : r.headway.at + r.headway.size ≤ length bytes
+  pub exact : r.exact.at + r.exact.size ≤ length bytes
 
 -- its window put at place i
 abbrev pub window_put : List ℕ → RowScan → ℕ → ℕ → Windows → Windows
 window_put bytes r line i w = record {
-  name_places = set w.name_places i r.trip_at;
-  name_lengths = set w.name_lengths i r.trip_size;
-  name_doubled = set w.name_doubled i (cond (any is_quote (take r.trip_size (drop r.trip_at bytes))) 1 0);
-  starts = set w.starts i (time (take r.start_size (drop r.start_at bytes)));
-  ends = set w.ends i (time (take r.end_size (drop r.end_at bytes)));
-  headways = set w.headways i (headway (take r.headway_size (drop r.headway_at bytes)));
-  exacts = set w.exacts i (exact (take r.exact_size (drop r.exact_at bytes)));
+  name_places = set w.name_places i r.trip.at;
+  name_lengths = set w.name_lengths i r.trip.size;
+  name_doubled = set w.name_doubled i (cond (any is_quote (take r.trip.size (drop r.trip.at bytes))) 1 0);
+  starts = set w.starts i (time (take r.start.size (drop r.start.at bytes)));
+  ends = set w.ends i (time (take r.end.size (drop r.end.at bytes)));
+  headways = set w.headways i (headway (take r.headway.size (drop r.headway.at bytes)));
+  exacts = set w.exacts i (exact (take r.exact.size (drop r.exact.at bytes)));
   lines = set w.lines i line;
 }
 
 -- ── all windows ──
--- the rows from a place on, if there are any
-abbrev pub rows_from : List ℕ → ℕ → ℕ → Bool → List Row
-rows_from bytes at line more = cond more (all_rows (split at line front (drop at bytes))) []
-
 -- f of each of these from place i on, and before and behind them what stands there
 abbrev pub laid_from : {A B : Type 0} → ℕ → (A → B) → List A → List B → List B
 laid_from i f xs now = take i now ++ (map f xs ++ drop (i + length xs) now)
@@ -79,12 +76,12 @@ pub record SameSizes (w v : Windows) : Type 0 where
   pub lines : length v.lines ≡ length w.lines
 
 -- the windows of the first i of these rows have been put, and the others are those from place `next` on
-pub record Filled (bytes : List ℕ) (c : Columns) (rs : List Row) (w : Windows) (next line : ℕ) (more : Bool) (i : ℕ) (v : Windows) : Type 0 where
-  pub all : windows_from i (columns_in c) (rows_from bytes next line more) v ≡ windows_of (columns_in c) rs w
-  pub room : Room (i + length (rows_from bytes next line more)) v
+pub record Filled (bytes : List ℕ) (c : Columns) (rs : List Row) (w : Windows) (next : Option Place) (i : ℕ) (v : Windows) : Type 0 where
+  pub all : windows_from i (columns_in c) (rows_from bytes next) v ≡ windows_of (columns_in c) rs w
+  pub room : Room (i + length (rows_from bytes next)) v
   pub sizes : SameSizes w v
-  pub scannable : Scannable bytes next line
-  pub few : more ≡ true → i ≤ next
+  pub here : IfSome next (λ p. Scannable bytes p.at p.line × (i ≤ p.at))
 
-abbrev pub still_to_fill : List ℕ → ℕ → Bool → ℕ
-still_to_fill bytes next more = cond more 1 0 + (length bytes - next)
+abbrev pub still_to_fill : List ℕ → Option Place → ℕ
+still_to_fill bytes None = 0
+still_to_fill bytes (Some p) = 1 + (length bytes - p.at)

@@ -1,11 +1,11 @@
 -- What holds of reading and writing: what was written is read back to the same windows and names, and so is what was read and written; what was read
 -- of a written file is written as the same bytes. `proofs/` has the proofs. Assumes nothing.
-use Rattle.std.specs.Prelude.{ℕ, ◌≤◌, ◌<◌, List, true, ◌≡◌, length, take}
+use Rattle.std.specs.Prelude.{ℕ, ◌≤◌, ◌<◌, List, true, ◌≡◌, length, take, Ok, Err}
 use Rattle.std.specs.Int.{w32}
 use Rattle.std.proofs.Common.{SFits}
 use Rattle.frequencies.specs.Reading.{Windows, room_for, ReadOutcome}
 use Rattle.frequencies.specs.Writing.{name_at, start_at, end_at, headway_given, exact_given, file_bytes, room_in, WriteOutcome}
-use Rattle.frequencies.specs.declared.Carried.TheVariants.{Accepted, Refused}
+use Rattle.tables.specs.Answers.{refusal}
 
 -- window i of one text is window i of another: name, times, headway and exact_times
 pub record SameWindow (text : List ℕ) (w : Windows) (text' : List ℕ) (w' : Windows) (i : ℕ) : Type 0 where
@@ -24,40 +24,40 @@ pub record Fitting (count : ℕ) (w : Windows) : Type 0 where
 -- a file that was written is read: as many windows, each the same
 abbrev pub WrittenIsRead : Type 0
 WrittenIsRead =
-    (count : ℕ) (text : List ℕ) (w : Windows) → Fitting count w → (buffer : List ℕ) (o : WriteOutcome count text w buffer) (size : ℕ) → o.answer ≡ Accepted size
+    (count : ℕ) (text : List ℕ) (w : Windows) → Fitting count w → (buffer : List ℕ) (o : WriteOutcome count text w buffer) (size : ℕ) → o.answer ≡ Ok size
     → (lent : Windows) → room_for count lent ≡ true → (p : ReadOutcome (take size o.buffer) lent)
-    → (p.answer ≡ Accepted count) × ((i : ℕ) → i < count → SameWindow text w (take size o.buffer) p.windows i)
+    → (p.answer ≡ Ok count) × ((i : ℕ) → i < count → SameWindow text w (take size o.buffer) p.windows i)
 
 -- a file that was read is written where there is room for it
 abbrev pub ReadIsWritten : Type 0
 ReadIsWritten =
-    (bytes : List ℕ) (lent : Windows) (o : ReadOutcome bytes lent) (count : ℕ) → o.answer ≡ Accepted count
+    (bytes : List ℕ) (lent : Windows) (o : ReadOutcome bytes lent) (count : ℕ) → o.answer ≡ Ok count
     → (buffer : List ℕ) → room_in count bytes o.windows buffer ≡ true → (p : WriteOutcome count bytes o.windows buffer)
-    → p.answer ≡ Accepted (length (file_bytes count bytes o.windows))
+    → p.answer ≡ Ok (length (file_bytes count bytes o.windows))
 
 -- and read again it has as many windows, each the same
 abbrev pub ReadAgain : Type 0
 ReadAgain =
-    (bytes : List ℕ) (lent : Windows) (o : ReadOutcome bytes lent) (count : ℕ) → o.answer ≡ Accepted count
+    (bytes : List ℕ) (lent : Windows) (o : ReadOutcome bytes lent) (count : ℕ) → o.answer ≡ Ok count
     → (buffer : List ℕ) → room_in count bytes o.windows buffer ≡ true → (p : WriteOutcome count bytes o.windows buffer)
     → let file = take (length (file_bytes count bytes o.windows)) p.buffer in (again : Windows) → room_for count again ≡ true → (q : ReadOutcome file again)
-    → (q.answer ≡ Accepted count) × ((i : ℕ) → i < count → SameWindow bytes o.windows file q.windows i)
+    → (q.answer ≡ Ok count) × ((i : ℕ) → i < count → SameWindow bytes o.windows file q.windows i)
 
 -- a file that was written, read and written again has the same bytes
 abbrev pub WrittenAgain : Type 0
 WrittenAgain =
-    (count : ℕ) (text : List ℕ) (w : Windows) → Fitting count w → (buffer : List ℕ) (o : WriteOutcome count text w buffer) (size : ℕ) → o.answer ≡ Accepted size
+    (count : ℕ) (text : List ℕ) (w : Windows) → Fitting count w → (buffer : List ℕ) (o : WriteOutcome count text w buffer) (size : ℕ) → o.answer ≡ Ok size
     → let file = take size o.buffer in (lent : Windows) → room_for count lent ≡ true → (p : ReadOutcome file lent)
     → (again : List ℕ) → size ≤ length again → (q : WriteOutcome count file p.windows again)
-    → (q.answer ≡ Accepted size) × (take size q.buffer ≡ file)
+    → (q.answer ≡ Ok size) × (take size q.buffer ≡ file)
 
 -- ── a call that was refused left what it was lent as it was; and any two outcomes of a call are the same ──
 abbrev pub ReadRefused : Type 0
-ReadRefused = (bytes : List ℕ) (lent : Windows) (o : ReadOutcome bytes lent) (number place : ℕ) → o.answer ≡ Refused number place → o.windows ≡ lent
+ReadRefused = (bytes : List ℕ) (lent : Windows) (o : ReadOutcome bytes lent) (number place : ℕ) → o.answer ≡ Err (refusal number place) → o.windows ≡ lent
 
 abbrev pub WriteRefused : Type 0
 WriteRefused =
-    (count : ℕ) (text : List ℕ) (w : Windows) (lent : List ℕ) (o : WriteOutcome count text w lent) (number place : ℕ) → o.answer ≡ Refused number place
+    (count : ℕ) (text : List ℕ) (w : Windows) (lent : List ℕ) (o : WriteOutcome count text w lent) (number place : ℕ) → o.answer ≡ Err (refusal number place)
     → o.buffer ≡ lent
 
 abbrev pub ReadOnce : Type 0

@@ -4,6 +4,7 @@ pub mod Reading
 pub mod Writing
 pub mod Laws
 pub mod Puts
+pub mod Lent
 pub mod Told
 pub mod Ends
 pub mod Scan

@@ -1,13 +1,13 @@
 -- Reading frequencies.txt, as one function from what the call is lent to what it leaves, accepted or refused. Assumes nothing.
-use Rattle.std.specs.Prelude.{ℕ, ◌+◌, Bool, cond, not, ◌&&◌, List, [], ◌∷◌, ◌++◌, map, ◌≡◌, eqb, leb, ltb, ℤ, length, get_or, drop}
+use Rattle.std.specs.Prelude.{ℕ, ◌+◌, Bool, cond, not, ◌&&◌, List, [], ◌∷◌, ◌++◌, map, ◌≡◌, eqb, leb, ltb, ℤ, length, get_or, drop, Result}
 use Rattle.integers.specs.Integers.{eq_z}
 use Rattle.paper.specs.Lists.{any, all, every}
 use Rattle.paper.specs.Formula.{blank}
 use Rattle.paper.specs.Checks.{Verdict, accepted, refused, require, leaves}
 use Rattle.frequencies.specs.Csv.{Field, field, in_quotes, is_quote, body, quotes_right, Row, row, rows_of}
 use Rattle.frequencies.specs.Values.{time, headway, exact, trip_id, start_time, end_time, headway_secs, exact_times, column, header_good}
-use Rattle.frequencies.specs.declared.Carried.{Carried}
-use Rattle.frequencies.specs.declared.Carried.TheVariants.{Accepted, Refused}
+use Rattle.tables.specs.Answers.{answer_of}
+use Rattle.tables.specs.declared.Refusal.{Refusal}
 
 -- ── the columns, as the header has them; exact_times may have none, and then no row has a field there ──
 pub record Columns : Type 0 where
@@ -154,15 +154,14 @@ read_verdict bytes w =
 -- ── the call ──
 -- what it leaves: the answer, and the rows
 pub record ReadLeft : Type 0 where
-  pub answer : Carried
+  pub answer : Result ℕ Refusal
   pub windows : Windows
 
 -- the answer by a verdict, with the count of an accepted call
-abbrev pub carried_by : Verdict → ℕ → Carried
-carried_by accepted count = Accepted count
-carried_by (refused number place) count = Refused number place
+abbrev pub carried_by : Verdict → ℕ → Result ℕ Refusal
+carried_by v count = answer_of count v
 
-abbrev pub left_by_reading : Carried → Windows → ReadLeft
+abbrev pub left_by_reading : Result ℕ Refusal → Windows → ReadLeft
 left_by_reading answer windows = record { answer = answer; windows = windows }
 
 unfoldable pub read_frequencies : List ℕ → Windows → ReadLeft
@@ -172,6 +171,6 @@ read_frequencies bytes w =
 
 -- what a caller has at exit; `stated` is the contract's equation
 pub record ReadOutcome (bytes : List ℕ) (lent : Windows) : Type 0 where
-  pub answer : Carried
+  pub answer : Result ℕ Refusal
   pub windows : Windows
   pub stated : left_by_reading answer windows ≡ read_frequencies bytes lent

@@ -1,11 +1,14 @@
 -- What scanning says of a field and of a row: where it stands among the bytes, and what is behind it. Assumes nothing.
-use Rattle.std.specs.Prelude.{ℕ, ◌+◌, ◌-◌, ◌≤◌, ◌<◌, Bool, true, false, cond, not, ◌&&◌, ◌||◌, List, [], ◌∷◌, ◌≡◌, eqb, length, get_or, take, drop}
+use Rattle.std.specs.Prelude.{ℕ, ◌+◌, ◌-◌, ◌≤◌, ◌<◌, Bool, false, cond, not, ◌&&◌, ◌||◌, List, [], ◌∷◌, ◌≡◌, eqb, length, get_or, take, drop, Option, None, Some, IfSome}
+use Rattle.std.specs.Bool.{⊤}
 use Rattle.paper.specs.Lists.{any, all}
-use Rattle.frequencies.specs.Csv.{is_line_feed, is_return, is_quote, is_comma, line_feed_next, Field, field, in_quotes, body, closed_from, quotes_right, Rest, row_of, all_rows, Mode, front, plain, inside, behind, split}
+use Rattle.frequencies.specs.Csv.{is_line_feed, is_return, is_quote, is_comma, line_feed_next, Field, field, in_quotes, body, closed_from, quotes_right, Row, Rest, row_of, all_rows, Mode, front, plain, inside, behind, split}
 use Rattle.frequencies.specs.Reading.{quotes_good}
 use Rattle.frequencies.specs.declared.fields.Closing.{Closing}
 use Rattle.frequencies.specs.declared.fields.Plain.{Plain}
-use Rattle.frequencies.specs.declared.fields.Ending.{Ending}
+use Rattle.frequencies.specs.declared.fields.Place.{Place}
+use Rattle.frequencies.specs.declared.fields.Behind.{Behind}
+use Rattle.frequencies.specs.declared.fields.Behind.TheVariants.{Comma, Line, File}
 use Rattle.frequencies.specs.declared.fields.FieldScan.{FieldScan}
 use Rattle.frequencies.specs.declared.rows.Columns.{Columns}
 use Rattle.frequencies.specs.declared.rows.RowScan.{RowScan}
@@ -56,8 +59,8 @@ module _ (bytes : List ℕ) (at line : ℕ) where
     pub scannable : Scannable bytes i line'
 
   pub record QuotesClosed (r : Closing) : Type 0 where
-    pub passed : QuotesPassed r.end r.line r.closing
-    pub out : stays_in r.closing (drop r.end bytes) ≡ false
+    pub passed : QuotesPassed r.end.at r.end.line r.closing
+    pub out : stays_in r.closing (drop r.end.at bytes) ≡ false
 
 -- a field without quotes from place `at` on, or what is left of one, on any line
 module _ (bytes : List ℕ) (at : ℕ) where
@@ -75,33 +78,63 @@ module _ (bytes : List ℕ) (at : ℕ) where
     pub out : goes_on (drop r.end bytes) ≡ false
 
 -- from a field on: behind a comma come the row's other fields, behind a line end the other rows, behind the file's end neither
-abbrev pub behind_field : Bool → Bool → Field → ℕ → Rest → Rest
-behind_field comma more f line t = record {
-  first = f;
-  fields = cond comma (t.first ∷ t.fields) [];
-  line = line;
-  rows = cond comma t.rows (cond more (all_rows t) []);
-}
+module _ (bytes : List ℕ) where
+  abbrev pub rest_at : Place → Rest
+  rest_at p = split p.at p.line front (drop p.at bytes)
+
+  abbrev pub fields_behind : Behind → List Field
+  fields_behind (Comma p) = (row_of (rest_at p)).fields
+  fields_behind (Line p) = []
+  fields_behind File = []
+
+  abbrev pub rows_behind : Behind → List Row
+  rows_behind (Comma p) = (rest_at p).rows
+  rows_behind (Line p) = all_rows (rest_at p)
+  rows_behind File = []
+
+  abbrev pub behind_field : Behind → Field → ℕ → Rest
+  behind_field b f line = record { first = f; fields = fields_behind b; line = line; rows = rows_behind b }
+
+  -- a place behind another, from which is scanned
+  pub record Later (at : ℕ) (p : Place) : Type 0 where
+    pub scannable : Scannable bytes p.at p.line
+    pub on : at < p.at
+
+  abbrev pub Beyond : ℕ → Behind → Type 0
+  Beyond at (Comma p) = Later at p
+  Beyond at (Line p) = Later at p
+  Beyond at File = ⊤
+
+-- P of the place behind a comma
+abbrev pub ForComma : Behind → (Place → Type 0) → Type 0
+ForComma (Comma p) P = P p
+ForComma (Line p) P = ⊤
+ForComma File P = ⊤
+
+-- the rows from a place on, if there are any
+abbrev pub rows_from : List ℕ → Option Place → List Row
+rows_from bytes None = []
+rows_from bytes (Some p) = all_rows (rest_at bytes p)
+
+-- the next row, behind the last field of one
+abbrev pub row_behind : Behind → Option Place
+row_behind (Comma p) = None
+row_behind (Line p) = Some p
+row_behind File = None
 
 -- the end of a field at place `at`
-pub record EndPassed (bytes : List ℕ) (at line : ℕ) (r : Ending) : Type 0 where
-  pub is : split at line plain (drop at bytes) ≡ behind_field r.comma r.more (field at []) line (split r.next r.line front (drop r.next bytes))
-  pub begins : at ≤ r.next
-  pub scannable : Scannable bytes r.next r.line
-  pub on : r.more ≡ true → at < r.next
-  pub more : r.comma ≡ true → r.more ≡ true
+pub record EndPassed (bytes : List ℕ) (at line : ℕ) (b : Behind) : Type 0 where
+  pub is : split at line plain (drop at bytes) ≡ behind_field bytes b (field at []) line
+  pub beyond : Beyond bytes at b
 
 -- the field at place `at`: its bytes, whether it begins with a quote, whether its quotes are right, and what is behind it
 pub record FieldScanned (bytes : List ℕ) (at line : ℕ) (r : FieldScan) : Type 0 where
-  pub is : split at line front (drop at bytes)
-      ≡ behind_field r.comma r.more (field at (take (r.end - at) (drop at bytes))) line (split r.next r.line front (drop r.next bytes))
+  pub is : split at line front (drop at bytes) ≡ behind_field bytes r.behind (field at (take (r.end - at) (drop at bytes))) line
   pub quoted : r.quoted ≡ in_quotes (take (r.end - at) (drop at bytes))
   pub right : r.right ≡ quotes_right (take (r.end - at) (drop at bytes))
   pub begins : at ≤ r.end
-  pub ends : r.end ≤ r.next
-  pub scannable : Scannable bytes r.next r.line
-  pub on : r.more ≡ true → r.end < r.next
-  pub more : r.comma ≡ true → r.more ≡ true
+  pub fits : r.end ≤ length bytes
+  pub beyond : Beyond bytes r.end r.behind
 
 -- ── a row ──
 -- what stands in a field is `size` bytes from this place on
@@ -117,45 +150,45 @@ column_of fs k = get_or fs k (field 0 [])
 
 -- what five columns hold in these fields
 pub record AllStand (bytes : List ℕ) (fs : List Field) (c : Columns) (r : RowScan) : Type 0 where
-  pub trip : Stands bytes (column_of fs c.trip) r.trip_at r.trip_size
-  pub start : Stands bytes (column_of fs c.start) r.start_at r.start_size
-  pub end : Stands bytes (column_of fs c.end) r.end_at r.end_size
-  pub headway : Stands bytes (column_of fs c.headway) r.headway_at r.headway_size
-  pub exact : Stands bytes (column_of fs c.exact) r.exact_at r.exact_size
+  pub trip : Stands bytes (column_of fs c.trip) r.trip.at r.trip.size
+  pub start : Stands bytes (column_of fs c.start) r.start.at r.start.size
+  pub end : Stands bytes (column_of fs c.end) r.end.at r.end.size
+  pub headway : Stands bytes (column_of fs c.headway) r.headway.at r.headway.size
+  pub exact : Stands bytes (column_of fs c.exact) r.exact.at r.exact.size
 
 module _ (bytes : List ℕ) (at line : ℕ) (c : Columns) where
   abbrev pub scanned_at : Rest
   scanned_at = split at line front (drop at bytes)
 
-  -- a row of which the first fields have been scanned; if `comma`, at least one is left
+  -- what is behind the first fields of a row, of which there are `width`
+  abbrev pub Ahead : ℕ → Behind → Type 0
+  Ahead width (Comma p) = Scannable bytes p.at p.line × (at ≤ p.at) × (width ≤ p.at)
+  Ahead width (Line p) = Later bytes at p
+  Ahead width File = ⊤
+
+  -- a row of which the first fields have been scanned
   pub record RowPart (r : RowScan) : Type 0 where
-    pub left : drop r.width (row_of scanned_at).fields
-        ≡ cond r.comma (row_of (split r.next r.line front (drop r.next bytes))).fields []
+    pub left : drop r.width (row_of scanned_at).fields ≡ fields_behind bytes r.behind
     pub width : r.width ≤ length (row_of scanned_at).fields
     pub right : r.right ≡ all (λ (f : Field). quotes_right f.raw) (take r.width (row_of scanned_at).fields)
     pub columns : AllStand bytes (take r.width (row_of scanned_at).fields) c r
-    pub rows : scanned_at.rows
-        ≡ cond r.comma (split r.next r.line front (drop r.next bytes)).rows
-        (cond r.more (all_rows (split r.next r.line front (drop r.next bytes))) [])
-    pub begins : at ≤ r.next
-    pub few : r.comma ≡ true → r.width ≤ r.next
-    pub scannable : Scannable bytes r.next r.line
-    pub on : r.comma ≡ false → r.more ≡ true → at < r.next
+    pub rows : scanned_at.rows ≡ rows_behind bytes r.behind
+    pub ahead : Ahead r.width r.behind
 
   -- a row: its width, its quotes, what its columns hold, and the rows behind it
   pub record RowScanned (r : RowScan) : Type 0 where
     pub width : r.width ≡ length (row_of scanned_at).fields
     pub right : r.right ≡ quotes_good (row_of scanned_at)
     pub columns : AllStand bytes (row_of scanned_at).fields c r
-    pub rows : scanned_at.rows ≡ cond r.more (all_rows (split r.next r.line front (drop r.next bytes))) []
-    pub begins : at ≤ r.next
-    pub scannable : Scannable bytes r.next r.line
-    pub on : r.more ≡ true → at < r.next
+    pub rows : scanned_at.rows ≡ rows_from bytes (row_behind r.behind)
+    pub beyond : IfSome (row_behind r.behind) (Later bytes at)
 
 -- one more field: the measure of the walk over a row falls
-abbrev pub still_to_scan : List ℕ → RowScan → ℕ
-still_to_scan bytes r = cond r.comma 1 0 + (length bytes - r.next)
+abbrev pub still_to_scan : List ℕ → Behind → ℕ
+still_to_scan bytes (Comma p) = 1 + (length bytes - p.at)
+still_to_scan bytes (Line p) = 0
+still_to_scan bytes File = 0
 
-pub record NextScanned (bytes : List ℕ) (c : Columns) (row r : RowScan) : Type 0 where
+pub record NextScanned (bytes : List ℕ) (c : Columns) (from : Place) (row r : RowScan) : Type 0 where
   pub part : (at line : ℕ) → RowPart bytes at line c row → RowPart bytes at line c r
-  pub less : still_to_scan bytes r < still_to_scan bytes row
+  pub less : still_to_scan bytes r.behind < still_to_scan bytes (Comma from)

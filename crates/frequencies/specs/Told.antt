@@ -1,11 +1,12 @@
--- A running number with what cannot be a value as one number more: what the loops over digits answer. Assumes nothing.
-use Rattle.std.specs.Prelude.{ℕ, ◌+◌, ◌-◌, ◌*◌, Bool, cond, ◌&&◌, leb}
-use Rattle.frequencies.specs.Values.{is_digit}
+-- A number that bytes say, if a value can be it: what the functions that read digits answer. Assumes nothing.
+use Rattle.std.specs.Prelude.{ℕ, Bool, cond, ◌&&◌, leb, ℤ, pos, Option, None, Some}
+use Rattle.paper.specs.Formula.{blank}
 
--- a number that a value can be, or 2,147,483,648
-abbrev pub told : Bool → ℕ → ℕ
-told good n = cond (good && leb n 2147483647) n 2147483648
+-- a number that a value can be, or none
+abbrev pub said : Bool → ℕ → Option ℕ
+said good n = cond (good && leb n 2147483647) (Some n) None
 
--- with one digit more behind it
-abbrev pub told_next : ℕ → ℕ → ℕ
-told_next n digit = told (is_digit digit) (10 * n + (digit - 48))
+-- as a value, or blank for none
+abbrev pub value_said : Option ℕ → ℤ
+value_said None = blank
+value_said (Some n) = pos n

@@ -1,13 +1,13 @@
 -- Writing frequencies.txt, as one function from what the call is lent to what it leaves, accepted or refused: the fields in the reference's order, quoted
 -- only where they must be. Assumes nothing.
-use Rattle.std.specs.Prelude.{ℕ, zero, suc, ◌+◌, ◌/◌, ◌%◌, min, Bool, false, cond, ◌&&◌, ◌||◌, List, [], ◌∷◌, ◌++◌, ◌≡◌, eqb, leb, ltb, ℤ, pos, nat_abs, length, get_or, take, drop}
+use Rattle.std.specs.Prelude.{ℕ, zero, suc, ◌+◌, ◌/◌, ◌%◌, min, Bool, false, cond, ◌&&◌, ◌||◌, List, [], ◌∷◌, ◌++◌, ◌≡◌, eqb, leb, ltb, ℤ, pos, nat_abs, length, get_or, take, drop, Result}
 use Rattle.std.specs.Int.Signed.{lt_z, le_z}
 use Rattle.paper.specs.Lists.{any, every, nat, joined}
 use Rattle.paper.specs.Checks.{Verdict, accepted, Line, places, whole, by_lines, leaves}
 use Rattle.frequencies.specs.Csv.{is_line_feed, is_return, is_quote, is_comma, halved, doubled_from}
 use Rattle.frequencies.specs.Values.{trip_id, start_time, end_time, headway_secs, exact_times}
 use Rattle.frequencies.specs.Reading.{Windows, carried_by}
-use Rattle.frequencies.specs.declared.Carried.{Carried}
+use Rattle.tables.specs.declared.Refusal.{Refusal}
 
 -- ── the bytes of a field ──
 -- a number below 10 ^ most in decimal digits, the fewest that hold it
@@ -127,10 +127,10 @@ module _ (count : ℕ) (text : List ℕ) (w : Windows) where
 -- ── the call ──
 -- what it leaves: the answer, and the buffer
 pub record WriteLeft : Type 0 where
-  pub answer : Carried
+  pub answer : Result ℕ Refusal
   pub buffer : List ℕ
 
-abbrev pub left_by_writing : Carried → List ℕ → WriteLeft
+abbrev pub left_by_writing : Result ℕ Refusal → List ℕ → WriteLeft
 left_by_writing answer buffer = record { answer = answer; buffer = buffer }
 
 unfoldable pub write_frequencies : ℕ → List ℕ → Windows → List ℕ → WriteLeft
@@ -140,6 +140,6 @@ write_frequencies count text w buffer =
 
 -- what a caller has at exit; `stated` is the contract's equation
 pub record WriteOutcome (count : ℕ) (text : List ℕ) (w : Windows) (lent : List ℕ) : Type 0 where
-  pub answer : Carried
+  pub answer : Result ℕ Refusal
   pub buffer : List ℕ
   pub stated : left_by_writing answer buffer ≡ write_frequencies count text w lent

@@ -1,41 +1,27 @@
 // The windows of a file's rows, put into the lent rows.
-ghost use Rattle.std.specs.Prelude.{◌+◌, ◌≤◌, ◌≡◌, cond, length, take, drop};
+ghost use Rattle.std.specs.Prelude.{◌+◌, ◌≤◌, ◌≡◌, cond, length, take, drop, IfSome};
 ghost use Rattle.paper.specs.Lists.{any};
 ghost use Rattle.frequencies.specs.Csv.{is_quote};
 ghost use Rattle.frequencies.specs.Reading.{windows_in, windows_of};
-ghost use Rattle.frequencies.specs.Scan.{Scannable};
+ghost use Rattle.frequencies.specs.Scan.{Scannable, rows_from};
 ghost use Rattle.frequencies.specs.Heading.{columns_in};
-ghost use Rattle.frequencies.specs.Filling.{Room, Held, window_put, rows_from};
+ghost use Rattle.frequencies.specs.Filling.{Room, Held, window_put};
 
-use crate::parts::{exact_at, headway_at, time_at};
+use crate::fields::{Place, row_behind};
+use crate::parts::{Span, part};
 use crate::rows::{Columns, RowScan, scan_row};
+use crate::values::{exact_of, headway_of, time_of};
 
-// Whether a quote is among these bytes.
-fn has_quote(bytes: &[u8]) -> bool
-    ensures { result ≡ any is_quote bytes.now }
+// 1 if a quote is among the bytes of a part, and otherwise 0.
+fn doubled_at(bytes: &[u8], span: Span) -> u8
+    requires { span.at + span.size ≤ length bytes.now }
+    ensures { result ≡ cond (any is_quote (take span.size (drop span.at bytes.now))) 1 0 }
 {
-    let mut found = false;
-    let mut i = 0;
-    while i < bytes.len() {
-        found = found | (34 == bytes[i]);
-        i += 1;
-    }
-    found
-}
-
-// 1 if a quote is among `size` bytes from a place on, and otherwise 0.
-fn doubled_at(bytes: &[u8], at: usize, size: usize) -> u8
-    requires { at + size ≤ length bytes.now }
-    ensures { result ≡ cond (any is_quote (take size (drop at bytes.now))) 1 0 }
-{
-    if has_quote(&bytes[at..at + size]) {
-        1
-    } else {
-        0
-    }
+    u8::from(part(bytes, span).contains(&b'"'))
 }
 
 // Puts the window of a scanned row, which begins on this line, at place i.
+// Stays: rows that are written are parameters of their own, here and below: a struct of them would need a clause for each, that it is still the caller's.
 fn put_window(
     bytes: &[u8],
     row: RowScan,
@@ -54,22 +40,20 @@ fn put_window(
     requires room { Room (i + 1) (windows_in name_places.old name_lengths.old name_doubled.old starts.old ends.old headways.old exacts.old lines.old) }
     ensures { windows_in name_places.new name_lengths.new name_doubled.new starts.new ends.new headways.new exacts.new lines.new ≡ window_put bytes.now row line i (windows_in name_places.old name_lengths.old name_doubled.old starts.old ends.old headways.old exacts.old lines.old) }
 {
-    name_places[i] = row.trip_at as u32;
-    name_lengths[i] = row.trip_size as u32;
-    name_doubled[i] = doubled_at(bytes, row.trip_at, row.trip_size);
-    starts[i] = time_at(bytes, row.start_at, row.start_size);
-    ends[i] = time_at(bytes, row.end_at, row.end_size);
-    headways[i] = headway_at(bytes, row.headway_at, row.headway_size);
-    exacts[i] = exact_at(bytes, row.exact_at, row.exact_size);
+    name_places[i] = row.trip.at as u32;
+    name_lengths[i] = row.trip.size as u32;
+    name_doubled[i] = doubled_at(bytes, row.trip);
+    starts[i] = time_of(part(bytes, row.start));
+    ends[i] = time_of(part(bytes, row.end));
+    headways[i] = headway_of(part(bytes, row.headway));
+    exacts[i] = exact_of(part(bytes, row.exact));
     lines[i] = line as u32;
 }
 
-// Puts the windows of the rows from place `at` on, if there are more, into the first places.
+// Puts the windows of the rows from a place on, if there are any, into the first places.
 pub fn fill_rows(
     bytes: &[u8],
-    at: usize,
-    line: usize,
-    more: bool,
+    first: Option<Place>,
     columns: Columns,
     name_places: &mut [u32],
     name_lengths: &mut [u32],
@@ -80,20 +64,18 @@ pub fn fill_rows(
     exacts: &mut [u8],
     lines: &mut [u32],
 )
-    requires here { Scannable bytes.now at line }
-    requires room { Room (length (rows_from bytes.now at line more)) (windows_in name_places.old name_lengths.old name_doubled.old starts.old ends.old headways.old exacts.old lines.old) }
-    ensures { windows_in name_places.new name_lengths.new name_doubled.new starts.new ends.new headways.new exacts.new lines.new ≡ windows_of (columns_in columns) (rows_from bytes.now at line more) (windows_in name_places.old name_lengths.old name_doubled.old starts.old ends.old headways.old exacts.old lines.old) }
+    requires here { IfSome first (λ place. Scannable bytes.now place.at place.line) }
+    requires room { Room (length (rows_from bytes.now first)) (windows_in name_places.old name_lengths.old name_doubled.old starts.old ends.old headways.old exacts.old lines.old) }
+    ensures { windows_in name_places.new name_lengths.new name_doubled.new starts.new ends.new headways.new exacts.new lines.new ≡ windows_of (columns_in columns) (rows_from bytes.now first) (windows_in name_places.old name_lengths.old name_doubled.old starts.old ends.old headways.old exacts.old lines.old) }
 {
-    let mut next = at;
-    let mut begins = line;
-    let mut left = more;
+    let mut next = first;
     let mut i = 0;
-    while left {
-        let row = scan_row(bytes, next, begins, columns);
+    while let Some(place) = next {
+        let row = scan_row(bytes, place, columns);
         put_window(
             bytes,
             row,
-            begins,
+            place.line,
             i,
             name_places,
             name_lengths,
@@ -104,9 +86,7 @@ pub fn fill_rows(
             exacts,
             lines,
         );
-        next = row.next;
-        begins = row.line;
-        left = row.more;
+        next = row_behind(row.behind);
         i += 1;
     }
 }

@@ -1,60 +1,58 @@
 // The rows of a file judged: how many there are, and for each check the line of the first row that does not pass it.
-ghost use Rattle.std.specs.Prelude.{◌≡◌, true, cond, not, ◌&&◌, eqb};
+ghost use Rattle.std.specs.Prelude.{◌≡◌, Some, not, ◌&&◌};
 ghost use Rattle.integers.specs.Integers.{eq_z};
 ghost use Rattle.paper.specs.Formula.{blank};
-ghost use Rattle.frequencies.specs.Judging.{Started, JudgedNext, JudgedAll};
+ghost use Rattle.frequencies.specs.Judging.{first_bad, Started, JudgedNext, JudgedAll};
 
-use crate::parts::{exact_at, headway_at, time_at};
+use crate::fields::{Place, row_behind};
+use crate::parts::part;
 use crate::rows::{Columns, scan_row};
-use crate::values::both;
+use crate::values::{exact_of, headway_of, time_of};
 use formulas::blanks::is_blank;
 
-// Of the rows judged: how many there are, and for each check the line of the first that does not pass it, 0 if all do; where the next row begins and on which
-// line, and whether there is one.
-#[derive(Drop)]
+// Of the rows judged: how many there are, and for each check the line of the first that does not pass it, if any does not; and where the next row begins, if
+// there is one.
+#[derive(Clone, Copy)]
 pub struct Judged {
     pub count: usize,
-    pub widths: usize,
-    pub quotes: usize,
-    pub times: usize,
-    pub headways: usize,
-    pub exacts: usize,
-    pub names: usize,
-    pub next: usize,
-    pub line: usize,
-    pub more: bool,
+    pub widths: Option<usize>,
+    pub quotes: Option<usize>,
+    pub times: Option<usize>,
+    pub headways: Option<usize>,
+    pub exacts: Option<usize>,
+    pub names: Option<usize>,
+    pub next: Option<Place>,
 }
 
 // Neither is blank.
 fn both_values(a: i32, b: i32) -> bool
     ensures { result ≡ (not (eq_z a blank) && not (eq_z b blank)) }
 {
-    both(!is_blank(a), !is_blank(b))
+    !is_blank(a) & !is_blank(b)
 }
 
 // The line of the first row that does not pass a check, with one row more.
-pub fn first_bad(bad: usize, good: bool, line: usize) -> usize
-    ensures { result ≡ cond (eqb bad 0) (cond good 0 line) bad }
+pub fn first_bad(bad: Option<usize>, good: bool, line: usize) -> Option<usize>
+    ensures { result ≡ first_bad bad good line }
 {
-    if bad != 0 {
-        return bad;
+    match bad {
+        None if !good => Some(line),
+        _ => bad,
     }
-    if good { 0 } else { line }
 }
 
 // Judges the next row.
-fn judge_next(bytes: &[u8], columns: Columns, width: usize, j: Judged) -> Judged
+fn judge_next(bytes: &[u8], columns: Columns, width: usize, j: Judged, from: Place) -> Judged
     requires started { Started bytes.now j }
-    requires more_value { j.more ≡ true }
-    ensures { JudgedNext bytes.now columns width j result }
+    requires next { j.next ≡ Some from }
+    ensures { JudgedNext bytes.now columns width j from result }
 {
-    let at = j.next;
-    let line = j.line;
-    let row = scan_row(bytes, at, line, columns);
-    let start = time_at(bytes, row.start_at, row.start_size);
-    let end = time_at(bytes, row.end_at, row.end_size);
-    let headway = headway_at(bytes, row.headway_at, row.headway_size);
-    let exact = exact_at(bytes, row.exact_at, row.exact_size);
+    let line = from.line;
+    let row = scan_row(bytes, from, columns);
+    let start = time_of(part(bytes, row.start));
+    let end = time_of(part(bytes, row.end));
+    let headway = headway_of(part(bytes, row.headway));
+    let exact = exact_of(part(bytes, row.exact));
     Judged {
         count: j.count + 1,
         widths: first_bad(j.widths, row.width == width, line),
@@ -62,21 +60,19 @@ fn judge_next(bytes: &[u8], columns: Columns, width: usize, j: Judged) -> Judged
         times: first_bad(j.times, both_values(start, end), line),
         headways: first_bad(j.headways, !is_blank(headway), line),
         exacts: first_bad(j.exacts, exact <= 1, line),
-        names: first_bad(j.names, 0 < row.trip_size, line),
-        next: row.next,
-        line: row.line,
-        more: row.more,
+        names: first_bad(j.names, 0 < row.trip.size, line),
+        next: row_behind(row.behind),
     }
 }
 
-// Judges the rows from a place on, if there are any; `quotes` is the line of a header whose quotes are not right, or 0.
+// Judges the rows from a place on, if there are any; `start.quotes` is the line of a header whose quotes are not right.
 pub fn judge_rows(bytes: &[u8], columns: Columns, width: usize, start: Judged) -> Judged
     requires { Started bytes.now start }
     ensures { JudgedAll bytes.now columns width start result }
 {
     let mut j = start;
-    while j.more {
-        j = judge_next(bytes, columns, width, j);
+    while let Some(place) = j.next {
+        j = judge_next(bytes, columns, width, j, place);
     }
     j
 }

@@ -12,6 +12,7 @@ mod names;
 mod parts;
 mod puts;
 mod read;
+mod refusals;
 mod rows;
 mod sizes;
 mod values;
@@ -21,9 +22,16 @@ mod write;
 pub use read::read_frequencies;
 pub use write::write_frequencies;
 
-// What a call answers: how many windows were read, or bytes written, or the number and the place of a refusal.
-#[derive(Drop)]
-pub enum Carried {
-    Accepted { count: usize },
-    Refused { number: u32, place: u32 },
+// The windows that a call is lent to write: how many, and a row for each of what they say. A name is so many bytes of a text from a place on; where
+// `name_doubled` is not 0, its quotes stand double there.
+#[derive(Clone, Copy)]
+pub struct Windows<'a> {
+    pub count: usize,
+    pub name_places: &'a [u32],
+    pub name_lengths: &'a [u32],
+    pub name_doubled: &'a [u8],
+    pub starts: &'a [i32],
+    pub ends: &'a [i32],
+    pub headways: &'a [i32],
+    pub exacts: &'a [u8],
 }

@@ -1,12 +1,43 @@
 // A window's line: how many bytes it is, and the line put.
-ghost use Rattle.std.specs.Prelude.{false, [], ◌∷◌, ◌≡◌, ◌+◌, ◌≤◌, pos, nat_abs, length, take, drop};
+ghost use Rattle.std.specs.Prelude.{false, [], ◌∷◌, ◌≡◌, ◌+◌, ◌≤◌, ◌<◌, pos, nat_abs, length, take, drop};
 ghost use Rattle.std.specs.Int.Signed.{lt_z};
-ghost use Rattle.frequencies.specs.Puts.{Puts, Doubles, Sayable};
-ghost use Rattle.frequencies.specs.Writing.{name_of, line_bytes};
+ghost use Rattle.frequencies.specs.Puts.{Puts};
+ghost use Rattle.frequencies.specs.Lent.{lent_windows, AllLent, window_at, window_line, CanSay};
 
+use crate::Windows;
 use crate::names::{name_size, put_name};
+use crate::parts::{Span, part};
 use crate::puts::{put, put_digits, put_time};
 use crate::sizes::{digits_size, time_size};
+
+// One of the windows: what its line says, the name as so many bytes of a text from a place on.
+#[derive(Clone, Copy)]
+pub(crate) struct Window {
+    pub place: u32,
+    pub size: u32,
+    pub double: u8,
+    pub start: i32,
+    pub end: i32,
+    pub headway: i32,
+    pub exact: u8,
+}
+
+// Window i.
+pub(crate) fn window_at(windows: &Windows, i: usize) -> Window
+    requires lent { AllLent windows.now }
+    requires there { i < windows.now.count }
+    ensures { result ≡ window_at (lent_windows windows.now) i }
+{
+    Window {
+        place: windows.name_places[i],
+        size: windows.name_lengths[i],
+        double: windows.name_doubled[i],
+        start: windows.starts[i],
+        end: windows.ends[i],
+        headway: windows.headways[i],
+        exact: windows.exacts[i],
+    }
+}
 
 // A number that is not below 0.
 fn whole(v: i32) -> usize
@@ -16,38 +47,28 @@ fn whole(v: i32) -> usize
     v as usize
 }
 
-// How many bytes a line is, whatever exact_times is.
-fn line_size(double: u8, name: &[u8], start: usize, end: usize, headway: usize) -> usize
-    requires name_len_bound { length name.now ≤ 4294967295 }
-    requires doubles { Doubles double name.now }
-    ensures { (result ≡ length (line_bytes (name_of double name.now) start end headway 0)) × (result ≤ 8589934640) }
+// The bytes of a window's name.
+fn name_in(text: &[u8], window: Window) -> &[u8]
+    requires { CanSay text.now window }
+    ensures { result.now ≡ take window.size (drop window.place text.now) }
 {
-    name_size(double, name) + time_size(start) + time_size(end) + digits_size(10, headway) + 6
+    part(
+        text,
+        Span {
+            at: window.place as usize,
+            size: window.size as usize,
+        },
+    )
 }
 
-// How many bytes a window's line is.
-pub(crate) fn window_size(
-    text: &[u8],
-    place: u32,
-    size: u32,
-    double: u8,
-    start: i32,
-    end: i32,
-    headway: i32,
-) -> usize
-    requires { Sayable text.now place size double start end headway }
-    ensures { (result ≡ length (line_bytes (name_of double (take size (drop place text.now))) (nat_abs start) (nat_abs end) (nat_abs headway) 0))
-        × (result ≤ 8589934640) }
+// How many bytes a window's line is, which is the same whatever exact_times is.
+pub(crate) fn window_size(text: &[u8], window: Window) -> usize
+    requires { CanSay text.now window }
+    ensures { (result ≡ length (window_line text.now window)) × (result ≤ 8589934640) }
 {
-    let from = place as usize;
-    let to = from + size as usize;
-    line_size(
-        double,
-        &text[from..to],
-        whole(start),
-        whole(end),
-        whole(headway),
-    )
+    let name = name_size(window.double, name_in(text, window));
+    let times = time_size(whole(window.start)) + time_size(whole(window.end));
+    name + times + digits_size(10, whole(window.headway)) + 6
 }
 
 // Puts what stands behind the headway.
@@ -60,59 +81,18 @@ fn put_end(exact: u8, out: &mut [u8], at: usize) -> usize
     put(out, b, b'\n')
 }
 
-// Puts a line.
-fn put_line(
-    double: u8,
-    name: &[u8],
-    start: usize,
-    end: usize,
-    headway: usize,
-    exact: u8,
-    out: &mut [u8],
-    at: usize,
-) -> usize
-    requires doubles { Doubles double name.now }
-    requires exact_bound { exact ≤ 1 }
-    ensures { Puts (line_bytes (name_of double name.now) start end headway exact) out.old at out.new result }
-{
-    let a = put_name(double, name, out, at);
-    let b = put(out, a, b',');
-    let c = put_time(start, out, b);
-    let d = put(out, c, b',');
-    let e = put_time(end, out, d);
-    let f = put(out, e, b',');
-    let g = put_digits(10, headway, out, f);
-    put_end(exact, out, g)
-}
-
 // Puts a window's line.
-pub(crate) fn put_window(
-    text: &[u8],
-    place: u32,
-    size: u32,
-    double: u8,
-    start: i32,
-    end: i32,
-    headway: i32,
-    exact: u8,
-    out: &mut [u8],
-    at: usize,
-) -> usize
-    requires sayable { Sayable text.now place size double start end headway }
-    requires exact_bound { exact ≤ 1 }
-    ensures { Puts (line_bytes (name_of double (take size (drop place text.now))) (nat_abs start) (nat_abs end) (nat_abs headway) exact)
-        out.old at out.new result }
+pub(crate) fn put_window(text: &[u8], window: Window, out: &mut [u8], at: usize) -> usize
+    requires sayable { CanSay text.now window }
+    requires exact_bound { window.exact ≤ 1 }
+    ensures { Puts (window_line text.now window) out.old at out.new result }
 {
-    let from = place as usize;
-    let to = from + size as usize;
-    put_line(
-        double,
-        &text[from..to],
-        whole(start),
-        whole(end),
-        whole(headway),
-        exact,
-        out,
-        at,
-    )
+    let a = put_name(window.double, name_in(text, window), out, at);
+    let b = put(out, a, b',');
+    let c = put_time(whole(window.start), out, b);
+    let d = put(out, c, b',');
+    let e = put_time(whole(window.end), out, d);
+    let f = put(out, e, b',');
+    let g = put_digits(10, whole(window.headway), out, f);
+    put_end(window.exact, out, g)
 }

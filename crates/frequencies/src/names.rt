@@ -11,8 +11,8 @@ pub(crate) fn quotes_double(name: &[u8]) -> bool
     ensures { result ≡ doubled_from false name.now }
 {
     let mut one = false;
-    for i in 0..name.len() {
-        let quote = b'"' == name[i];
+    for &byte in name {
+        let quote = b'"' == byte;
         if one & !quote {
             return false;
         }
@@ -33,8 +33,8 @@ fn must_quote(name: &[u8]) -> bool
     ensures { result ≡ must_quote name.now }
 {
     let mut must = false;
-    for i in 0..name.len() {
-        must = must | asks_quotes(name[i]);
+    for &byte in name {
+        must = must | asks_quotes(byte);
     }
     must
 }
@@ -52,13 +52,14 @@ fn doubled_size(name: &[u8]) -> usize
     ensures { (result ≡ length (doubled name.now)) × (result ≤ 2 * length name.now) }
 {
     let mut size = 0;
-    for i in 0..name.len() {
-        size = size + byte_size(name[i]);
+    for &byte in name {
+        size += byte_size(byte);
     }
     size
 }
 
 // How many bytes stand between the quotes.
+// Stays: `double` is the number of the lent row, as the definitions take it.
 fn inside_size(double: u8, name: &[u8]) -> usize
     requires { length name.now ≤ 4294967295 }
     ensures { (result ≡ length (cond (eqb double 0) (doubled name.now) name.now)) × (result ≤ 2 * length name.now) }
@@ -97,8 +98,8 @@ fn put_doubled(name: &[u8], out: &mut [u8], at: usize) -> usize
     ensures { Puts (doubled name.now) out.old at out.new result }
 {
     let mut next = at;
-    for i in 0..name.len() {
-        next = put_byte(name[i], out, next);
+    for &byte in name {
+        next = put_byte(byte, out, next);
     }
     next
 }

@@ -20,23 +20,19 @@ pub(crate) fn put(out: &mut [u8], at: usize, byte: u8) -> usize
 fn has_room(size: usize, at: usize, count: usize) -> bool
     ensures { result ≡ leb (at + count) size }
 {
-    if size < at {
-        return false;
-    }
-    count <= size - at
+    at <= size && count <= size - at
 }
 
-// Puts bytes one behind the other, if there is room for all. No byte stops the loop.
+// Puts bytes one behind the other, if there is room for all.
 pub(crate) fn put_all(out: &mut [u8], at: usize, bytes: &[u8]) -> usize
     ensures { Puts bytes.now out.old at out.new result }
 {
     if !has_room(out.len(), at, bytes.len()) {
         return at;
     }
-    for i in 0..bytes.len() {
-        out[at + i] = bytes[i];
-    }
-    at + bytes.len()
+    let end = at + bytes.len();
+    out[at..end].copy_from_slice(bytes);
+    end
 }
 
 // Puts the decimal digits of a number that has at most this many.

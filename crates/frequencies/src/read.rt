@@ -2,11 +2,12 @@
 ghost use Rattle.std.specs.Prelude.{◌≡◌};
 ghost use Rattle.frequencies.specs.Reading.{windows_in, left_by_reading, read_frequencies};
 
-use crate::Carried;
 use crate::fill::fill_rows;
 use crate::verdict::{judge_file, least_room};
+use tables::Refusal;
 
-// Reads the windows of a file into the lent rows, or refuses it and leaves them as they are.
+// Reads the windows of a file into the lent rows: how many there are. A file that is refused leaves the rows as they are.
+// Stays: the rows that are written are lent one by one, as the C interface lends them; so in `fill`.
 pub fn read_frequencies(
     bytes: &[u8],
     name_places: &mut [u32],
@@ -17,7 +18,7 @@ pub fn read_frequencies(
     headways: &mut [i32],
     exacts: &mut [u8],
     lines: &mut [u32],
-) -> Carried
+) -> Result<usize, Refusal>
     ensures { left_by_reading result (windows_in name_places.new name_lengths.new name_doubled.new starts.new ends.new
         headways.new exacts.new lines.new)
         ≡ read_frequencies bytes.now (windows_in name_places.old name_lengths.old name_doubled.old
@@ -33,19 +34,12 @@ pub fn read_frequencies(
         exacts.len(),
         lines.len(),
     );
-    let judged = judge_file(bytes, room);
-    let answer = judged.answer;
-    let Carried::Accepted { .. } = answer else {
-        return answer;
-    };
+    let judged = judge_file(bytes, room)?;
     let end = judged.end;
-    let columns = judged.columns;
     fill_rows(
         &bytes[..end],
         judged.next,
-        judged.line,
-        judged.more,
-        columns,
+        judged.columns,
         name_places,
         name_lengths,
         name_doubled,
@@ -55,5 +49,5 @@ pub fn read_frequencies(
         exacts,
         lines,
     );
-    answer
+    Ok(judged.count)
 }

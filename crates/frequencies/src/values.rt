@@ -1,150 +1,135 @@
 // What the bytes of a field say: a time, a headway, exact_times; and whether two fields are the same.
-ghost use Rattle.std.specs.Prelude.{◌+◌, ◌-◌, ◌*◌, ◌≤◌, ◌<◌, ◌≡◌, cond, ◌&&◌, ◌∷◌, [], length, take};
+ghost use Rattle.std.specs.Prelude.{◌+◌, ◌-◌, ◌*◌, ◌≤◌, ◌≡◌, ◌&&◌, ◌∷◌, [], length, take, IfSome};
 ghost use Rattle.paper.specs.Lists.{all, between};
 ghost use Rattle.frequencies.specs.Values as specs;
-ghost use Rattle.frequencies.specs.Told.{told, told_next};
+ghost use Rattle.frequencies.specs.Told.{said, value_said};
 
 use formulas::blanks::BLANK;
 
-// A number that no value is.
-const NONE: u64 = 2147483648;
-
-// The number with one digit more behind it, or none.
-fn next_digit(n: u64, digit: u8) -> u64
-    requires { n ≤ 2147483648 }
-    ensures { (result ≡ told_next n digit) × (result ≤ 2147483648) }
+// The number with one digit more behind it, if a value can be it.
+fn next_digit(n: u64, digit: u8) -> Option<u64>
+    requires { n ≤ 2147483647 }
+    ensures { result ≡ said (specs.is_digit digit) (10 * n + (digit - 48)) }
 {
-    if digit < 48 {
-        return NONE;
+    if !digit.is_ascii_digit() {
+        return None;
     }
-    if digit > 57 {
-        return NONE;
-    }
-    let next = 10 * n + (digit - 48) as u64;
-    if next <= 2147483647 { next } else { NONE }
+    let next = 10 * n + u64::from(digit - b'0');
+    (next <= 2147483647).then_some(next)
 }
 
-// The number that these bytes say, or none.
-fn number_of(bytes: &[u8]) -> u64
-    ensures { (result ≡ told (all specs.is_digit bytes.now) (specs.number bytes.now)) × (result ≤ 2147483648) }
+// The number that these bytes say, if a value can be it.
+fn number_of(bytes: &[u8]) -> Option<u64>
+    ensures { result ≡ said (all specs.is_digit bytes.now) (specs.number bytes.now) }
 {
     let mut n: u64 = 0;
-    for i in 0..bytes.len() {
-        n = next_digit(n, bytes[i]);
+    for &digit in bytes {
+        n = next_digit(n, digit)?;
     }
-    n
+    Some(n)
 }
 
-// The number that two digits say, the first of them at most `most`, or none.
-fn pair_of(tens: u8, ones: u8, most: u8) -> u64
+// The number that two digits say, the first of them at most `most`.
+fn pair_of(tens: u8, ones: u8, most: u8) -> Option<u64>
     requires { most ≤ 57 }
-    ensures { (result ≡ told (between 48 tens most && specs.is_digit ones) (specs.number (tens ∷ ones ∷ []))) × (result ≤ 2147483648) }
+    ensures { result ≡ said (between 48 tens most && specs.is_digit ones) (specs.number (tens ∷ ones ∷ [])) }
 {
-    if tens < 48 {
-        return NONE;
+    if tens < b'0' || most < tens || !ones.is_ascii_digit() {
+        return None;
     }
-    if tens > most {
-        return NONE;
-    }
-    if ones < 48 {
-        return NONE;
-    }
-    if ones > 57 {
-        return NONE;
-    }
-    10 * (tens - 48) as u64 + (ones - 48) as u64
+    Some(10 * u64::from(tens - b'0') + u64::from(ones - b'0'))
 }
 
-// The number that the first k bytes say, or none; hours are mostly two digits.
-fn hours_of(bytes: &[u8], k: usize) -> u64
+// The number that the first k bytes say, if a value can be it; hours are mostly two digits.
+fn hours_of(bytes: &[u8], k: usize) -> Option<u64>
     requires { k ≤ length bytes.now }
-    ensures { (result ≡ told (all specs.is_digit (take k bytes.now)) (specs.number (take k bytes.now))) × (result ≤ 2147483648) }
+    ensures { result ≡ said (all specs.is_digit (take k bytes.now)) (specs.number (take k bytes.now)) }
 {
     if k == 2 {
-        return pair_of(bytes[0], bytes[1], 57);
+        return pair_of(bytes[0], bytes[1], b'9');
     }
     number_of(&bytes[..k])
 }
 
-// A number that a value can be, or blank.
-fn as_value(good: bool, n: u64) -> i32
-    ensures { result ≡ specs.as_value good n }
+// The seconds that hours, minutes and seconds are, if a value can be so many.
+fn seconds_of(bytes: &[u8]) -> Option<u64>
+    ensures value { specs.time bytes.now ≡ value_said result }
+    ensures small { IfSome result (λ n. n ≤ 2147483647) }
 {
-    if !good {
-        return BLANK;
+    let size = bytes.len();
+    if size < 7 {
+        return None;
     }
-    if n <= 2147483647 { n as i32 } else { BLANK }
+    let k = size - 6;
+    let hours = hours_of(bytes, k)?;
+    let minutes = pair_of(bytes[k + 1], bytes[k + 2], b'5')?;
+    let seconds = pair_of(bytes[k + 4], bytes[k + 5], b'5')?;
+    let parted = (b':' == bytes[k]) & (b':' == bytes[k + 3]);
+    let time = 3600 * hours + 60 * minutes + seconds;
+    if parted & (time <= 2147483647) {
+        Some(time)
+    } else {
+        None
+    }
+}
+
+// A number as a value, or blank for none.
+fn as_value(n: Option<u64>) -> i32
+    requires { IfSome n (λ k. k ≤ 2147483647) }
+    ensures { result ≡ value_said n }
+{
+    match n {
+        Some(value) => value as i32,
+        None => BLANK,
+    }
 }
 
 // The time that these bytes say, in seconds, or blank.
 pub fn time_of(bytes: &[u8]) -> i32
     ensures { result ≡ specs.time bytes.now }
 {
-    let size = bytes.len();
-    if size < 7 {
-        return BLANK;
-    }
-    let k = size - 6;
-    let hours = hours_of(bytes, k);
-    let minutes = pair_of(bytes[k + 1], bytes[k + 2], 53);
-    let seconds = pair_of(bytes[k + 4], bytes[k + 5], 53);
-    let parted = both(58 == bytes[k], 58 == bytes[k + 3]);
-    as_value(parted, 3600 * hours + 60 * minutes + seconds)
+    as_value(seconds_of(bytes))
 }
 
 // The headway that these bytes say, in seconds, or blank.
 pub fn headway_of(bytes: &[u8]) -> i32
     ensures { result ≡ specs.headway bytes.now }
 {
-    let n = number_of(bytes);
-    as_value(n > 0, n)
+    let said = number_of(bytes);
+    if said == Some(0) {
+        return BLANK;
+    }
+    as_value(said)
 }
 
 // The exact_times that these bytes say: 0, 1, or 2 where they are neither.
 pub fn exact_of(bytes: &[u8]) -> u8
     ensures { result ≡ specs.exact bytes.now }
 {
-    let size = bytes.len();
-    if size == 0 {
-        return 0;
+    match bytes {
+        [] => 0,
+        [byte] => zero_or_one(*byte),
+        _ => 2,
     }
-    if size > 1 {
-        return 2;
-    }
-    zero_or_one(bytes[0])
 }
 
 // What the one byte of exact_times says.
-fn zero_or_one(b: u8) -> u8
-    ensures { result ≡ specs.exact (b ∷ []) }
+// Stays: by `if`, since a `match` on the byte leaves the goal `returns-in_default` without what the arms before it exclude.
+fn zero_or_one(byte: u8) -> u8
+    ensures { result ≡ specs.exact (byte ∷ []) }
 {
-    if b == 48 {
+    if byte == b'0' {
         0
-    } else if b == 49 {
+    } else if byte == b'1' {
         1
     } else {
         2
     }
 }
 
-// Both are so.
-pub fn both(a: bool, b: bool) -> bool
-    ensures { result ≡ (a && b) }
-{
-    a && b
-}
-
 // Two fields are the same.
 pub fn same(a: &[u8], b: &[u8]) -> bool
     ensures { result ≡ specs.same a.now b.now }
 {
-    if a.len() != b.len() {
-        return false;
-    }
-    for i in 0..a.len() {
-        if a[i] != b[i] {
-            return false;
-        }
-    }
-    true
+    a == b
 }

@@ -1,19 +1,20 @@
 // A file judged: the answer by what was found of its header and rows, and what reading it needs.
-ghost use Rattle.std.specs.Prelude.{◌≤◌, ◌≡◌, cond, eqb, leb, length};
+ghost use Rattle.std.specs.Prelude.{◌≡◌};
 ghost use Rattle.frequencies.specs.Reading.{carried_by};
 ghost use Rattle.frequencies.specs.Scan.{Scannable};
-ghost use Rattle.frequencies.specs.Judging.{Started};
+ghost use Rattle.frequencies.specs.Judging.{LinesSmall};
 ghost use Rattle.frequencies.specs.Deciding.{Least, decided, BodyJudged, FileJudged};
-ghost use Rattle.frequencies.specs.declared.Carried.TheVariants.{Refused};
 
-use crate::Carried;
 use crate::ends::{body_end, mark_length};
+use crate::fields::Place;
 use crate::header::read_header;
 use crate::judge::{Judged, first_bad, judge_rows};
+use crate::refusals::{none_fails, refused};
 use crate::rows::Columns;
-use integers::naturals::smaller;
+use tables::Refusal;
 
 // The least of the lengths of the lent rows.
+// Stays: eight numbers, one for each row that is lent to be written; a loop over an array of them is no plainer.
 pub fn least_room(
     a: usize,
     b: usize,
@@ -26,62 +27,41 @@ pub fn least_room(
 ) -> usize
     ensures { Least result a b c d e f g h }
 {
-    smaller(
-        a,
-        smaller(
-            b,
-            smaller(c, smaller(d, smaller(e, smaller(f, smaller(g, h))))),
-        ),
-    )
+    a.min(b.min(c.min(d.min(e.min(f.min(g.min(h)))))))
 }
 
-// A refusal with this number and line, or what is next where there is no such line.
-fn refuse(number: u32, line: usize, next: Carried) -> Carried
-    requires { line ≤ 2147483648 }
-    ensures { result ≡ cond (eqb line 0) next (Refused number line) }
-{
-    if line == 0 {
-        return next;
-    }
-    Carried::Refused {
-        number,
-        place: line as u32,
-    }
-}
-
-// The answer by what was found, one number after the other.
-fn decide(good: bool, room: usize, j: Judged) -> Carried
-    requires { (j.widths ≤ 2147483648) × (j.quotes ≤ 2147483648) × (j.times ≤ 2147483648) × (j.headways ≤ 2147483648) × (j.exacts ≤ 2147483648) × (j.names ≤ 2147483648) }
+// The count of rows, or what refuses the file by what was found, one number after the other.
+fn decide(good: bool, room: usize, j: Judged) -> Result<usize, Refusal>
+    requires { LinesSmall j }
     ensures { result ≡ carried_by (decided good room j) j.count }
 {
     if room < j.count {
-        return Carried::Refused {
-            number: 1,
-            place: 0,
-        };
+        return Err(refused(1, 0));
     }
-    let names = refuse(8, j.names, Carried::Accepted { count: j.count });
-    let exacts = refuse(7, j.exacts, names);
-    let headways = refuse(6, j.headways, exacts);
-    let times = refuse(5, j.times, headways);
-    let quotes = refuse(4, j.quotes, times);
-    let widths = refuse(3, j.widths, quotes);
-    refuse(2, first_bad(0, good, 1), widths)
+    if !good {
+        return Err(refused(2, 1));
+    }
+    none_fails(3, j.widths)?;
+    none_fails(4, j.quotes)?;
+    none_fails(5, j.times)?;
+    none_fails(6, j.headways)?;
+    none_fails(7, j.exacts)?;
+    none_fails(8, j.names)?;
+    Ok(j.count)
 }
 
-// A file judged: the answer, the columns, where its rows end, where the first row behind the header begins and on which line, and whether there is one.
-#[derive(Drop)]
+// A file accepted: how many rows it has behind the header, the columns, where its rows end, and where the first row behind the header
+// begins, if there is one.
+#[derive(Clone, Copy)]
 pub struct Judgement {
-    pub answer: Carried,
+    pub count: usize,
     pub columns: Columns,
     pub end: usize,
-    pub next: usize,
-    pub line: usize,
-    pub more: bool,
+    pub next: Option<Place>,
 }
 
 // Judges the bytes of a file without the line ends at its end, from behind the byte order mark on.
-fn judge_body(bytes: &[u8], mark: usize, room: usize) -> Judgement
+fn judge_body(bytes: &[u8], mark: usize, room: usize) -> Result<Judgement, Refusal>
     requires { Scannable bytes.now mark 1 }
     ensures { BodyJudged bytes.now mark room result }
 {
@@ -89,49 +69,30 @@ fn judge_body(bytes: &[u8], mark: usize, room: usize) -> Judgement
     let columns = h.columns;
     let start = Judged {
         count: 0,
-        widths: 0,
-        quotes: first_bad(0, h.right, 1),
-        times: 0,
-        headways: 0,
-        exacts: 0,
-        names: 0,
+        widths: None,
+        quotes: first_bad(None, h.right, 1),
+        times: None,
+        headways: None,
+        exacts: None,
+        names: None,
         next: h.next,
-        line: h.line,
-        more: h.more,
     };
     let j = judge_rows(bytes, columns, h.width, start);
-    Judgement {
-        answer: decide(h.good, room, j),
+    let count = decide(h.good, room, j)?;
+    Ok(Judgement {
+        count,
         columns,
         end: bytes.len(),
         next: h.next,
-        line: h.line,
-        more: h.more,
-    }
+    })
 }
 
 // Judges a file, with room for this many windows.
-pub fn judge_file(bytes: &[u8], room: usize) -> Judgement
+pub fn judge_file(bytes: &[u8], room: usize) -> Result<Judgement, Refusal>
     ensures { FileJudged bytes.now room result }
 {
     if bytes.len() > 2147483647 {
-        return Judgement {
-            answer: Carried::Refused {
-                number: 1,
-                place: 0,
-            },
-            columns: Columns {
-                trip: 0,
-                start: 0,
-                end: 0,
-                headway: 0,
-                exact: 0,
-            },
-            end: 0,
-            next: 0,
-            line: 0,
-            more: false,
-        };
+        return Err(refused(1, 0));
     }
     let mark = mark_length(bytes);
     let end = body_end(bytes, mark);

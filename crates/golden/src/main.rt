@@ -5,25 +5,25 @@ ghost use Rattle.io.specs.Counts.{IsPrefixLen};
 
 use report::{build_file, read_full};
 use std::fs::Files;
-use tables::Answer;
 
 // The text for a file, with reasons or without, in front of the buffer, and how many bytes it has.
 fn put_text(reasons: bool, file: &[u8], out: &mut [u8; 98304]) -> usize
     ensures { IsPrefixLen result out.new }
 {
+    // Stays: rows of a fixed length: a program that allocates could fail where this one prints.
     let mut numbers = [0u16; 4096];
     let mut stored = [0i32; 4096];
     let mut row = [0u8; 4096];
     let built = build_file(file, &mut numbers, &mut stored, &mut row);
-    let answer = built.answer;
-    let Answer::Refused { number, place } = answer else {
+    let Err(refusal) = built.answer else {
         return text::lines(reasons, built.n, &numbers, &stored, &row, out);
     };
-    text::refusal(number, place, out)
+    text::refusal(refusal.number, refusal.place, out)
 }
 
 // Prints the text for a file, with reasons or without.
 fn show_text<R: Print>(rt: &R, reasons: bool, file: &[u8]) -> std::io::Result<()> {
+    // Stays: rows of a fixed length: a program that allocates could fail where this one prints.
     let mut out = [0u8; 98304];
     let k = put_text(reasons, file, &mut out);
     rt.write_all(&out[..k])
@@ -38,6 +38,7 @@ fn show_named<R: Print + Eprint + Files>(rt: &R, name: &str) -> std::io::Result<
         Ok(input) => input,
         Err(error) => return eprintln!(rt; "{name}: {error}"),
     };
+    // Stays: rows of a fixed length: a program that allocates could fail where this one prints.
     let mut file = [0u8; 65537];
     let got = read_full(&mut input, &mut file);
     show_text(rt, false, &file[..got])?;

@@ -1,16 +1,23 @@
 -- The mark and the number of a group, place by place of the stack. Assumes nothing.
-use Prim.Native.Nat.{ℕ, ◌+◌, ◌≤◌, ◌<◌}
+use Prim.Native.Nat.{ℕ, ◌+◌, ◌-◌, ◌≤◌, ◌<◌}
 use native.Mathlib.Nat.{lt_irrefl}
 use native.Mathlib.Omega.{arith}
 use mathlib.Core.List.{List}
 use mathlib.Core.Logic.{⊎_elim, ◌≢◌}
 use mathlib.Core.Path.{◌≡◌, refl, ap, sym, ◌∙◌}
-use lib.ListN.{length, set, length-set}
-use lib.Seq.{get_or-set_same, get_or-set_other}
+use lib.ListN.{length, get_or, take, drop, set, length-drop, length-set}
+use lib.Seq.{get_or-set_same, get_or-set_other, get_or-take, get_or-drop, length-take-le}
 use Rattle.paper.specs.Lists.{nat}
 use Rattle.paper.proofs.Count.{size-le}
 use Rattle.groups.specs.Stack.{entered, Stacked, Marked}
 use Rattle.paper.proofs.Lists.{same_or}
+
+-- what a part of the stack holds
+pub part-at : (stack : List ℕ) (a e i : ℕ) → a ≤ e → e ≤ length stack → i < length (take (e - a) (drop a stack))
+    → (a + i < e) × (get_or (take (e - a) (drop a stack)) i 0 ≡ nat stack (a + i))
+part-at stack a e i h k l =
+    let d = length-drop a stack in let t = length-take-le (e - a) (drop a stack) (omega arith) in
+    (omega arith, get_or-take (e - a) (drop a stack) i 0 (omega arith) ∙ get_or-drop a stack i 0)
 
 module _ (n : ℕ) (marks stack : List ℕ) (S : Stacked n marks stack) where
   -- as many wait as variables at most

@@ -2,7 +2,9 @@
 #![tactic(auto)]
 
 pub mod asks;
+pub mod links;
 pub mod stacks;
 mod walk;
 
+pub use links::Links;
 pub use walk::find_groups;

@@ -1,14 +1,15 @@
 // The stack of the walk that finds groups: a variable put on it, and the number and the mark of the group that stands on top.
 ghost use Rattle.std.specs.Prelude.{◌≡◌, ◌+◌, ◌≤◌, ◌<◌, length, set};
 ghost use Rattle.paper.specs.Lists.{nat};
-ghost use Rattle.order.specs.Numbering.{part_at, Parted};
+ghost use Rattle.groups.specs.Links.{Laid, links_of};
 ghost use Rattle.groups.specs.Stack.{Waits, Stacked, asked_at, first_number, Best, Marked};
 
 use crate::asks::asks_of;
-use integers::naturals::larger;
+use crate::links::Links;
 use integers::wide;
 
 // Puts v on the stack: its place there.
+// Stays: place 0 holds how many wait, since `Stacked` says the row so.
 pub fn enter(v: usize, marks: &mut [u16; 4096], stack: &mut [u16; 4097]) -> usize
     requires { (v < 4096) × (nat stack.old 0 < 4096) }
     ensures { (result ≡ nat stack.old 0 + 1) × (marks.new ≡ set marks.old v result) × (stack.new ≡ set (set stack.old result v) 0 result) }
@@ -21,11 +22,11 @@ pub fn enter(v: usize, marks: &mut [u16; 4096], stack: &mut [u16; 4097]) -> usiz
 }
 
 // 1 with links, 0 without.
-fn first_number(v: usize, begins: &[u16; 4096], stops: &[u16; 4096]) -> usize
+fn first_number(v: usize, links: &Links) -> usize
     requires { v < 4096 }
-    ensures { result ≡ first_number begins.now stops.now v }
+    ensures { result ≡ first_number links.now.begins.now links.now.stops.now v }
 {
-    if wide(begins[v]) < wide(stops[v]) {
+    if wide(links.begins[v]) < wide(links.stops[v]) {
         return 1;
     }
     0
@@ -34,28 +35,19 @@ fn first_number(v: usize, begins: &[u16; 4096], stops: &[u16; 4096]) -> usize
 // The number of the group that stands on the stack from v's place on.
 pub fn group_number(
     v: usize,
-    n: usize,
-    begins: &[u16; 4096],
-    stops: &[u16; 4096],
-    vars: &[u16],
+    links: &Links,
     marks: &[u16; 4096],
     stack: &[u16; 4097],
     numbers: &[u16; 4096],
 ) -> usize
-    requires parted { Parted n begins.now stops.now vars.now }
-    requires waits { (v < n) × Waits marks.now v }
-    requires stacked { Stacked n marks.now stack.now }
-    ensures { Best (asked_at (part_at begins.now stops.now vars.now) marks.now stack.now numbers.now) (nat marks.now v) (nat stack.now 0 + 1) (first_number begins.now stops.now v) result }
+    requires laid { Laid links.now }
+    requires waits { (v < links.now.n) × Waits marks.now v }
+    requires stacked { Stacked links.now.n marks.now stack.now }
+    ensures { Best (asked_at (links_of links.now) marks.now stack.now numbers.now) (nat marks.now v) (nat stack.now 0 + 1) (first_number links.now.begins.now links.now.stops.now v) result }
 {
-    let top = wide(stack[0]) + 1;
-    let mut best = first_number(v, begins, stops);
-    let mut i = wide(marks[v]);
-    while i < top {
-        best = larger(
-            best,
-            asks_of(wide(stack[i]), n, begins, stops, vars, marks, numbers),
-        );
-        i += 1;
+    let mut best = first_number(v, links);
+    for &u in &stack[wide(marks[v])..wide(stack[0]) + 1] {
+        best = best.max(asks_of(wide(u), links, marks, numbers));
     }
     best
 }
@@ -75,12 +67,9 @@ pub fn mark_group(
     requires stacked { Stacked n marks.old stack.now }
     ensures { Marked p (nat stack.now 0 + 1) mark number marks.old numbers.old marks.new numbers.new }
 {
-    let top = wide(stack[0]) + 1;
-    let mut i = p;
-    while i < top {
-        let v = wide(stack[i]);
+    for &u in &stack[p..wide(stack[0]) + 1] {
+        let v = wide(u);
         marks[v] = mark;
         numbers[v] = number;
-        i += 1;
     }
 }

@@ -4,14 +4,15 @@ use Prim.Native.Nat.{ℕ, zero, suc, ◌+◌, ◌≤◌, ◌<◌}
 use native.Mathlib.Nat.{lt_irrefl, not-suc-le-zero}
 use native.Mathlib.Numerals.{add-one}
 use native.Mathlib.Omega.{arith}
-use mathlib.Core.Bool.{Bool, true, false, cond, ◌&&◌, false≢true}
+use mathlib.Core.Bool.{Bool, true, false, cond, ◌&&◌}
 use mathlib.Core.List.{List, [], ◌∷◌, ◌++◌, Memᴰ}
-use mathlib.Core.Logic.{◌≢◌}
 use mathlib.Core.Path.{◌≡◌, refl, ap, ap₂, sym, ◌∙◌, subst}
 use lib.Dec.{eqb, ltb}
 use lib.ListN.{length, take, set, length-append, get_or-append}
 use lib.Seq.{get_or-take, length-take-le, get_or-append_seam}
 use borrow.Author.Tests.{ltb-true, ltb-false, eqb-true, eqb-false, eq-eqb, lt-ltb}
+use Rattle.std.specs.Prelude.{Option, Some, None}
+use Rattle.std.specs.Bool.{then_some}
 use Rattle.paper.specs.Lists.{all, nat, those, all_below}
 use Rattle.paper.specs.Tables.{Tables, Index, index_in, part, reads, readers, readers_start}
 use Rattle.paper.specs.Checks.{indexed}
@@ -20,7 +21,7 @@ use Rattle.paper.proofs.Those.{joined-grown}
 use Rattle.paper.proofs.Least.{all_below-at, below_all}
 use Rattle.paper.proofs.Sections.{those-place}
 use Rattle.paper.proofs.Indexed.{readers-within, indexed-start, indexed-place, indexed-from}
-use Rattle.order.specs.Numbering.{above}
+use Rattle.order.specs.Numbering.{above, made_right}
 use Rattle.index.specs.Walk.{row_at, place_in, found_from, behind, stands, Begun, Untried, GoneOn, RowTried, ends_meet, RowsWalked}
 use Rattle.index.specs.Index.{EntriesLaid}
 use Rattle.index.proofs.Parts.{part-long, entry-low}
@@ -166,42 +167,34 @@ module _ (t : Tables) (L : EntriesLaid t) (starts places : List ℕ) (room : t.e
         go false ok = refl
 
     -- ── the row has been tried ──
-    module _ (nums part' cells' : List ℕ) (e : part' ≡ inputs) {d : ℕ} (T : RowTried k part' nums filled cells cells' d) (some : 1 ≤ nat t.counts k) where
-      abbrev asked : ℕ
-      asked = above (nat nums) inputs
-
-      is : d ≡ cond (all good inputs) asked 0
+    module _ (nums part' cells' : List ℕ) (e : part' ≡ inputs) {d : Option ℕ} (T : RowTried k part' nums filled cells cells' d) where
+      is : d ≡ cond (all good inputs) (Some (above (nat nums) inputs)) None
       is = (subst (λ (p : List ℕ). RowTried k p nums filled cells cells' d) e T).is
 
-      -- some number is due from inputs, so that 0 is due only where the row does not stand
-      asks : 1 ≤ asked
-      asks = go inputs (part-long t L k l)
-        where
-          go : (p : List ℕ) → length p ≡ nat t.counts k → 1 ≤ above (nat nums) p
-          go [] h = absurd (lt_irrefl 0 (omega arith))
-          go (x ∷ xs) h = omega arith
+      is-at : (b : Bool) → all good inputs ≡ b → d ≡ cond b (Some (above (nat nums) inputs)) None
+      is-at b q = is ∙ ap (λ b. cond b (Some (above (nat nums) inputs)) None) q
 
-      pub walked_next : d ≢ 0 → Walked t starts filled (k + 1) cells'
-      walked_next h = go (all good inputs) refl
+      pub walked_next : (x : ℕ) → d ≡ Some x → Walked t starts filled (k + 1) cells'
+      walked_next x h = go (all good inputs) refl
         where
           go : (b : Bool) → all good inputs ≡ b → Walked t starts filled (k + 1) cells'
-          go true q = row_next q cells' (subst (λ (p : List ℕ). GoneOn k p cells cells') e (T.passed (let z = is ∙ ap (λ b. cond b asked 0) q in let a = asks in omega arith)))
-          go false q = absurd (h (is ∙ ap (λ b. cond b asked 0) q))
+          go true q = row_next q cells' (subst (λ (p : List ℕ). GoneOn k p cells cells') e (T.passed x h))
+          go false q = let z = is-at false q in absurd (cc)
 
-      pub walked_stop : d ≡ 0 → false ≡ indexed t lent_index
+      pub walked_stop : d ≡ None → false ≡ indexed t lent_index
       walked_stop h = go (all good inputs) refl
         where
           go : (b : Bool) → all good inputs ≡ b → false ≡ indexed t lent_index
-          go true q = absurd (lt_irrefl 0 (let z = is ∙ ap (λ b. cond b asked 0) q in let a = asks in omega arith))
+          go true q = let z = is-at true q in absurd (cc)
           go false q = row-stop (sym q)
 
       -- what was found due is what the paper asks of what the row makes
-      pub due-is : d ≢ 0 → d ≡ asked
-      due-is h = go (all good inputs) refl
+      pub due-is : (x : ℕ) → d ≡ Some x → x ≡ above (nat nums) inputs
+      due-is x h = go (all good inputs) refl
         where
-          go : (b : Bool) → all good inputs ≡ b → d ≡ asked
-          go true q = is ∙ ap (λ b. cond b asked 0) q
-          go false q = absurd (h (is ∙ ap (λ b. cond b asked 0) q))
+          go : (b : Bool) → all good inputs ≡ b → x ≡ above (nat nums) inputs
+          go true q = let z = is-at true q in cc
+          go false q = let z = is-at false q in absurd (cc)
 
   -- ── all rows ──
   module _ (cells : List ℕ) (W : Walked t starts filled t.m cells) where
@@ -246,6 +239,11 @@ module _ (t : Tables) (L : EntriesLaid t) (starts places : List ℕ) (room : t.e
   pub walked_end : (k : ℕ) (cells : List ℕ) → Walked t starts filled k cells → k ≡ t.m → ends_meet t.n starts cells ≡ indexed t lent_index
   walked_end k cells W e = closed_is cells (subst (λ j. Walked t starts filled j cells) e W)
 
--- ── a row that does not stand decides ──
-pub rows-stopped : (t u : Tables) (nums starts places : List ℕ) → false ≡ indexed t (index_in starts places) → RowsWalked t u nums starts places (record { indexed = false; due = false })
-rows-stopped t u nums starts places e = record { index = e; numbers = λ h. absurd (false≢true h) }
+-- ── a row that does not stand decides, and otherwise the ends do ──
+pub rows-stopped : (t u : Tables) (nums : List ℕ) (x : Index) → false ≡ indexed t x → RowsWalked t u nums x None
+rows-stopped t u nums x e = record { index = e; numbers = λ d h. absurd (cc) }
+
+pub rows-walked : (t u : Tables) (nums : List ℕ) (x : Index) (ends due : Bool) → ends ≡ indexed t x → due ≡ all_below (made_right u nums) u.m
+    → RowsWalked t u nums x (then_some ends due)
+rows-walked t u nums x true due e f = record { index = e; numbers = λ d h. let z : due ≡ d = cc in sym z ∙ f }
+rows-walked t u nums x false due e f = rows-stopped t u nums x e

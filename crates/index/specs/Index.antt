@@ -3,10 +3,14 @@ use Rattle.std.specs.Prelude.{ℕ, suc, ◌≤◌, ◌<◌, List, [], ◌≡◌,
 use Rattle.std.proofs.Math.Seq.{slice}
 use Rattle.paper.specs.Lists.{nat, total}
 use Rattle.paper.specs.Tables.{Tables, lent, readers}
+use Rattle.tables.specs.declared.lent.Tables as code-tables
 
 -- only the rows' parts and the variables of the entries play a part
 abbrev pub entries_only : ℕ → ℕ → ℕ → List ℕ → List ℕ → List ℕ → Tables
 entries_only n m e firsts counts vars = lent n m e [] [] [] firsts counts vars []
+
+abbrev pub entries_lent : code-tables.Tables → Tables
+entries_lent t = entries_only t.n t.m t.e t.firsts.now t.counts.now t.vars.now
 
 -- the rows' parts follow one another up to e, and every entry names a variable
 pub record EntriesLaid (t : Tables) : Type 0 where

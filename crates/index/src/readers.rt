@@ -3,5 +3,5 @@ mod right;
 mod rows;
 mod write;
 
-pub use right::{Held, rows_right};
+pub use right::rows_right;
 pub use write::write_readers;

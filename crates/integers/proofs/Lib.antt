@@ -2,3 +2,4 @@ pub mod Parts
 pub mod Order
 pub mod Ranges
 pub mod Bits
+pub mod Below

@@ -1,1 +1,2 @@
 pub mod Integers
+pub mod Below

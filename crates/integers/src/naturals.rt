@@ -1,45 +1,19 @@
-// Numbers without a sign: the larger and the smaller of two, and the number of moves kept, which goes up and down by one below a ceiling where it stays.
-ghost use Rattle.std.specs.Prelude.{◌≡◌, cond, suc, pred, min, max, ltb};
-
-// The larger of the two.
-pub fn larger(a: usize, b: usize) -> usize
-    ensures { result ≡ max a b }
-{
-    if a < b {
-        return b;
-    }
-    a
-}
-
-// The smaller of the two.
-pub fn smaller(a: usize, b: usize) -> usize
-    ensures { result ≡ min a b }
-{
-    if b < a {
-        return b;
-    }
-    a
-}
+// The number of moves kept, which goes up and down by one below a ceiling where it stays.
+ghost use Rattle.std.specs.Prelude.{◌≡◌, cond, suc, pred, min, ltb};
 
 // The number of moves kept, with one more; the greatest number stays.
 pub fn kept_once_more(kept: u32) -> u32
     ensures { result ≡ min (suc kept) 4294967295 }
 {
-    if kept < 4294967295 {
-        return kept + 1;
-    }
-    kept
+    kept.saturating_add(1)
 }
 
 // The number of moves kept, with one fewer; the greatest number stays.
 pub fn kept_once_less(kept: u32) -> u32
     ensures { result ≡ cond (ltb kept 4294967295) (pred kept) kept }
 {
-    if 4294967295 <= kept {
+    if kept == u32::MAX {
         return kept;
     }
-    if 0 < kept {
-        return kept - 1;
-    }
-    0
+    kept.saturating_sub(1)
 }

@@ -10,7 +10,8 @@ use Rattle.paper.specs.Lists.{nat, over}
 use Rattle.paper.proofs.Lists.{and_left, and_right}
 use Rattle.figures.specs.Adding.{plus}
 use Rattle.figures.specs.declared.Totals.{Totals}
-use Rattle.figures.specs.declared.Counted.TheVariants.{Accepted, Refused}
+use Rattle.std.specs.Prelude.{Ok, Err}
+use Rattle.tables.specs.Answers.{refusal}
 use Rattle.merging.specs.Merge.{counts_fit, half_fits, totals_fit, tallies_fit, merge_fits, merge}
 
 pub record TotalsKnown (a b : Totals) : Type 0 where
@@ -65,9 +66,9 @@ module _ (a b : Totals) (xs ys row : List ℕ) where
     pub merge-tallies : tallies_fit xs ys ≡ true
     merge-tallies = and_right (roomy (totals_fit a b)) (tallies_fit xs ys) h
 
-    pub merge-accepted : (t : Totals) (left : List ℕ) → t ≡ plus a b → left ≡ over 22 (λ k. nat xs k + nat ys k) row → (Accepted t, left) ≡ merge a b xs ys row
+    pub merge-accepted : (t : Totals) (left : List ℕ) → t ≡ plus a b → left ≡ over 22 (λ k. nat xs k + nat ys k) row → (Ok t, left) ≡ merge a b xs ys row
     merge-accepted t left p q =
-        ap₂ (λ u l. (Accepted u, l)) p q ∙ ap (λ u. cond u (Accepted (plus a b), over 22 (λ k. nat xs k + nat ys k) row) (Refused 1 0, row)) (sym h)
+        ap₂ (λ u l. (Ok u, l)) p q ∙ ap (λ u. cond u (Ok (plus a b), over 22 (λ k. nat xs k + nat ys k) row) (Err (refusal 1 0), row)) (sym h)
 
-  pub merge-refused : merge_fits a b xs ys row ≡ false → (Refused 1 0, row) ≡ merge a b xs ys row
-  merge-refused h = ap (λ u. cond u (Accepted (plus a b), over 22 (λ k. nat xs k + nat ys k) row) (Refused 1 0, row)) (sym h)
+  pub merge-refused : merge_fits a b xs ys row ≡ false → (Err (refusal 1 0), row) ≡ merge a b xs ys row
+  merge-refused h = ap (λ u. cond u (Ok (plus a b), over 22 (λ k. nat xs k + nat ys k) row) (Err (refusal 1 0), row)) (sym h)

@@ -17,7 +17,8 @@ use Rattle.figures.specs.declared.outcomes.Outcome.{Outcome}
 use Rattle.figures.specs.Figures.{outcomes, having, totals, tallies}
 use Rattle.figures.specs.Adding.{single, plus}
 use Rattle.figures.specs.Laws.{as_batch}
-use Rattle.figures.specs.declared.Counted.TheVariants.{Accepted, Refused}
+use Rattle.std.specs.Prelude.{Ok, Err}
+use Rattle.tables.specs.Answers.{refusal}
 use Rattle.figures.proofs.Adding.{plus_assoc, none-plus, totals-next}
 use Rattle.figures.proofs.Order.{move_in, moves-again}
 use Rattle.merging.specs.Merge.{totals_fit, tallies_fit}
@@ -52,9 +53,9 @@ joined-is-merged s w asked moves moves' few row row' both h =
     let pairs = length-map all length in
     let fit : ((leb (length all) 1000 && leb (length all) (length (map length all))) && leb 22 (length both)) ≡ true =
     ap₂ ◌&&◌ (ap₂ ◌&&◌ (le-leb (length all) 1000 few) (le-leb (length all) (length (map length all)) (omega arith))) long in
-    ap (λ t. cond t (Accepted (plus (totals os) (totals os')), over 22 (λ k. nat ts k + nat us k) both) (Refused 1 0, both)) h
-    ∙ ap₂ (λ t l. (Accepted t, l)) (sym (totals-joined os os') ∙ ap totals (sym (outcomes-joined s w asked moves moves')))
+    ap (λ t. cond t (Ok (plus (totals os) (totals os')), over 22 (λ k. nat ts k + nat us k) both) (Err (refusal 1 0), both)) h
+    ∙ ap₂ (λ t l. (Ok t, l)) (sym (totals-joined os os') ∙ ap totals (sym (outcomes-joined s w asked moves moves')))
     (over-same (λ k. nat ts k + nat us k) 22 both (λ k. having k (os ++ os'))
     (λ k l. ap₂ ◌+◌ (over-at (λ j. having j os) 22 row k 0 l) (over-at (λ j. having j os') 22 row' k 0 l) ∙ sym (having-joined k os os'))
     ∙ ap (λ xs. tallies xs both) (sym (outcomes-joined s w asked moves moves')))
-    ∙ ap (λ t. cond t (Accepted (totals (outcomes s w asked (as_batch all))), tallies (outcomes s w asked (as_batch all)) both) (Refused 1 0, both)) (sym fit)
+    ∙ ap (λ t. cond t (Ok (totals (outcomes s w asked (as_batch all))), tallies (outcomes s w asked (as_batch all)) both) (Err (refusal 1 0), both)) (sym fit)

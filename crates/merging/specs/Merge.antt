@@ -1,11 +1,11 @@
 -- The figures of two batches together. Assumes nothing.
-use Rattle.std.specs.Prelude.{ℕ, ◌+◌, Bool, cond, ◌&&◌, List, leb, ℤ, pos, negsuc, length}
+use Rattle.std.specs.Prelude.{ℕ, ◌+◌, Bool, cond, ◌&&◌, List, Result, Ok, Err, leb, ℤ, pos, negsuc, length}
 use Rattle.std.specs.Int.Signed.{le_z}
 use Rattle.paper.specs.Lists.{nat, over, all_below}
 use Rattle.figures.specs.Adding.{plus}
 use Rattle.figures.specs.declared.Totals.{Totals}
-use Rattle.figures.specs.declared.Counted.{Counted}
-use Rattle.figures.specs.declared.Counted.TheVariants.{Accepted, Refused}
+use Rattle.tables.specs.Answers.{refusal}
+use Rattle.tables.specs.declared.Refusal.{Refusal}
 
 -- two counts that together fit 32 bits
 abbrev pub counts_fit : ℕ → ℕ → Bool
@@ -27,5 +27,5 @@ abbrev pub merge_fits : Totals → Totals → List ℕ → List ℕ → List ℕ
 merge_fits a b xs ys row = (((totals_fit a b && leb 22 (length xs)) && leb 22 (length ys)) && leb 22 (length row)) && tallies_fit xs ys
 
 -- ── the call ──
-abbrev pub merge : Totals → Totals → List ℕ → List ℕ → List ℕ → Counted × List ℕ
-merge a b xs ys row = cond (merge_fits a b xs ys row) (Accepted (plus a b), over 22 (λ k. nat xs k + nat ys k) row) (Refused 1 0, row)
+abbrev pub merge : Totals → Totals → List ℕ → List ℕ → List ℕ → Result Totals Refusal × List ℕ
+merge a b xs ys row = cond (merge_fits a b xs ys row) (Ok (plus a b), over 22 (λ k. nat xs k + nat ys k) row) (Err (refusal 1 0), row)

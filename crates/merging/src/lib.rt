@@ -6,13 +6,14 @@ ghost use Rattle.paper.specs.Lists.{nat, over};
 ghost use Rattle.figures.specs.Adding.{plus};
 ghost use Rattle.merging.specs.Merge.{counts_fit, half_fits, totals_fit, tallies_fit, merge_fits, merge as merged};
 
-use figures::{Counted, Totals, one_of};
+use figures::{Totals, greatest_of, least_of};
+use tables::{Refusal, refused};
 
 // Whether two counts together fit 32 bits.
 fn counts_fit(a: u32, b: u32) -> bool
     ensures { result ≡ counts_fit a b }
 {
-    (a as u64) + (b as u64) <= 4294967295
+    a.checked_add(b).is_some()
 }
 
 // Whether two sums of that size fit 64 bits.
@@ -39,11 +40,7 @@ fn tallies_fit(first: &[u32], second: &[u32]) -> bool
     requires { (22 ≤ length first.now) × (22 ≤ length second.now) }
     ensures { result ≡ tallies_fit first.now second.now }
 {
-    let mut fit = true;
-    for k in 0..22usize {
-        fit = fit & counts_fit(first[k], second[k]);
-    }
-    fit
+    (0..22).all(|k| counts_fit(first[k], second[k]))
 }
 
 // The sum of two sums that are at most half as large as fits.
@@ -61,8 +58,8 @@ fn add_totals(first: Totals, second: Totals) -> Totals
 {
     Totals {
         blank: first.blank + second.blank,
-        least: one_of(false, first.least, second.least),
-        greatest: one_of(true, first.greatest, second.greatest),
+        least: least_of(first.least, second.least),
+        greatest: greatest_of(first.greatest, second.greatest),
         sum: add_sums(first.sum, second.sum),
         first: first.first + second.first,
         second: first.second + second.second,
@@ -71,11 +68,12 @@ fn add_totals(first: Totals, second: Totals) -> Totals
 }
 
 // Writes the tallies of both batches.
+// Stays: k picks from three rows.
 fn add_tallies(first: &[u32], second: &[u32], by_number: &mut [u32])
     requires { (22 ≤ length first.now) × (22 ≤ length second.now) × (22 ≤ length by_number.old) × (tallies_fit first.now second.now ≡ true) }
     ensures { by_number.new ≡ over 22 (λ k. nat first.now k + nat second.now k) by_number.old }
 {
-    for k in 0..22usize {
+    for k in 0..22 {
         by_number[k] = first[k] + second[k];
     }
 }
@@ -108,16 +106,12 @@ pub fn merge(
     first_by_number: &[u32],
     second_by_number: &[u32],
     by_number: &mut [u32],
-) -> Counted
+) -> Result<Totals, Refusal>
     ensures { (result, by_number.new) ≡ merged first second first_by_number.now second_by_number.now by_number.old }
 {
     if !merge_fits(first, second, first_by_number, second_by_number, by_number) {
-        return Counted::Refused {
-            number: 1,
-            place: 0,
-        };
+        return Err(refused(1, 0));
     }
     add_tallies(first_by_number, second_by_number, by_number);
-    let totals = add_totals(first, second);
-    Counted::Accepted { totals }
+    Ok(add_totals(first, second))
 }

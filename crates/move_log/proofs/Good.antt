@@ -4,18 +4,24 @@ use native.Mathlib.Nat.{lt_irrefl}
 use native.Mathlib.Omega.{arith}
 use native.Mathlib.Numerals.{add-one}
 use mathlib.Core.Bool.{Bool, true, false, cond, ◌&&◌}
-use mathlib.Core.Path.{◌≡◌, refl, ap, ap₂, sym, ◌∙◌}
+use mathlib.Core.List.{List}
+use mathlib.Core.Path.{◌≡◌, refl, ap, ap₂, sym, subst, ◌∙◌}
 use lib.Dec.{leb, ltb}
-use lib.ListN.{length, take, drop}
+use lib.ListN.{length, get_or, take, drop}
+use Rattle.std.specs.Bool.{MatchBool}
+use Rattle.std.specs.List.{AllWithin, HoldsAt, range_with_len}
+use Rattle.std.proofs.lemmas.List.FromFn.{length-range_with_len, get_or-range_with_len}
 use borrow.Author.Rules.{part_to_end}
 use borrow.Author.Tests.{ltb-true, ltb-false, eq-eqb, ne_eqb, le-leb, lt-leb}
+use Rattle.std.specs.Prelude.{is_ok}
+use Rattle.tables.specs.Answers.{answer_of}
 use Rattle.paper.specs.Lists.{every, nat, first_fail, all_below}
 use Rattle.paper.specs.Tables.{Tables}
 use Rattle.paper.specs.Checks.{Verdict, accepted, refused, check, Bounds, Move, movable, named_once, has_value, pair_within}
 use Rattle.paper.specs.Log.{Log, move_good, back, logged, log_good}
 use Rattle.paper.proofs.Lists.{all_yes}
-use Rattle.paper.proofs.Least.{first_fail-le}
-use Rattle.paper.proofs.Scan.{Scan, scan-found, scan-all}
+use Rattle.paper.proofs.Least.{first_fail-le, all_below-at, below_all}
+use Rattle.checks.specs.Allowed.{OfMakers}
 use Rattle.checks.specs.Moves.{move_of, pair_checks}
 use Rattle.checks.proofs.MovesJudged.{from_eleven, from_twelve, from_seventeen}
 
@@ -23,6 +29,11 @@ use Rattle.checks.proofs.MovesJudged.{from_eleven, from_twelve, from_seventeen}
 abbrev pub passes : Verdict → Bool
 passes accepted = true
 passes (refused number place) = false
+
+-- and so does the answer that stands for it
+pub answer-passes : (v : Verdict) → is_ok (answer_of {A = Unit {0}} tt v) ≡ passes v
+answer-passes accepted = refl
+answer-passes (refused number place) = refl
 
 check-passed : (code bound : ℕ) (good : ℕ → Bool) (next : Verdict) → passes (check code bound good next) ≡ (all_below good bound && passes next)
 check-passed code bound good next = go (ltb (first_fail good bound) bound) refl
@@ -60,9 +71,9 @@ module _ (l : Log) (k pairs : ℕ) (e : pairs ≡ nat l.sizes (k + 1)) where
     back-many h = sym (move-good t bs (back l k) ∙ ap (◌&& passes (pair_checks (back l k) bs t accepted)) (lt-leb (back l k).pairs 64 (omega (arith, size))))
 
     -- what the checks of it say
-    pub back-told : pairs ≤ 64 → (v : Verdict) → pair_checks lent bs t accepted ≡ v → passes v ≡ move_good t bs (back l k)
-    back-told h v q =
-        sym (move-good t bs (back l k) ∙ ap₂ ◌&&◌ (le-leb (back l k).pairs 64 (omega (arith, size))) (ap passes (ap (λ mv. pair_checks mv bs t accepted) (sym same) ∙ q)))
+    pub back-told : pairs ≤ 64 → passes (pair_checks lent bs t accepted) ≡ move_good t bs (back l k)
+    back-told h =
+        sym (move-good t bs (back l k) ∙ ap₂ ◌&&◌ (le-leb (back l k).pairs 64 (omega (arith, size))) (ap (λ mv. passes (pair_checks mv bs t accepted)) (sym same)))
 
 -- ── the whole log ──
 module _ (l : Log) (t : Tables) (bs : Bounds) (kept : ℕ) where
@@ -77,13 +88,35 @@ module _ (l : Log) (t : Tables) (bs : Bounds) (kept : ℕ) where
   unfolding every
   log-more a h = sym (ap₂ (λ x y. x && (y && (all_below good (logged l) && true))) (le-leb (logged l) 64 a) (lt-leb (logged l) kept h))
 
-  -- a loop over its moves
-  module _ (a : logged l ≤ 64) (b : logged l ≤ kept) (k : ℕ) (s : Scan good (logged l) k) where
-    pub log-bad : k < logged l → good k ≡ false → false ≡ log_good l t bs kept
+  module _ (a : logged l ≤ 64) (b : logged l ≤ kept) where
+    pub log-bad : (k : ℕ) → k < logged l → false ≡ good k → false ≡ log_good l t bs kept
     unfolding every
-    log-bad h e =
-        let found = scan-found good (logged l) k s h e in
-        sym (ap₂ ◌&&◌ (le-leb (logged l) 64 a) (ap₂ (λ x y. x && (y && true)) (le-leb (logged l) kept b) (ne_eqb (first_fail good (logged l)) (logged l) (λ q. lt_irrefl k (omega arith)))))
+    log-bad k h e = sym (ap₂ ◌&&◌ (le-leb (logged l) 64 a) (ap₂ (λ x y. x && (y && true)) (le-leb (logged l) kept b) (go (all_below good (logged l)) refl)))
+      where
+        go : (c : Bool) → all_below good (logged l) ≡ c → c ≡ false
+        go false q = refl
+        go true q = sym (all_below-at good (logged l) q k h) ∙ sym e
 
-    pub log-all : logged l ≤ k → true ≡ log_good l t bs kept
-    log-all h = sym (all_yes _ (le-leb (logged l) 64 a, (le-leb (logged l) kept b, (eq-eqb (first_fail good (logged l)) (logged l) (sym (scan-all good (logged l) k s h)), tt))))
+    pub log-all : ((k : ℕ) → k < logged l → true ≡ good k) → true ≡ log_good l t bs kept
+    log-all h = sym (all_yes _ (le-leb (logged l) 64 a, (le-leb (logged l) kept b, (below_all good (logged l) (λ k m. sym (h k m)), tt))))
+
+-- what is told of all its moves, whichever tables the makers are of
+module _ (l : Log) (bs : Bounds) (kept n : ℕ) (by : List ℕ) where
+  abbrev pub Says : Bool → ℕ → Type 0
+  Says b k = OfMakers n by (λ t. b ≡ move_good t bs (back l k))
+
+  module _ (held : ℕ) (same : held ≡ logged l) (a : logged l ≤ 64) (b : logged l ≤ kept) where
+    abbrev moves : List ℕ
+    moves = range_with_len 0 held
+
+    at : (k : ℕ) → k < held → get_or moves k 0 ≡ k
+    at k h = get_or-range_with_len 0 held k 0 h ∙ omega arith
+
+    pub log-told : (r : Bool) → MatchBool r (AllWithin (Says true) moves 0 (length moves)) ((k : ℕ) × (k < length moves) × HoldsAt (Says false) moves k)
+        → OfMakers n by (λ t. r ≡ log_good l t bs kept)
+    log-told true h = record {
+      of = λ t e q. log-all l t bs kept a b (λ k m. let long = length-range_with_len 0 held in (subst (Says true) (at k (omega arith)) (h k 0 (omega arith) (omega arith))).of t e q);
+    }
+    log-told false h = record {
+      of = λ t e q. let long = length-range_with_len 0 held in let low = h.1 in log-bad l t bs kept a b h.0 (omega arith) ((subst (Says false) (at h.0 (omega arith)) (h.2 0)).of t e q);
+    }

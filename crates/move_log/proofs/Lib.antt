@@ -1,4 +1,3 @@
-mod Slid
 mod Laid
 pub mod Room
 mod Noted

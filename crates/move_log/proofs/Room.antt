@@ -1,11 +1,11 @@
 -- A log in which room is made, row by row. Assumes nothing.
-use Prim.Native.Nat.{ℕ, ◌≤◌, ◌<◌}
+use Prim.Native.Nat.{ℕ, ◌≤◌}
 use mathlib.Core.Bool.{true, cond}
 use mathlib.Core.List.{List}
 use mathlib.Core.Path.{◌≡◌, ap, sym}
 use lib.IntN.{ℤ}
 use lib.ListN.{length}
-use borrow.Author.Tests.{leb-true, lt-ltb, le-ltb}
+use borrow.Author.Tests.{leb-true, le-ltb}
 use Rattle.paper.specs.Log.{Log, log_in, slid, logged, log_fits, room_made}
 use Rattle.paper.proofs.Lists.{each}
 
@@ -17,9 +17,6 @@ module _ (l : Log) where
   -- there is room, or the oldest goes
   abbrev without : Log
   without = log_in (slid 1 64 l.sizes) (slid 64 4032 l.vars) (slid 64 4032 l.values)
-
-  pub room-there : logged l < 64 → l ≡ room_made l
-  room-there h = sym (ap (λ b. cond b l without) (lt-ltb (logged l) 64 h))
 
   pub room-made : 64 ≤ logged l → {sizes vars : List ℕ} {values : List ℤ} → sizes ≡ without.sizes → vars ≡ without.vars → values ≡ without.values
       → log_in sizes vars values ≡ room_made l

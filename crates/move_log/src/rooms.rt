@@ -1,13 +1,11 @@
 // Room in the log of kept moves, over its lent rows: the oldest of 64 moves pushed out, and the pairs of a move written from a place on.
-mod slide;
-
 ghost use Rattle.std.specs.Prelude.{true, ◌≡◌, ◌+◌, ◌≤◌, pos, length, get_or};
 ghost use Rattle.paper.specs.Lists.{nat};
 ghost use Rattle.paper.specs.Log.{log_in, laid_at, log_fits, room_made};
 ghost use Rattle.move_log.specs.Named.{PairsLent};
 
-use crate::rooms::slide::{slide_numbers, slide_values};
 use integers::wide;
+use tables::lent::Move;
 
 // The oldest move goes if there are 64.
 pub fn make_room(log_sizes: &mut [u16], log_vars: &mut [u16], log_values: &mut [i32])
@@ -15,9 +13,9 @@ pub fn make_room(log_sizes: &mut [u16], log_vars: &mut [u16], log_values: &mut [
     ensures { log_in log_sizes.new log_vars.new log_values.new ≡ room_made (log_in log_sizes.old log_vars.old log_values.old) }
 {
     if 64 <= log_sizes[0] {
-        slide_numbers(1, 64, log_sizes);
-        slide_numbers(64, 4032, log_vars);
-        slide_values(64, 4032, log_values);
+        log_sizes.copy_within(1..65, 0);
+        log_vars.copy_within(64..4096, 0);
+        log_values.copy_within(64..4096, 0);
     }
 }
 
@@ -25,21 +23,18 @@ pub fn make_room(log_sizes: &mut [u16], log_vars: &mut [u16], log_values: &mut [
 pub fn write_pairs(
     at: usize,
     stored: &[i32],
-    pairs: usize,
-    move_vars: &[u16],
+    mv: &Move,
     log_vars: &mut [u16],
     log_values: &mut [i32],
 )
-    requires named { PairsLent stored.now pairs move_vars.now }
-    requires room { (at + pairs ≤ length log_vars.old) × (at + pairs ≤ length log_values.old) }
-    ensures log_vars_after { log_vars.new ≡ laid_at at pairs (nat move_vars.now) log_vars.old }
-    ensures log_values_after { log_values.new ≡ laid_at at pairs (λ i. get_or stored.now (nat move_vars.now i) (pos 0)) log_values.old }
+    requires named { PairsLent stored.now mv.now.pairs mv.now.vars.now }
+    requires room { (at + mv.now.pairs ≤ length log_vars.old) × (at + mv.now.pairs ≤ length log_values.old) }
+    ensures log_vars_after { log_vars.new ≡ laid_at at mv.now.pairs (nat mv.now.vars.now) log_vars.old }
+    ensures log_values_after { log_values.new ≡ laid_at at mv.now.pairs (λ i. get_or stored.now (nat mv.now.vars.now i) (pos 0)) log_values.old }
 {
-    let mut i = 0;
-    while i < pairs {
-        let v = wide(move_vars[i]);
-        log_vars[at + i] = move_vars[i];
-        log_values[at + i] = stored[v];
-        i += 1;
+    log_vars[at..at + mv.pairs].copy_from_slice(&mv.vars[..mv.pairs]);
+    // Stays: what is written is looked up by what is read, so that no slice is copied.
+    for i in 0..mv.pairs {
+        log_values[at + i] = stored[wide(mv.vars[i])];
     }
 }

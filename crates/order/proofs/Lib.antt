@@ -1,3 +1,4 @@
+pub mod Extremes
 pub mod Climbs
 pub mod Bare
 pub mod Parted

@@ -22,6 +22,10 @@ part_slice l zero k = let z : 0 + k ≡ k = omega arith in rw z
 part_slice [] (suc a) k = ap (drop (suc a)) (take-nil (suc a + k)) ∙ sym (take-nil k)
 part_slice (x ∷ xs) (suc a) k = let z : suc a + k ≡ suc (a + k) = omega arith in rw z (part_slice xs a k)
 
+-- and so is the part of the row from a place on
+pub cut_slice : (l : List ℕ) (a k : ℕ) → take ((a + k) - a) (drop a l) ≡ slice a (a + k) l
+cut_slice l a k = let z : (a + k) - a ≡ k = omega arith in rw z (sym (part_slice l a k))
+
 -- a maker is one more than its row
 of_row : (r : ℕ) (column : List ℕ) → of_maker (suc r) column ≡ nat column r
 of_row r column = let z : suc r - 1 ≡ r = omega arith in rw (ne_eqb (suc r) 0 (λ e. omega arith), z)

@@ -6,10 +6,13 @@ use mathlib.Core.Bool.{Bool, true, false, cond}
 use mathlib.Core.List.Memᴰ
 use mathlib.Core.List.{List, [], ◌∷◌, map, Memᴰ}
 use mathlib.Core.Logic.{⊎_elim}
-use mathlib.Core.Path.{◌≡◌, refl, sym, ◌∙◌, subst}
+use mathlib.Core.Path.{◌≡◌, refl, ap, sym, ◌∙◌, subst}
 use lib.Dec.{eqb, leb, ltb}
 use lib.ListN.{length, replicate, length-replicate, get_or-replicate, get_or-eq_default}
 use borrow.Author.Tests.{leb-true, leb-false, le-leb, ltb-true, ltb-false, eqb-true}
+use Rattle.std.specs.Prelude.{Option}
+use Rattle.integers.specs.Below.{if_below}
+use Rattle.integers.proofs.Below.{none-below}
 use Rattle.paper.specs.Lists.{all, greatest, nat, over, size, first_fail}
 use Rattle.paper.specs.Net.{runs, able, Depends, direct, through}
 use Rattle.paper.proofs.Straight.{numbering, number}
@@ -149,12 +152,14 @@ module _ (t : Tables) (F : Formed t) (state : List ℕ) (S : NumberedBelow t.n (
         let chain = numbers-end (net t) (lawful t) t.n F.inputs-below F.made-below F.some (number_in state) meets-all in
         numbers-unique (net t) (lawful t) t.n chain (number_in state) (number (net t) t.n) meets-all (number-right (net t) (lawful t) t.n chain) v
 
-  pub swept-found : (r : ℕ) → r ≡ first_fail (ended state) t.n → NumbersFound t state r
+  pub swept-found : (r : Option ℕ) → r ≡ if_below t.n (first_fail (ended state) t.n) → NumbersFound t state r
   swept-found r e = record {
-    least = e ∙ first_fail-same (ended state) (ends t) t.n ended-ends;
+    least = e ∙ ap (if_below t.n) (first_fail-same (ended state) (ends t) t.n ended-ends);
     which = λ v l. sym (ended-ends v l);
-    numbered = λ h. record { few = F.few; at = λ v l. let q = numbers-are (past h) v in let k = leb-true 2 (nat state v) (past h v l) in omega arith };
+    numbered = λ h.
+        let low = none-below t.n (first_fail (ended state) t.n) (sym h ∙ e) in
+        record { few = F.few; at = λ v l. let q = numbers-are (past low) v in let k = leb-true 2 (nat state v) (past low v l) in omega arith };
   }
     where
-      past : t.n ≤ r → (v : ℕ) → v < t.n → ended state v ≡ true
+      past : t.n ≤ first_fail (ended state) t.n → (v : ℕ) → v < t.n → ended state v ≡ true
       past h v l = first_fail-before (ended state) t.n v (omega arith)

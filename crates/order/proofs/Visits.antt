@@ -9,12 +9,13 @@ use mathlib.Core.List.Memᴰ
 use mathlib.Core.List.{List, [], ◌∷◌, Memᴰ}
 use mathlib.Core.Logic.{◌⊎◌, inl, inr, ⊎_elim, ◌≢◌}
 use mathlib.Core.Path.{◌≡◌, refl, ap, ap₂, sym, ◌∙◌, subst}
-use lib.ListN.{length, take, set, length-set, length-take, drop_of_length-le}
+use lib.ListN.{length, take, drop, set, length-set, length-take, drop_of_length-le}
 use lib.Seq.{slice, slice-cons, get_or-set_same, get_or-set_other}
 use borrow.Author.Tests.{leb-true, le-leb, lt-leb, eqb-true, eq-eqb, ne_eqb}
 use Rattle.paper.specs.Lists.{nat, size}
 use Rattle.paper.proofs.Lists.{same_or}
 use Rattle.paper.proofs.Count.{size-le, size-add, size_mono}
+use Rattle.paper.proofs.Scan.{next}
 use Rattle.order.specs.Numbering.{above, unvisited, ended, number_in, NumbersRight, InputBegun, NumberVisit}
 
 -- ── the least number above all entries ──
@@ -41,6 +42,13 @@ left-next vars i stop w l h e = slice-cons i stop vars 0 l h ∙ rw (e, add-one 
 
 pub left-none : (vars : List ℕ) (i stop : ℕ) → stop ≤ i → slice i stop vars ≡ []
 left-none vars i stop h = drop_of_length-le (take stop vars) {i = i} (simp length-take (omega arith))
+
+-- the same of a part, entry by entry
+pub rest-next : (part : List ℕ) (i w : ℕ) → i < length part → w ≡ nat part i → drop i part ≡ w ∷ drop (i + 1) part
+rest-next part i w h e = rw e (next part i 0 h)
+
+pub rest-none : (part : List ℕ) (i : ℕ) → length part ≤ i → drop i part ≡ []
+rest-none part i h = drop_of_length-le part {i = i} h
 
 module _ (n : ℕ) (dep : ℕ → List ℕ) where
   -- ── one state changes: v's, which has not ended ──
@@ -95,6 +103,9 @@ module _ (n : ℕ) (dep : ℕ → List ℕ) where
     pub right : NumbersRight n dep before
     pub below : v < n
     pub unseen : nat before v ≡ 0
+
+  pub begun_of : (v known : ℕ) (before : List ℕ) → NumbersRight n dep before → v < n → known ≡ nat before v → known ≤ 0 → Begun v before
+  begun_of v known before R l e h = record { right = R; below = l; unseen = omega arith }
 
   -- the inputs in `left` are still to be visited, best is the greatest state of the others, from 1 up, and `mid` are the states where the loop began
   pub record Going (v : ℕ) (left : List ℕ) (best : ℕ) (mid state : List ℕ) : Type 0 where

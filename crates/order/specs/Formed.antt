@@ -4,10 +4,14 @@ use Rattle.std.specs.Prelude.{ℕ, ◌+◌, ◌≤◌, ◌<◌, true, ◌≡◌,
 use mathlib.Core.List.{List, [], Memᴰ}
 use Rattle.paper.specs.Lists.{nat}
 use Rattle.paper.specs.Tables.{Tables, lent, row_of, is_made, inputs_of}
+use Rattle.tables.specs.declared.lent.Tables as code-tables
 
 -- kinds, parameters and coefficients play no part
 abbrev pub bare : ℕ → ℕ → List ℕ → List ℕ → List ℕ → List ℕ → Tables
 bare n m makes firsts counts vars = lent n m 0 [] makes [] firsts counts vars []
+
+abbrev pub bare_lent : code-tables.Tables → Tables
+bare_lent t = bare t.n t.m t.makes.now t.firsts.now t.counts.now t.vars.now
 
 pub record Formed (t : Tables) : Type 0 where
   pub some : 0 < t.n

@@ -1,7 +1,8 @@
 -- Numbering by visits: what the scratch rows hold. Assumes nothing.
-use Rattle.std.specs.Prelude.{ℕ, suc, max, ◌+◌, ◌-◌, ◌≤◌, ◌<◌, Bool, cond, not, ◌||◌, ◌⊎◌, ◌≡◌, eqb, leb, length}
+use Rattle.std.specs.Prelude.{ℕ, suc, max, ◌+◌, ◌-◌, ◌≤◌, ◌<◌, Bool, cond, not, ◌||◌, ◌⊎◌, ◌≡◌, Option, None, eqb, leb, length}
 use mathlib.Core.List.{List, [], ◌∷◌, Memᴰ}
 use Rattle.std.proofs.Math.Seq.{slice}
+use Rattle.integers.specs.Below.{if_below}
 use Rattle.paper.specs.Lists.{nat, size, first_fail}
 use Rattle.paper.proofs.Straight.{number}
 use Rattle.paper.specs.Tables.{Tables, part, net, ends}
@@ -95,8 +96,8 @@ pub record Numbered (t : Tables) (state : List ℕ) : Type 0 where
   pub few : t.n ≤ 4096
   pub at : (v : ℕ) → v < t.n → nat state v ≡ 2 + number (net t) t.n v
 
--- r is the least variable that can have no number, or n; with n the row holds the numbers; what has ended is what can have one
-pub record NumbersFound (t : Tables) (state : List ℕ) (r : ℕ) : Type 0 where
-  pub least : r ≡ first_fail (ends t) t.n
+-- r is the least variable that can have no number, or none; with none the row holds the numbers; what has ended is what can have one
+pub record NumbersFound (t : Tables) (state : List ℕ) (r : Option ℕ) : Type 0 where
+  pub least : r ≡ if_below t.n (first_fail (ends t) t.n)
   pub which : (v : ℕ) → v < t.n → ends t v ≡ ended state v
-  pub numbered : t.n ≤ r → Numbered t state
+  pub numbered : r ≡ None → Numbered t state

@@ -5,6 +5,7 @@ ghost use Rattle.order.specs.Ascent.{Keys, rank_of, rises_at};
 ghost use Rattle.order.specs.Numbering.{searched_right};
 
 use crate::ascents::order_right;
+use tables::lent::Tables;
 
 // Whether every search variable has the number 0. No variable stops the loop, so that it takes several at a time.
 fn searched_right(n: usize, by: &[u16], nums: &[u16]) -> bool
@@ -19,21 +20,10 @@ fn searched_right(n: usize, by: &[u16], nums: &[u16]) -> bool
 }
 
 // Whether the lent numbers and order are right: `due` says it of the numbers of what rows make.
-pub fn numbered_right(
-    n: usize,
-    m: usize,
-    makes: &[u16],
-    by: &[u16],
-    nums: &[u16],
-    ord: &[u16],
-    due: bool,
-) -> bool
-    requires keyed { Keys n m makes.now }
-    requires there { (n ≤ length by.now) × (n ≤ length nums.now) × (m ≤ length ord.now) }
-    ensures { result ≡ ((due && all_below (searched_right by.now nums.now) n) && all_below (rises_at (rank_of makes.now nums.now) m ord.now) m) }
+pub fn numbered_right(tables: &Tables, by: &[u16], nums: &[u16], ord: &[u16], due: bool) -> bool
+    requires keyed { Keys tables.now.n tables.now.m tables.now.makes.now }
+    requires there { (tables.now.n ≤ length by.now) × (tables.now.n ≤ length nums.now) × (tables.now.m ≤ length ord.now) }
+    ensures { result ≡ ((due && all_below (searched_right by.now nums.now) tables.now.n) && all_below (rises_at (rank_of tables.now.makes.now nums.now) tables.now.m ord.now) tables.now.m) }
 {
-    if due & searched_right(n, by, nums) {
-        return order_right(n, m, makes, nums, ord);
-    }
-    false
+    due && searched_right(tables.n, by, nums) && order_right(tables, nums, ord)
 }

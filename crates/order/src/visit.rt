@@ -1,33 +1,25 @@
 // Which variables can have a topological number, and which: each is visited once, after what it is made from.
 ghost use Rattle.std.specs.Prelude.{◌≡◌, ◌≤◌, ◌<◌, length};
+ghost use Rattle.integers.specs.Below.{if_below};
 ghost use Rattle.paper.specs.Lists.{nat, over, first_fail};
 ghost use Rattle.paper.specs.Tables.{inputs_of};
 ghost use Rattle.tables.specs.Makers.{Makers};
-ghost use Rattle.order.specs.Formed.{bare, Formed};
+ghost use Rattle.order.specs.Formed.{bare_lent, Formed};
 ghost use Rattle.order.specs.Numbering.{Clean, NumbersRight, NumberVisit, NumberedBelow, search_state, ended, NumbersFound};
 
 use crate::parts::of_maker;
-use integers::naturals::larger;
 use integers::wide;
+use tables::lent::Tables;
 
 // The state of v after its visit: two more than its number, or 1 if it waits for itself or for one that does. An input that has been visited costs a look and
 // no call.
-fn visit(
-    v: usize,
-    n: usize,
-    m: usize,
-    makes: &[u16],
-    firsts: &[u16],
-    counts: &[u16],
-    vars: &[u16],
-    by: &[u16],
-    state: &mut [u16],
-) -> usize
-    requires formed { Formed (bare n m makes.now firsts.now counts.now vars.now) }
-    requires makers { Makers (bare n m makes.now firsts.now counts.now vars.now) by.now }
-    requires there { v < n }
-    requires right { NumbersRight n (inputs_of (bare n m makes.now firsts.now counts.now vars.now)) state.old }
-    ensures { NumberVisit n (inputs_of (bare n m makes.now firsts.now counts.now vars.now)) v state.old state.new result }
+// Stays: a state is a number, since `NumberVisit` and `Numbered` say the states in the row that the numbers are written over.
+fn visit(v: usize, tables: &Tables, by: &[u16], state: &mut [u16]) -> usize
+    requires formed { Formed (bare_lent tables.now) }
+    requires makers { Makers (bare_lent tables.now) by.now }
+    requires there { v < tables.now.n }
+    requires right { NumbersRight tables.now.n (inputs_of (bare_lent tables.now)) state.old }
+    ensures { NumberVisit tables.now.n (inputs_of (bare_lent tables.now)) v state.old state.new result }
 {
     let known = wide(state[v]);
     if known > 0 {
@@ -35,21 +27,19 @@ fn visit(
     }
     state[v] = 1;
     let maker = wide(by[v]);
-    let first = wide(of_maker(maker, firsts));
-    let stop = first + wide(of_maker(maker, counts));
+    let first = wide(of_maker(maker, tables.firsts));
+    let stop = first + wide(of_maker(maker, tables.counts));
     let mut best = 1;
-    let mut i = first;
-    while i < stop {
-        let u = wide(vars[i]);
+    for &var in &tables.vars[first..stop] {
+        let u = wide(var);
         let mut found = wide(state[u]);
         if found == 0 {
-            found = visit(u, n, m, makes, firsts, counts, vars, by, state);
+            found = visit(u, tables, by, state);
         }
         if found == 1 {
             return 1;
         }
-        best = larger(best, found);
-        i += 1;
+        best = best.max(found);
     }
     state[v] = (best + 1) as u16;
     best + 1
@@ -70,69 +60,40 @@ fn end_search(n: usize, by: &[u16], state: &mut [u16])
     requires { (n ≤ length state.old) × (n ≤ length by.now) }
     ensures { state.new ≡ over n (λ v. search_state (nat by.now v)) state.old }
 {
-    let mut v = 0;
-    while v < n {
+    for v in 0..n {
         state[v] = search_state(by[v]);
-        v += 1;
     }
 }
 
 // Visits every variable that is not visited yet.
-fn visit_all(
-    n: usize,
-    m: usize,
-    makes: &[u16],
-    firsts: &[u16],
-    counts: &[u16],
-    vars: &[u16],
-    by: &[u16],
-    state: &mut [u16],
-)
-    requires formed { Formed (bare n m makes.now firsts.now counts.now vars.now) }
-    requires makers { Makers (bare n m makes.now firsts.now counts.now vars.now) by.now }
-    requires swept { NumberedBelow n (inputs_of (bare n m makes.now firsts.now counts.now vars.now)) 0 state.old }
-    ensures { NumberedBelow n (inputs_of (bare n m makes.now firsts.now counts.now vars.now)) n state.new }
+fn visit_all(tables: &Tables, by: &[u16], state: &mut [u16])
+    requires formed { Formed (bare_lent tables.now) }
+    requires makers { Makers (bare_lent tables.now) by.now }
+    requires swept { NumberedBelow tables.now.n (inputs_of (bare_lent tables.now)) 0 state.old }
+    ensures { NumberedBelow tables.now.n (inputs_of (bare_lent tables.now)) tables.now.n state.new }
 {
-    let mut v = 0;
-    while v < n {
-        visit(v, n, m, makes, firsts, counts, vars, by, state);
-        v += 1;
+    for v in 0..tables.n {
+        visit(v, tables, by, state);
     }
 }
 
-// The least variable whose visit has not ended, or n.
-fn first_open(n: usize, state: &[u16]) -> usize
+// The least variable whose visit has not ended, or none.
+fn first_open(n: usize, state: &[u16]) -> Option<usize>
     requires { n ≤ length state.now }
-    ensures { result ≡ first_fail (ended state.now) n }
+    ensures { result ≡ if_below n (first_fail (ended state.now) n) }
 {
-    let mut v = 0;
-    while v < n {
-        if wide(state[v]) < 2 {
-            return v;
-        }
-        v += 1;
-    }
-    v
+    state[..n].iter().position(|&s| s < 2)
 }
 
-// The least variable that can have no number, or n; with n, `state` holds two more than each variable's number. Whatever the answer, it says
+// The least variable that can have no number, or none; with none, `state` holds two more than each variable's number. Whatever the answer, it says
 // which variables can have one: those whose visit ended.
-pub fn find_numbers(
-    n: usize,
-    m: usize,
-    makes: &[u16],
-    firsts: &[u16],
-    counts: &[u16],
-    vars: &[u16],
-    by: &[u16],
-    state: &mut [u16],
-) -> usize
-    requires formed { Formed (bare n m makes.now firsts.now counts.now vars.now) }
-    requires makers { Makers (bare n m makes.now firsts.now counts.now vars.now) by.now }
-    requires clean { Clean n state.old }
-    ensures { NumbersFound (bare n m makes.now firsts.now counts.now vars.now) state.new result }
+pub fn find_numbers(tables: &Tables, by: &[u16], state: &mut [u16]) -> Option<usize>
+    requires formed { Formed (bare_lent tables.now) }
+    requires makers { Makers (bare_lent tables.now) by.now }
+    requires clean { Clean tables.now.n state.old }
+    ensures { NumbersFound (bare_lent tables.now) state.new result }
 {
-    end_search(n, by, state);
-    visit_all(n, m, makes, firsts, counts, vars, by, state);
-    first_open(n, state)
+    end_search(tables.n, by, state);
+    visit_all(tables, by, state);
+    first_open(tables.n, state)
 }

@@ -10,6 +10,9 @@ use mathlib.Core.Path.{◌≡◌, refl, ap, ap₂, sym, ◌∙◌}
 use lib.Dec.{ltb}
 use lib.ListN.{length, get_or, take, drop, drop_of_length-le, length-take, length-drop}
 use lib.Seq.{drop-cons, take-suc}
+use Rattle.std.specs.Prelude.{Some, None}
+use Rattle.integers.specs.Below.{if_below}
+use Rattle.integers.proofs.Below.{if_below-some, if_below-none}
 use Rattle.paper.specs.Lists.{any, all, total, nat, first_fail, all_below}
 use Rattle.paper.proofs.Least.{first_fail-is, first_fail-none, all_below-next, all_more}
 
@@ -31,6 +34,13 @@ module _ (p : ℕ → Bool) (m : ℕ) where
 
   pub scan-all : (i : ℕ) → Scan p m i → m ≤ i → m ≡ first_fail p m
   scan-all i s l = first_fail-none p m (λ j h. s.good j (omega arith))
+
+  -- the same of a place, or none
+  pub scan-some : (i : ℕ) → Scan p m i → i < m → p i ≡ false → Some i ≡ if_below m (first_fail p m)
+  scan-some i s l e = if_below-some m i l ∙ ap (if_below m) (scan-found i s l e)
+
+  pub scan-none : (i : ℕ) → Scan p m i → m ≤ i → None ≡ if_below m (first_fail p m)
+  scan-none i s l = if_below-none m m (le_refl m) ∙ ap (if_below m) (scan-all i s l)
 
   pub scan-end : (i : ℕ) → Scan p m i → m ≤ i → i ≡ first_fail p m
   scan-end i s l = let low = s.low in let same : i ≡ m = omega arith in same ∙ scan-all i s l

@@ -4,7 +4,7 @@ use mathlib.Core.Bool.{false}
 use mathlib.Core.List.{List}
 use mathlib.Core.Path.{◌≡◌, refl, ap, sym, ◌∙◌, subst}
 use lib.IntN.{ℤ, pos}
-use lib.ListN.{length, get_or}
+use lib.ListN.{get_or}
 use Rattle.paper.specs.Lists.{over}
 use Rattle.paper.specs.Net.{Route, moved}
 use Rattle.paper.specs.Tables.{Tables, Index}
@@ -13,8 +13,8 @@ use Rattle.paper.specs.Chains.{closes}
 use Rattle.paper.specs.Calls.{TrialLent}
 use Rattle.paper.proofs.Buffers.{over-of}
 use Rattle.paper.proofs.Closes.{opened}
-use Rattle.rows.specs.Put.{PairsFit, put_in}
-use Rattle.rows.proofs.Put.{pairs-more, put-over}
+use Rattle.rows.specs.Put.{put_in}
+use Rattle.rows.proofs.Put.{put-over}
 use Rattle.routes.specs.Rows.{Ended}
 use Rattle.routes.specs.Routed.{Routed}
 use Rattle.fills.specs.Accepted.{Trying}
@@ -27,9 +27,6 @@ pub unmarked : (n : ℕ) (stored trial : List ℤ) (flags marks work : List ℕ)
 unmarked n stored trial flags marks work R = record { in-marks = R.roomy.in-marks; in-work = R.roomy.in-work; no-mark = λ u. (R.each u).no-mark; no-work = λ u. (R.each u).no-work }
 
 module _ (t : Tables) (ord : List ℕ) (x : Index) (stored : List ℤ) (c : TrialLent) (k : Trying t ord x stored c) (marks work : List ℕ) (R : AtRest t.n stored c.trial c.flags marks work) where
-  pub pairs-room : PairsFit (length c.trial) c.move
-  pairs-room = pairs-more t.n (length c.trial) c.move k.keeping.pairs k.in-trial
-
   pub put_is : (trial : List ℤ) → trial ≡ put_in (pairs_of_move c.move) c.trial → trial ≡ over t.n (moved (pairs_of_move c.move) (λ v. get_or stored v (pos 0))) c.trial
   put_is trial e =
       e ∙ ap (put_in (pairs_of_move c.move)) (over-of (λ v. get_or stored v (pos 0)) t.n c.trial c.trial (pos 0) refl k.in-trial (λ v l. (R.each v).value l) refl)

@@ -31,10 +31,10 @@ use Rattle.routes.specs.Routed.{Begun, Named, new_of, evaluated_of, Routed}
 use Rattle.routes.specs.Work.{RowsWorkable, Ready, AllAsked}
 use Rattle.routes.specs.Plan.{work_of}
 use Rattle.routes.proofs.Planned.{rows_of, front-is, can-ask, asked-front}
+use Rattle.closed_routes.proofs.Marks.{upward}
 use Rattle.routes.proofs.Marked.{from, clean-markable, named-movable, marks-are}
 use Rattle.routes.proofs.Guided.{guides-marked, routed}
 use Rattle.closed_routes.specs.Readers.{LeadsUp}
-use Rattle.closed_routes.proofs.Marks.{upward}
 use Rattle.probes.specs.Touched.{Listed, Noted}
 use Rattle.probes.specs.Rest.{Unmarked, Rests, Astray}
 use Rattle.probes.proofs.Notes.{noted-start}

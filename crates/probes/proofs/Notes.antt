@@ -6,17 +6,12 @@ use mathlib.Core.List.{List}
 use mathlib.Core.Logic.{◌≢◌}
 use mathlib.Core.Path.{◌≡◌, refl, ap, sym, ◌∙◌, subst}
 use lib.Dec.{eqb}
-use lib.IntN.{ℤ}
 use lib.ListN.{length, set, length-set}
 use lib.Seq.{get_or-set_same, get_or-set_other}
 use borrow.Author.Tests.{eqb-true, eqb-false, eq-eqb, ne_eqb}
 use Rattle.paper.specs.Lists.{nat, size}
 use Rattle.paper.proofs.Count.{size-add, size-le}
-use Rattle.paper.specs.Net.{differs}
-use Rattle.rows.specs.Changes.{values_of}
-use Rattle.routes.proofs.Passing.{Passed, passed-yes, passed-no}
-use Rattle.closed_routes.proofs.Walks.{walked-reached}
-use Rattle.probes.specs.Touched.{Listed, Noted, WalkedIf}
+use Rattle.probes.specs.Touched.{Listed, Noted}
 use Rattle.probes.specs.Rest.{Unmarked}
 
 -- ── nothing is marked yet ──
@@ -80,12 +75,3 @@ module _ (n : ℕ) (by marks work touched : List ℕ) (count : ℕ) (N : Noted n
       planned u h false p =
           let d = eqb-false u v p in
           get_or-set_other work v u x 0 d ∙ N.planned u h ∙ ap (λ z. cond (eqb z 1) (nat by u) 0) (sym (get_or-set_other marks v u 1 0 d))
-
--- ── one named variable more, touched if it moved ──
-pub passed-next : (to : ℕ → List ℕ) (moves : List ℕ) (stored trial : List ℤ) (before : List ℕ) (i : ℕ) (marks : List ℕ) → Passed to moves stored trial before i marks → i < length moves
-    → (v : ℕ) → v ≡ nat moves i → (after : List ℕ) → WalkedIf to (differs (values_of trial) (values_of stored) v) v marks after → Passed to moves stored trial before (i + 1) after
-passed-next to moves stored trial before i marks P l v q after W = go (differs (values_of trial) (values_of stored) v) refl
-  where
-    go : (b : Bool) → differs (values_of trial) (values_of stored) v ≡ b → Passed to moves stored trial before (i + 1) after
-    go true e = passed-yes to moves stored trial before i marks P l v q true (sym e) refl after (walked-reached (λ u. true) to v marks after P.closed (W.walked e))
-    go false e = subst (Passed to moves stored trial before (i + 1)) (sym (W.still e)) (passed-no to moves stored trial before i marks P l v q false (sym e) refl)

@@ -3,10 +3,10 @@ ghost use Rattle.std.specs.Prelude.{◌≡◌, eqb};
 ghost use Rattle.paper.specs.Lists.{nat, size};
 ghost use Rattle.probes.specs.Rest.{AtRest, Astray};
 
-use formulas::inputs::one_if;
 use integers::wide;
 
 // Gives every listed variable its stored value back, and takes its flag, its mark and its work; answers how many of the first n flags were 1.
+// Stays: rows that are written are parameters of their own, here and below: a struct of them would need a clause for each, that it is still the caller's.
 pub fn put_back(
     n: usize,
     count: usize,
@@ -22,9 +22,9 @@ pub fn put_back(
     ensures counted { result ≡ size (λ v. eqb (nat flags.old v) 1) n }
 {
     let mut evaluated = 0;
-    for i in 0..count {
-        let v = wide(touched[i]);
-        evaluated += one_if(flags[v] == 1);
+    for &u in &touched[..count] {
+        let v = wide(u);
+        evaluated += usize::from(flags[v] == 1);
         trial[v] = stored[v];
         flags[v] = 0;
         marks[v] = 0;

@@ -2,7 +2,7 @@
 ghost use Rattle.std.specs.Prelude.{true, ◌≡◌, ◌≤◌, ltb, length};
 ghost use Rattle.paper.specs.Lists.{all};
 ghost use Rattle.paper.specs.Net.{mark-guided};
-ghost use Rattle.paper.specs.Tables.{Tables, lent};
+ghost use Rattle.tables.specs.Lent.{lent_tables};
 ghost use Rattle.tables.specs.Makers.{Makers};
 ghost use Rattle.index.specs.Index.{Indexed};
 ghost use Rattle.routes.specs.Rows.{Ended};
@@ -11,22 +11,14 @@ ghost use Rattle.probes.specs.Rest.{Unmarked, Astray};
 
 use crate::touch::touch_moved;
 use routes::ask::ask_all;
+use tables::lent::{Index, Tables};
 
 // Asks with those marked that moved, and what is made from them; answers how many are listed.
+// Stays: rows that are written are parameters of their own, here and below: a struct of them would need a clause for each, that it is still the caller's.
 pub fn guide(
-    n: usize,
-    m: usize,
-    e: usize,
-    kinds: &[u16],
-    makes: &[u16],
-    params: &[i32],
-    firsts: &[u16],
-    counts: &[u16],
-    vars: &[u16],
-    coefs: &[i16],
+    tables: &Tables,
     by: &[u16],
-    starts: &[u16],
-    places: &[u16],
+    index: &Index,
     moves: &[u16],
     asked: &[u16],
     stored: &[i32],
@@ -36,24 +28,25 @@ pub fn guide(
     work: &mut [u16],
     touched: &mut [u16],
 ) -> usize
-    ghost t: { Tables }
-    requires lent { lent n m e kinds.now makes.now params.now firsts.now counts.now vars.now coefs.now ≡ t }
-    requires ended { Ended t }
-    requires index { Indexed t starts.now places.now }
-    requires named { Named t stored.now trial.old moves.now }
-    requires begun { Begun t stored.now trial.old flags.old }
-    requires asked { all (λ v. ltb v n) asked.now ≡ true }
-    requires makers { Makers t by.now }
-    requires unmarked { Unmarked n marks.old work.old }
-    requires list { n ≤ length touched.old }
-    ensures routed { Routed t mark-guided stored.now trial.old flags.old asked.now trial.new flags.new }
-    ensures astray { Astray n stored.now trial.new flags.new marks.new work.new touched.new 0 result }
+    requires ended { Ended (lent_tables tables.now) }
+    requires index { Indexed (lent_tables tables.now) index.now.starts.now index.now.places.now }
+    requires named { Named (lent_tables tables.now) stored.now trial.old moves.now }
+    requires begun { Begun (lent_tables tables.now) stored.now trial.old flags.old }
+    requires asked { all (λ v. ltb v tables.now.n) asked.now ≡ true }
+    requires makers { Makers (lent_tables tables.now) by.now }
+    requires unmarked { Unmarked tables.now.n marks.old work.old }
+    requires list { tables.now.n ≤ length touched.old }
+    ensures routed { Routed (lent_tables tables.now) mark-guided stored.now trial.old flags.old asked.now trial.new flags.new }
+    ensures astray { Astray tables.now.n stored.now trial.new flags.new marks.new work.new touched.new 0 result }
 {
+    let index = Index {
+        starts: &index.starts[..tables.n + 1],
+        places: index.places,
+    };
     let count = touch_moved(
         moves,
-        makes,
-        &starts[..n + 1],
-        places,
+        tables.makes,
+        &index,
         by,
         stored,
         trial,
@@ -61,17 +54,6 @@ pub fn guide(
         work,
         touched,
     );
-    ask_all(
-        asked,
-        &work[..n],
-        kinds,
-        params,
-        firsts,
-        counts,
-        vars,
-        coefs,
-        trial,
-        flags,
-    );
+    ask_all(asked, &work[..tables.n], tables, trial, flags);
     count
 }

@@ -7,7 +7,6 @@ ghost use Rattle.io.specs.Counts.{IsPrefixLen};
 ghost use Rattle.report.specs.Printed.{printed};
 
 use report::{build_file, read_full};
-use tables::Answer;
 
 // Room for every text.
 const ROOM: usize = 98304;
@@ -19,18 +18,19 @@ fn show(file: &[u8], out: &mut [u8; ROOM]) -> usize
     ensures value { result ≡ length (printed true file.now) }
     ensures out_after { out.new ≡ printed true file.now ++ drop result out.old }
 {
+    // Stays: rows of a fixed length: a program that allocates could fail where this one prints.
     let mut numbers = [0u16; 4096];
     let mut stored = [0i32; 4096];
     let mut row = [0u8; 4096];
     let built = build_file(file, &mut numbers, &mut stored, &mut row);
-    let answer = built.answer;
-    let Answer::Refused { number, place } = answer else {
+    let Err(refusal) = built.answer else {
         return text::lines(true, built.n, &numbers, &stored, &row, out);
     };
-    text::refusal(number, place, out)
+    text::refusal(refusal.number, refusal.place, out)
 }
 
 fn main(rt: HostRuntime) -> std::io::Result<()> {
+    // Stays: rows of a fixed length: a program that allocates could fail where this one prints.
     let mut file = [0u8; 65537];
     let got = read_full(&mut rt.stdin(), &mut file);
     let mut out = [0u8; ROOM];

@@ -1,17 +1,16 @@
 -- What a call leaves to its caller, in the paper's records. Assumes nothing.
-use Rattle.std.specs.Prelude.{ℕ, List, ℤ}
+use Rattle.std.specs.Prelude.{ℕ, List, ℤ, Result, Ok, Err}
 use Rattle.paper.specs.Tables.{index_in}
 use Rattle.paper.specs.Log.{log_in}
 use Rattle.paper.specs.Calls.{Answer, Accepted, Refused, Session, BuildLeft, TrialLeft, KeepLeft}
-use Rattle.tables.specs.declared.Answer as code-answer
-use Rattle.tables.specs.declared.Answer.TheVariants as code
+use Rattle.tables.specs.declared.Refusal as code-refusal
 use Rattle.records.specs.declared.Session as code-session
 use Rattle.records.specs.declared.Done.{Done}
 
 -- the answer of the code as the paper's
-abbrev pub answer_in : code-answer.Answer → Answer
-answer_in (code.Accepted evaluations) = Accepted evaluations
-answer_in (code.Refused number place) = Refused number place
+abbrev pub answer_in : Result ℕ code-refusal.Refusal → Answer
+answer_in (Ok evaluations) = Accepted evaluations
+answer_in (Err refusal) = Refused refusal.number refusal.place
 
 -- the session record of the code as the paper's
 abbrev pub record_in : code-session.Session → Session

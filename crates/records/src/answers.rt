@@ -8,7 +8,7 @@ use tables::Answer;
 
 // What a call answers: 0 and place 0 if accepted, and then how many evaluations it made.
 #[repr(C)]
-#[derive(Drop)]
+#[derive(Clone, Copy)]
 pub struct Outcome {
     pub number: u32,
     pub place: u32,
@@ -20,8 +20,8 @@ pub fn number_of(answer: Answer) -> u32
     ensures { result ≡ number_of (answer_in answer) }
 {
     match answer {
-        Answer::Accepted { .. } => 0,
-        Answer::Refused { number, .. } => number,
+        Ok(_) => 0,
+        Err(refusal) => refusal.number,
     }
 }
 
@@ -29,26 +29,25 @@ pub fn number_of(answer: Answer) -> u32
 pub fn evaluations_of(answer: Answer) -> u32
     ensures { result ≡ evaluations_of (answer_in answer) }
 {
-    match answer {
-        Answer::Accepted { evaluations } => evaluations,
-        Answer::Refused { .. } => 0,
-    }
+    answer.unwrap_or(0)
 }
 
 // An answer as three numbers: 0 and place 0 if accepted, no evaluations if refused.
-pub fn in_numbers(answer: Answer) -> Outcome
-    ensures { result ≡ in_numbers (answer_in answer) }
-{
-    match answer {
-        Answer::Accepted { evaluations } => Outcome {
-            number: 0,
-            place: 0,
-            evaluations: evaluations,
-        },
-        Answer::Refused { number, place } => Outcome {
-            number: number,
-            place: place,
-            evaluations: 0,
-        },
+impl From<Answer> for Outcome {
+    ghost from_gives = { λ answer r. r ≡ in_numbers (answer_in answer) };
+
+    fn from(answer: Answer) -> Outcome {
+        match answer {
+            Ok(evaluations) => Outcome {
+                number: 0,
+                place: 0,
+                evaluations,
+            },
+            Err(refusal) => Outcome {
+                number: refusal.number,
+                place: refusal.place,
+                evaluations: 0,
+            },
+        }
     }
 }

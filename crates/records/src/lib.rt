@@ -15,7 +15,7 @@ pub struct Session {
 }
 
 // What a call comes to: its answer, and the session record after it.
-#[derive(Drop)]
+#[derive(Clone, Copy)]
 pub struct Done {
     pub answer: Answer,
     pub session: Session,

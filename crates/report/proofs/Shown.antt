@@ -9,8 +9,8 @@ use lib.IntN.{ℤ, pos}
 use lib.ListN.{length, take, drop, replicate, take-append-drop}
 use lib.Seq.{take_all}
 use Rattle.io.specs.Counts.{IsPrefixLen}
-use Rattle.tables.specs.declared.Answer.{Answer}
-use Rattle.tables.specs.declared.Answer.TheVariants.{Accepted, Refused}
+use Rattle.std.specs.Prelude.{Result, Ok, Err}
+use Rattle.tables.specs.declared.Refusal.{Refusal}
 use Rattle.records.specs.Left.{answer_in}
 use Rattle.text.specs.Buffer.{Shows}
 use Rattle.text.specs.Lines.{lines, refusal}
@@ -29,16 +29,16 @@ whole reasons file {before = before} {after = after} {count = count} e room (c, 
 
 -- what building left in rows of zeros, by the case of its answer
 module _ (reasons : Bool) (file : List ℕ) (built : Built) (numbers : List ℕ) (stored : List ℤ) (row : List ℕ) (q : left_by_file built numbers stored row ≡ of_file (replicate 4096 0) (replicate 4096 (pos 0)) (replicate 4096 0) file) where
-  text-left : (a : Answer) → built.answer ≡ a → said reasons (answer_in a) built.n numbers stored row ≡ printed reasons file
+  text-left : (a : Result ℕ Refusal) → built.answer ≡ a → said reasons (answer_in a) built.n numbers stored row ≡ printed reasons file
   unfolding printed
   text-left a e = sym (ap (λ x. said reasons (answer_in x) built.n numbers stored row) e) ∙ ap (text_of reasons) q
 
-  pub list-shown : {before after : List ℕ} {count : ℕ} (evaluations : ℕ) → built.answer ≡ Accepted evaluations → 98304 ≤ length before
+  pub list-shown : {before after : List ℕ} {count : ℕ} (evaluations : ℕ) → built.answer ≡ Ok evaluations → 98304 ≤ length before
       → (IsPrefixLen count after) × (Shows (lines reasons built.n numbers stored row) before after count)
       → (IsPrefixLen count after) × ((count ≡ length (printed reasons file)) × (after ≡ printed reasons file ++ drop count before))
-  list-shown evaluations e = whole reasons file (text-left (Accepted evaluations) e)
+  list-shown evaluations e = whole reasons file (text-left (Ok evaluations) e)
 
-  pub refusal-shown : {before after : List ℕ} {count : ℕ} (number place : ℕ) → built.answer ≡ Refused number place → 98304 ≤ length before
-      → (IsPrefixLen count after) × (Shows (refusal number place) before after count)
+  pub refusal-shown : {before after : List ℕ} {count : ℕ} (r : Refusal) → built.answer ≡ Err r → 98304 ≤ length before
+      → (IsPrefixLen count after) × (Shows (refusal r.number r.place) before after count)
       → (IsPrefixLen count after) × ((count ≡ length (printed reasons file)) × (after ≡ printed reasons file ++ drop count before))
-  refusal-shown number place e = whole reasons file (text-left (Refused number place) e)
+  refusal-shown r e = whole reasons file (text-left (Err r) e)

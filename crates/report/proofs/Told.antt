@@ -9,9 +9,9 @@ use Rattle.paper.specs.Tables.{Tables}
 use Rattle.paper.specs.Calls.{BuildLeft, build}
 use Rattle.paper.specs.File.{version1, Contents, counted, read}
 use Rattle.files.specs.Answers.{has_read}
-use Rattle.files.specs.declared.headers.Reading.{Reading}
-use Rattle.files.specs.declared.headers.Reading.TheVariants as reading
-use Rattle.tables.specs.declared.Answer.TheVariants as code
+use Rattle.std.specs.Prelude.{Result, Ok, Err}
+use Rattle.tables.specs.declared.Refusal.{Refusal}
+use Rattle.fields.specs.declared.places.Size.{Size}
 use Rattle.records.specs.declared.Done.{Done}
 use Rattle.records.specs.Left.{answer_in, left_by_build}
 use Rattle.report.specs.declared.Built.{Built}
@@ -28,8 +28,8 @@ module _ (numbers : List ℕ) (stored : List ℤ) (row : List ℕ) where
       ap (λ (left : BuildLeft). record { answer = left.answer; n = t.n; numbers = left.numbers; stored = left.stored; reasons = left.reasons }) e
 
   -- of a file that is not read: the refusal
-  pub unread-left : (r : Built) (number place : ℕ) → (r.answer ≡ code.Refused number place) × (r.n ≡ 0) → left_by_file r numbers stored row ≡ unbuilt numbers stored row number place
-  unread-left r number place e = ap₂ (λ a n. record { answer = answer_in a; n = n; numbers = numbers; stored = stored; reasons = row }) e.0 e.1
+  pub unread-left : (r : Built) (f : Refusal) → (r.answer ≡ Err f) × (r.n ≡ 0) → left_by_file r numbers stored row ≡ unbuilt numbers stored row f.number f.place
+  unread-left r f e = ap₂ (λ a n. record { answer = answer_in a; n = n; numbers = numbers; stored = stored; reasons = row }) e.0 e.1
 
   -- of a file, by its length and by what reading answers
   module _ (file : List ℕ) where
@@ -37,13 +37,13 @@ module _ (numbers : List ℕ) (stored : List ℤ) (row : List ℕ) where
     unfolding of_file
     long-left h = rw (lt-ltb 65536 (length file) h)
 
-    module _ (r : Reading) (c : Contents) (q : has_read r c ≡ read version1 file empty) (h : length file ≤ 65536) where
+    module _ (r : Result Size Refusal) (c : Contents) (q : has_read r c ≡ read version1 file empty) (h : length file ≤ 65536) where
       file-left : of_read numbers stored row (has_read r c) ≡ of_file numbers stored row file
       unfolding of_file
       file-left = rw (le-ltb 65536 (length file) h) (ap (of_read numbers stored row) q)
 
-      pub refused-left : (number place : ℕ) → r ≡ reading.Refused number place → unbuilt numbers stored row number place ≡ of_file numbers stored row file
-      refused-left number place e = sym (ap (λ x. of_read numbers stored row (has_read x c)) e) ∙ file-left
+      pub refused-left : (f : Refusal) → r ≡ Err f → unbuilt numbers stored row f.number f.place ≡ of_file numbers stored row file
+      refused-left f e = sym (ap (λ x. of_read numbers stored row (has_read x c)) e) ∙ file-left
 
-      pub read_left : (n m e : ℕ) → r ≡ reading.Accepted n m e → of_tables numbers stored row (counted n m e c).tables c.starts ≡ of_file numbers stored row file
-      read_left n m e a = sym (ap (λ x. of_read numbers stored row (has_read x c)) a) ∙ file-left
+      pub read_left : (size : Size) → r ≡ Ok size → of_tables numbers stored row (counted size.n size.m size.e c).tables c.starts ≡ of_file numbers stored row file
+      read_left size a = sym (ap (λ x. of_read numbers stored row (has_read x c)) a) ∙ file-left

@@ -3,31 +3,31 @@
 
 mod reading;
 
-ghost use Rattle.std.specs.Prelude.{◌≡◌};
-ghost use Rattle.paper.specs.Tables.{lent};
+ghost use Rattle.std.specs.Prelude.{◌≡◌, Err};
+ghost use Rattle.tables.specs.Lent.{lent_tables};
 ghost use Rattle.report.specs.Printed.{left_by_file, of_tables, of_file};
 
 use build::building::build_core;
 use checks::bounds::{HIGHEST, LOWEST};
-use files::headers::Reading;
 pub use reading::read_full;
 use records::Session;
-use tables::Answer;
+use tables::lent::{Bounds, Tables};
+use tables::{Answer, Refusal, refused};
 
 // What building a file comes to: build's answer, or the refusal of a file that is not read, and how many variables the file holds, 0 if it is
 // not read.
-#[derive(Drop)]
+#[derive(Clone, Copy)]
 pub struct Built {
     pub answer: Answer,
     pub n: usize,
 }
 
 // What a file that is not read comes to.
-fn unread(number: u32, place: u32) -> Built
-    ensures { (result.answer ≡ Answer.Refused number place) × (result.n ≡ 0) }
+fn unread(refusal: Refusal) -> Built
+    ensures { (result.answer ≡ Err refusal) × (result.n ≡ 0) }
 {
     Built {
-        answer: Answer::Refused { number, place },
+        answer: Err(refusal),
         n: 0,
     }
 }
@@ -38,8 +38,9 @@ pub fn build_file(file: &[u8], numbers: &mut [u16], stored: &mut [i32], reasons:
     ensures { left_by_file result numbers.new stored.new reasons.new ≡ of_file numbers.old stored.old reasons.old file.now }
 {
     if 65536 < file.len() {
-        return unread(1, 0);
+        return unread(refused(1, 0));
     }
+    // Stays: rows of a fixed length, since no call allocates.
     let mut starts = [0i32; 4096];
     let mut kinds = [0u16; 4096];
     let mut makes = [0u16; 4096];
@@ -48,7 +49,7 @@ pub fn build_file(file: &[u8], numbers: &mut [u16], stored: &mut [i32], reasons:
     let mut counts = [0u16; 4096];
     let mut vars = [0u16; 16384];
     let mut coefs = [0i16; 16384];
-    let told = files::read(
+    let read = files::read(
         file,
         &mut starts,
         &mut kinds,
@@ -59,39 +60,42 @@ pub fn build_file(file: &[u8], numbers: &mut [u16], stored: &mut [i32], reasons:
         &mut vars,
         &mut coefs,
     );
-    match told {
-        Reading::Accepted { n, m, e } => build_tables(
-            n, m, e, &kinds, &makes, &params, &firsts, &counts, &vars, &coefs, &starts, numbers,
-            stored, reasons,
-        ),
-        Reading::Refused { number, place } => unread(number, place),
+    match read {
+        Ok(size) => {
+            let tables = Tables {
+                n: size.n,
+                m: size.m,
+                e: size.e,
+                kinds: &kinds,
+                makes: &makes,
+                params: &params,
+                firsts: &firsts,
+                counts: &counts,
+                vars: &vars,
+                coefs: &coefs,
+            };
+            build_tables(&tables, &starts, numbers, stored, reasons)
+        }
+        Err(refusal) => unread(refusal),
     }
 }
 
 // Builds the tables and start values that a file held.
 fn build_tables(
-    n: usize,
-    m: usize,
-    e: usize,
-    kinds: &[u16],
-    makes: &[u16],
-    params: &[i32],
-    firsts: &[u16],
-    counts: &[u16],
-    vars: &[u16],
-    coefs: &[i16],
+    tables: &Tables,
     starts: &[i32],
     numbers: &mut [u16],
     stored: &mut [i32],
     reasons: &mut [u8],
 ) -> Built
     ensures { left_by_file result numbers.new stored.new reasons.new
-        ≡ of_tables numbers.old stored.old reasons.old
-        (lent n m e kinds.now makes.now params.now firsts.now counts.now vars.now coefs.now)
-        starts.now }
+        ≡ of_tables numbers.old stored.old reasons.old (lent_tables tables.now) starts.now }
 {
-    let lows = [LOWEST; 4096];
-    let highs = [HIGHEST; 4096];
+    let bounds = Bounds {
+        lows: &[LOWEST; 4096],
+        highs: &[HIGHEST; 4096],
+    };
+    // Stays: rows of a fixed length, since no call allocates.
     let mut order = [0u16; 4096];
     let mut reader_starts = [0u16; 4097];
     let mut reader_places = [0u16; 16384];
@@ -102,18 +106,8 @@ fn build_tables(
             evaluations: 0,
             blanks: 0,
         },
-        n,
-        m,
-        e,
-        kinds,
-        makes,
-        params,
-        firsts,
-        counts,
-        vars,
-        coefs,
-        &lows,
-        &highs,
+        tables,
+        &bounds,
         starts,
         numbers,
         &mut order,
@@ -123,6 +117,8 @@ fn build_tables(
         reasons,
         &mut log_sizes,
     );
-    let answer = done.answer;
-    Built { answer, n }
+    Built {
+        answer: done.answer,
+        n: tables.n,
+    }
 }

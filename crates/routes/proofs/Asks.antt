@@ -99,13 +99,6 @@ module _ (t : Tables) (work : List ℕ) where
         go true q = clash w (idle v (eqb-true (nat work v) 0 q))
         go false q = eqb-true (nat flags v) 1 (not-false (eqb (nat flags v) 1) (sym (waiting-is q) ∙ e))
 
-    pub waits-work : waiting work flags v ≡ true → 0 < nat work v
-    waits-work e = go (eqb (nat work v) 0) refl
-      where
-        go : (b : Bool) → eqb (nat work v) 0 ≡ b → 0 < nat work v
-        go true q = absurd (true≢false (sym e ∙ waiting-is q))
-        go false q = omega (arith, eqb-false (nat work v) 0 q)
-
     pub asked-still : (trial : List ℤ) → waiting work flags v ≡ false → Ready t work trial flags → Asked t work v trial flags trial flags
     asked-still trial e r =
         record { reached = reached-still (works_out t work) (asks_out t work trial) v flags r.closed (done e); holds = r.holds; still = λ u h. refl; long = refl }

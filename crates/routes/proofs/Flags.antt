@@ -6,9 +6,9 @@ use mathlib.Core.List.{List, [], ◌∷◌, map, Memᴰ}
 use mathlib.Core.Path.{◌≡◌, refl, ap, sym, ◌∙◌}
 use lib.Dec.{eqb}
 use lib.IntN.{ℤ}
-use lib.ListN.{length, take, drop, set, length-set, length-take, drop_of_length-le}
+use lib.ListN.{length, drop, set, length-set}
 use lib.Seq.{slice, slice-cons, get_or-set_same, get_or-set_other, drop-set-lt}
-use borrow.Author.Tests.{eqb-true, eqb-false, eq-eqb, ne_eqb}
+use borrow.Author.Tests.{eqb-true, eqb-false, eq-eqb}
 use Rattle.paper.specs.Lists.{any, nat}
 use Rattle.paper.specs.Net.{differs}
 use Rattle.paper.specs.Tables.{Tables}
@@ -51,9 +51,6 @@ module _ (makes places goal : List ℕ) (i last : ℕ) (flags : List ℕ) (e : f
       let d : i + 1 ≡ suc i = omega arith in
       rw (d, q, p) (sym (ap (λ (l : List ℕ). flag_each (map (nat makes) l) flags) (slice-cons i last places 0 h k)) ∙ e)
 
-  pub flag-end : last ≤ i → flags ≡ goal
-  flag-end h = sym (ap (λ (l : List ℕ). flag_each (map (nat makes) l) flags) (drop_of_length-le (take last places) {i = i} (simp length-take (omega arith)))) ∙ e
-
 -- ── the moves that are left from place i on ──
 module _ (makes starts places : List ℕ) (stored trial : List ℤ) (moves goal : List ℕ) (i : ℕ) (flags : List ℕ) (e : pass_each makes starts places stored trial (drop i moves) flags ≡ goal) where
   -- one that changed, and one that did not
@@ -64,9 +61,6 @@ module _ (makes starts places : List ℕ) (stored trial : List ℤ) (moves goal 
     where
       one : pass_each makes starts places stored trial (drop (i + 1) moves) (pass_on makes starts places stored trial v flags) ≡ goal
       one = rw p (sym (ap (λ (l : List ℕ). pass_each makes starts places stored trial l flags) (next moves i 0 h)) ∙ e)
-
-  pub pass-end : length moves ≤ i → flags ≡ goal
-  pass-end h = sym (ap (λ (l : List ℕ). pass_each makes starts places stored trial l flags) (drop_of_length-le moves {i = i} h)) ∙ e
 
 -- ── the index has a section for each variable ──
 pub section-of : (t : Tables) → Sound t → (starts places : List ℕ) → Indexed t starts places → (v room : ℕ) → v < t.n → t.n ≤ room → Section t.makes starts places v room
@@ -82,9 +76,6 @@ section-of t s starts places x v room l k = record {
 
 -- ── the turn of a row ──
 module _ (t : Tables) (starts places : List ℕ) (r : ℕ) (stored trial : List ℤ) (flags : List ℕ) (v : ℕ) (q : v ≡ nat t.makes r) where
-  pub turned-still : (nat flags v ≡ 1 → ⊥) → Turned t starts places r stored trial flags trial flags
-  turned-still ne = let e = ne_eqb (nat flags v) 1 ne in record { values = rw (sym q, e); flagged = rw (sym q, e) }
-
   -- one that changed, and one that did not
   pub turned : nat flags v ≡ 1 → (x : ℤ) → x ≡ row_gives r t.kinds t.params t.firsts t.counts t.vars t.coefs trial
       → (b : Bool) → b ≡ differs (values_of (set trial v x)) (values_of stored) v

@@ -66,74 +66,93 @@ module _ (t : Tables) (work : List ℕ) (v r : ℕ) where
     pub some : (u : ℕ) → From trial first last i u → Goal trial u
     pub asking : Asking t work (Goal trial) (From trial first last i) trial flags trial' flags'
 
-  module _ (w : RowsWorkable t work) (e : nat work v ≡ suc r) (trial : List ℤ) (flags : List ℕ) (ready : Ready t work trial flags) where
-    pub turn-fits : (l : List ℤ) → length l ≡ length trial → RowFits r t.kinds t.params t.firsts t.counts t.vars t.coefs l
-    turn-fits l long = w.fits v r e l (let k = ready.in-trial in omega arith)
+-- the row of v is to be worked out
+pub record Started (t : Tables) (work : List ℕ) (v r : ℕ) (trial : List ℤ) (flags : List ℕ) : Type 0 where
+  pub workable : RowsWorkable t work
+  pub row : nat work v ≡ suc r
+  pub ready : Ready t work trial flags
 
-    module _ (first last : ℕ) (f : first ≡ nat t.firsts r) (z : last ≡ nat t.firsts r + nat t.counts r) where
-      -- from the first place on it asks all that it asks
-      all_from : asked_from (nat t.kinds r) (worked_out t work trial) t.vars first last first ≡ asks_out t work trial v
-      all_from =
-          asked-start (nat t.kinds r) (worked_out t work trial) t.vars first last
-          ∙ ap (looked (nat t.kinds r) (worked_out t work trial)) (let d : last - first ≡ nat t.counts r = omega arith in rw (d, f))
-          ∙ sym (row-asks t work v r e (worked_out t work trial))
+module _ {t : Tables} {work : List ℕ} {v r : ℕ} {trial : List ℤ} {flags : List ℕ} (S : Started t work v r trial flags) where
+  abbrev w : RowsWorkable t work
+  w = S.workable
 
-      pub turn-start : InTurn first last first trial flags trial flags
-      turn-start = record {
-        first-is = f;
-        last-is = z;
-        from = omega arith;
-        some = λ u m. subst (Memᴰ u) all_from m;
-        asking = subst (λ (l : List ℕ). Asking t work (Goal trial) (λ u. Memᴰ u l) trial flags trial flags) (sym all_from) (asking-start t work w (Goal trial) trial flags ready);
-      }
+  abbrev ready : Ready t work trial flags
+  ready = S.ready
 
-    module _ (first last i : ℕ) (trial' : List ℤ) (flags' : List ℕ) (g : InTurn first last i trial flags trial' flags') where
-      pub turn_inside : last ≤ length t.vars
-      turn_inside = let k = (turn-fits trial refl).suits.in-vars in let z = g.last-is in omega arith
+  -- the variables that the row asks, and those of them from place i on
+  abbrev goal : ℕ → Type 0
+  goal = Goal t work v r trial
 
-      pub turn-room : (v < length trial') × (v < length flags')
-      turn-room =
-          let k = busy-below t work v r e in let p = ready.in-trial in let q = ready.in-flags in let y = g.asking.long in let z = g.asking.reaching.long in
-          (omega arith, omega arith)
+  abbrev left : ℕ → ℕ → ℕ → ℕ → Type 0
+  left = From t work v r trial
 
-      module _ (h : i < last) (u : ℕ) (here : u ≡ nat t.vars i) where
-        -- the variable at place i, and those from the next place on
-        next-is : (x : ℤ) → x ≡ worked_out t work trial u
-            → asked_from (nat t.kinds r) (worked_out t work trial) t.vars first last i
-            ≡ u ∷ asked_from (nat t.kinds r) (worked_out t work trial) t.vars first last (next_place (nat t.kinds r) x i first last)
-        next-is x p =
-            asked-next (nat t.kinds r) (worked_out t work trial) t.vars first last i x g.from h turn_inside (p ∙ ap (worked_out t work trial) here)
-            ∙ ap (◌∷ asked_from (nat t.kinds r) (worked_out t work trial) t.vars first last (next_place (nat t.kinds r) x i first last)) (sym here)
+  pub turn-fits : {l : List ℤ} → length l ≡ length trial → RowFits r t.kinds t.params t.firsts t.counts t.vars t.coefs l
+  turn-fits {l} long = w.fits v r S.row l (let k = ready.in-trial in omega arith)
 
-        asked_here : Goal trial u
-        asked_here = g.some u (subst (Memᴰ u) (sym (next-is (worked_out t work trial u) refl)) (Memᴰ.head refl))
+  module _ {first last : ℕ} (f : first ≡ nat t.firsts r) (z : last ≡ nat t.firsts r + nat t.counts r) where
+    -- from the first place on it asks all that it asks
+    all_from : asked_from (nat t.kinds r) (worked_out t work trial) t.vars first last first ≡ asks_out t work trial v
+    all_from =
+        asked-start (nat t.kinds r) (worked_out t work trial) t.vars first last
+        ∙ ap (looked (nat t.kinds r) (worked_out t work trial)) (let d : last - first ≡ nat t.counts r = omega arith in rw (d, f))
+        ∙ sym (row-asks t work v r S.row (worked_out t work trial))
 
-        -- it stands lower, has room, and can be asked
-        pub turn-call : (depth t work u < depth t work v) × (u < length work) × Ready t work trial' flags'
-        turn-call =
-            let k = asks-below t work w v r e (worked_out t work trial) u asked_here in
-            (k.0, k.1, asking-ready t work w (Goal trial) (From trial first last i) trial flags trial' flags' g.asking ready)
+    pub turn-start : InTurn t work v r first last first trial flags trial flags
+    turn-start = record {
+      first-is = f;
+      last-is = z;
+      from = omega arith;
+      some = λ u m. subst (Memᴰ u) all_from m;
+      asking = subst (λ (l : List ℕ). Asking t work (goal) (λ u. Memᴰ u l) trial flags trial flags) (sym all_from) (asking-start t work w (goal) trial flags ready);
+    }
 
-        pub turn-next : (x : ℤ) (j : ℕ) (trial'' : List ℤ) (flags'' : List ℕ) → x ≡ values_of trial'' u → j ≡ next_place (nat t.kinds r) x i first last
-            → Asked t work u trial' flags' trial'' flags'' → InTurn first last j trial flags trial'' flags''
-        turn-next x j trial'' flags'' p q a = rw q (record {
-          first-is = g.first-is;
-          last-is = g.last-is;
-          from = let l = g.from in let k = next-on (nat t.kinds r) x i first last h in omega arith;
-          some = λ o m. g.some o (subst (Memᴰ o) (sym (next-is x value)) (Memᴰ.tail m));
-          asking =
-              asking-step t work w (Goal trial) (From trial first last i) trial flags trial' flags' g.asking (From trial first last (next_place (nat t.kinds r) x i first last)) u trial'' flags''
-              asked_here (λ o m. split o u _ (subst (Memᴰ o) (next-is x value) m)) a;
-        })
-          where
-            value : x ≡ worked_out t work trial u
-            value = p ∙ asked-value t work u trial' flags' trial'' flags'' a ∙ ap (λ (f : Values). f u) (asking-same t work w (Goal trial) (From trial first last i) trial flags trial' flags' g.asking)
+  module _ {first last i : ℕ} {trial' : List ℤ} {flags' : List ℕ} (g : InTurn t work v r first last i trial flags trial' flags') where
+    pub turn_inside : last ≤ length t.vars
+    turn_inside = let k = (turn-fits {l = trial} refl).suits.in-vars in let z = g.last-is in omega arith
 
-      pub turn_end : last ≤ i → (y : ℤ) → y ≡ row_gives r t.kinds t.params t.firsts t.counts t.vars t.coefs trial'
-          → (y ≡ worked_out t work trial v) × Asked t work v trial flags (set trial' v y) (set flags' v 1)
-      turn_end h y p =
-          asked-row t work w v r e (From trial first last i) trial flags trial' flags' y ready g.asking
-          (λ u m. Memᴰ.not-nil (subst (Memᴰ u) (asked-end (nat t.kinds r) (worked_out t work trial) t.vars first last i h) m)) p
+    pub turn-room : (v < length trial') × (v < length flags')
+    turn-room =
+        let k = busy-below t work v r S.row in let p = ready.in-trial in let q = ready.in-flags in let y = g.asking.long in let z = g.asking.reaching.long in
+        (omega arith, omega arith)
+
+    module _ (h : i < last) {u : ℕ} (here : u ≡ nat t.vars i) where
+      -- the variable at place i, and those from the next place on
+      next-is : (x : ℤ) → x ≡ worked_out t work trial u
+          → asked_from (nat t.kinds r) (worked_out t work trial) t.vars first last i
+          ≡ u ∷ asked_from (nat t.kinds r) (worked_out t work trial) t.vars first last (next_place (nat t.kinds r) x i first last)
+      next-is x p =
+          asked-next (nat t.kinds r) (worked_out t work trial) t.vars first last i x g.from h turn_inside (p ∙ ap (worked_out t work trial) here)
+          ∙ ap (◌∷ asked_from (nat t.kinds r) (worked_out t work trial) t.vars first last (next_place (nat t.kinds r) x i first last)) (sym here)
+
+      asked_here : goal u
+      asked_here = g.some u (subst (Memᴰ u) (sym (next-is (worked_out t work trial u) refl)) (Memᴰ.head refl))
+
+      -- it stands lower, has room, and can be asked
+      pub turn-call : (depth t work u < depth t work v) × (u < length work) × Ready t work trial' flags'
+      turn-call =
+          let k = asks-below t work w v r S.row (worked_out t work trial) u asked_here in
+          (k.0, k.1, asking-ready t work w (goal) (left first last i) trial flags trial' flags' g.asking ready)
+
+      pub turn-next : {x : ℤ} {j : ℕ} {trial'' : List ℤ} {flags'' : List ℕ} → x ≡ values_of trial'' u → j ≡ next_place (nat t.kinds r) x i first last
+          → Asked t work u trial' flags' trial'' flags'' → InTurn t work v r first last j trial flags trial'' flags''
+      turn-next {x} {j} {trial''} {flags''} p q a = rw q (record {
+        first-is = g.first-is;
+        last-is = g.last-is;
+        from = let l = g.from in let k = next-on (nat t.kinds r) x i first last h in omega arith;
+        some = λ o m. g.some o (subst (Memᴰ o) (sym (next-is x value)) (Memᴰ.tail m));
+        asking =
+            asking-step t work w (goal) (left first last i) trial flags trial' flags' g.asking (left first last (next_place (nat t.kinds r) x i first last)) u trial'' flags''
+            asked_here (λ o m. split o u _ (subst (Memᴰ o) (next-is x value) m)) a;
+      })
+        where
+          value : x ≡ worked_out t work trial u
+          value = p ∙ asked-value t work u trial' flags' trial'' flags'' a ∙ ap (λ (f : Values). f u) (asking-same t work w (goal) (left first last i) trial flags trial' flags' g.asking)
+
+    pub turn_end : last ≤ i → {y : ℤ} → y ≡ row_gives r t.kinds t.params t.firsts t.counts t.vars t.coefs trial'
+        → (y ≡ worked_out t work trial v) × Asked t work v trial flags (set trial' v y) (set flags' v 1)
+    turn_end h {y} p =
+        asked-row t work w v r S.row (left first last i) trial flags trial' flags' y ready g.asking
+        (λ u m. Memᴰ.not-nil (subst (Memᴰ u) (asked-end (nat t.kinds r) (worked_out t work trial) t.vars first last i h) m)) p
 
 -- ── a list ──
 module _ (t : Tables) (work asked : List ℕ) (trial : List ℤ) (flags : List ℕ) where

@@ -12,21 +12,16 @@ use Rattle.paper.specs.Net.{differs}
 use Rattle.paper.proofs.Lists.{clash}
 use Rattle.paper.proofs.Scan.{next}
 use Rattle.rows.specs.Changes.{values_of}
-use Rattle.routes.specs.Reach.{Closed, Reached, Reaching}
+use Rattle.routes.specs.Reach.{Reached, Reaching}
 use Rattle.routes.specs.Readers.{Moved, none}
 use Rattle.routes.proofs.Members.{at_place}
-use Rattle.routes.proofs.Reach.{reaching-start, reaching-step, reaching-skip}
+use Rattle.routes.proofs.Reach.{reaching-step, reaching-skip}
 
 -- those from place i on are left
 abbrev pub Passed : (ℕ → List ℕ) → List ℕ → List ℤ → List ℤ → List ℕ → ℕ → List ℕ → Type 0
 Passed to moves stored trial before i marks = Reaching (λ u. true) to (Moved moves stored trial) (λ u. Memᴰ u (drop i moves)) before marks
 
 module _ (to : ℕ → List ℕ) (moves : List ℕ) (stored trial : List ℤ) (before : List ℕ) where
-  pub passed_start : Closed (λ u. true) to before → Passed to moves stored trial before 0 before
-  passed_start c =
-      reaching-skip (λ u. true) to (Moved moves stored trial) (Moved moves stored trial) (λ u. Memᴰ u moves) before before
-      (reaching-start (λ u. true) to (Moved moves stored trial) before c) (λ u g h. h.0)
-
   module _ (i : ℕ) (marks : List ℕ) (P : Passed to moves stored trial before i marks) where
     module _ (l : i < length moves) (v : ℕ) (q : v ≡ nat moves i) (b : Bool) (e : b ≡ differs (values_of trial) (values_of stored) v) where
       first : (u : ℕ) → Memᴰ u (drop i moves) → (u ≡ v) ⊎ Memᴰ u (drop (i + 1) moves)

@@ -7,8 +7,8 @@ use mathlib.Core.List.{List, [], ◌∷◌, map, Memᴰ}
 use mathlib.Core.Path.{◌≡◌, refl, ap, sym, ◌∙◌, subst}
 use lib.Dec.{ltb}
 use lib.IntN.{ℤ, pos}
-use lib.ListN.{length, get_or}
-use lib.Seq.{get_or-take}
+use lib.ListN.{length, get_or, take}
+use lib.Seq.{get_or-take, length-take-le, take_all}
 use borrow.Author.Tests.{ltb-true, ltb-false, lt-ltb}
 use Rattle.paper.specs.Lists.{nat}
 use Rattle.paper.specs.Formula.{formula}
@@ -29,6 +29,15 @@ pub place_of : (l : List ℕ) {x : ℕ} → Memᴰ x l → (j : ℕ) × (j < len
 place_of (y ∷ ys) (Memᴰ.head q) = (0, omega arith, sym q)
 place_of (y ∷ ys) (Memᴰ.tail m) = let (j, h, e) = place_of ys m in (suc j, omega arith, e)
 place_of [] x3 = elim x3 [ ]
+
+-- the part of the order that the walk goes along
+module _ {t : Tables} {ord : List ℕ} (a : Along t ord) where
+  pub front-long : length (take t.m ord) ≡ t.m
+  front-long = length-take-le t.m ord a.long
+
+  pub front-along : Along t (take t.m ord)
+  front-along = let long = front-long in
+      record { sound = a.sound; chains = a.chains; long = omega arith; order_is = take_all t.m (take t.m ord) (omega arith) ∙ a.order_is }
 
 module _ (t : Tables) (ord : List ℕ) (a : Along t ord) where
   same : (j : ℕ) → j < t.m → nat ord j ≡ nat (order t) j

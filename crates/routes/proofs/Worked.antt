@@ -35,9 +35,6 @@ module _ (t : Tables) (ord : List ℕ) (a : Along t ord) (start : List ℤ) (roo
   abbrev made : ℕ → ℕ
   made j = nat t.makes (nat ord j)
 
-  pub working-start : Working t ord start 0 start
-  working-start = record { long = refl; beyond = refl; search = λ v l e. refl; done = λ i l. absurd (omega arith) }
-
   searched : (now : List ℤ) (j : ℕ) → Working t ord start j now → (v : ℕ) → v < t.n → is_made t v ≡ false → get_or now v (pos 0) ≡ goal v
   searched now j w v l e =
       w.search v l e ∙ sym (get_or-take t.n start v (pos 0) l) ∙ sym (afresh-search (net t) (lawful t) t.n a.chains (values_in t start) v e)

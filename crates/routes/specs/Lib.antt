@@ -5,3 +5,4 @@ pub mod Rows
 pub mod Routed
 pub mod Work
 pub mod Plan
+pub mod Numbered

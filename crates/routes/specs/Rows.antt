@@ -34,3 +34,10 @@ pub record RowFits (r : ℕ) (kinds : List ℕ) (params : List ℤ) (firsts coun
 abbrev pub row_gives : ℕ → List ℕ → List ℤ → List ℕ → List ℕ → List ℕ → List ℤ → List ℤ → ℤ
 row_gives r kinds params firsts counts vars coefs values =
     formula (nat kinds r) (get_or params r (pos 0)) (part_of (nat firsts r) (nat counts r) coefs) (inputs (part_of (nat firsts r) (nat counts r) vars) values)
+
+-- both over the rows of lent tables
+abbrev pub RowFitsIn : Tables → ℕ → List ℤ → Type 0
+RowFitsIn t r = RowFits r t.kinds t.params t.firsts t.counts t.vars t.coefs
+
+abbrev pub row_gives_in : Tables → ℕ → List ℤ → ℤ
+row_gives_in t r = row_gives r t.kinds t.params t.firsts t.counts t.vars t.coefs

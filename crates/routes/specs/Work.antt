@@ -7,12 +7,16 @@ use Rattle.paper.specs.Formula.{formula, looked, element_looks}
 use Rattle.paper.specs.Net.{Values, Net, able, afresh}
 use Rattle.paper.proofs.Straight.{number}
 use Rattle.paper.specs.Tables.{Tables, lent, part}
+use Rattle.tables.specs.declared.lent.Tables as code-tables
 use Rattle.routes.specs.Reach.{Closed, Reached, Reaching}
 use Rattle.routes.specs.Rows.{values_of, RowFits}
 
 -- the rows and entries that the walk reads of the tables
 abbrev pub rows : List ℕ → List ℤ → List ℕ → List ℕ → List ℕ → List ℤ → Tables
 rows kinds params firsts counts vars coefs = lent 0 0 0 kinds [] params firsts counts vars coefs
+
+abbrev pub rows_lent : code-tables.Tables → Tables
+rows_lent t = rows t.kinds.now t.params.now t.firsts.now t.counts.now t.vars.now t.coefs.now
 
 -- ── the model of what is to be worked out ──
 -- by an entry of the row of work

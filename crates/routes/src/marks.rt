@@ -6,25 +6,24 @@ ghost use Rattle.routes.specs.Readers.{Upward, Markable, Movable, Moved, none};
 
 use integers::wide;
 use rows::steps::moved;
+use tables::lent::Index;
 
 // Marks what the readers of v make, and after it v itself.
-fn mark(v: usize, makes: &[u16], starts: &[u16], places: &[u16], marks: &mut [u8])
-    requires upward { Upward makes.now starts.now places.now }
-    requires there { suc v < length starts.now }
-    requires markable { Markable makes.now starts.now places.now marks.old }
-    ensures { Reached (λ u. true) (made_from makes.now starts.now places.now) v marks.old marks.new }
+fn mark(v: usize, makes: &[u16], index: &Index, marks: &mut [u8])
+    requires upward { Upward makes.now index.now.starts.now index.now.places.now }
+    requires there { suc v < length index.now.starts.now }
+    requires markable { Markable makes.now index.now.starts.now index.now.places.now marks.old }
+    ensures { Reached (λ u. true) (made_from makes.now index.now.starts.now index.now.places.now) v marks.old marks.new }
 {
     if marks[v] == 1 {
         return;
     }
-    let end = wide(starts[v + 1]);
-    let mut i = wide(starts[v]);
-    while i < end {
-        let u = wide(makes[wide(places[i])]);
+    let end = wide(index.starts[v + 1]);
+    for i in wide(index.starts[v])..end {
+        let u = wide(makes[wide(index.places[i])]);
         if marks[u] != 1 {
-            mark(u, makes, starts, places, marks);
+            mark(u, makes, index, marks);
         }
-        i += 1;
     }
     marks[v] = 1;
 }
@@ -33,21 +32,20 @@ fn mark(v: usize, makes: &[u16], starts: &[u16], places: &[u16], marks: &mut [u8
 pub fn mark_moved(
     moves: &[u16],
     makes: &[u16],
-    starts: &[u16],
-    places: &[u16],
+    index: &Index,
     stored: &[i32],
     trial: &[i32],
     marks: &mut [u8],
 )
-    requires upward { Upward makes.now starts.now places.now }
-    requires movable { Movable starts.now moves.now stored.now trial.now }
-    requires markable { Markable makes.now starts.now places.now marks.old }
-    ensures { Reaching (λ u. true) (made_from makes.now starts.now places.now) (Moved moves.now stored.now trial.now) none marks.old marks.new }
+    requires upward { Upward makes.now index.now.starts.now index.now.places.now }
+    requires movable { Movable index.now.starts.now moves.now stored.now trial.now }
+    requires markable { Markable makes.now index.now.starts.now index.now.places.now marks.old }
+    ensures { Reaching (λ u. true) (made_from makes.now index.now.starts.now index.now.places.now) (Moved moves.now stored.now trial.now) none marks.old marks.new }
 {
-    for i in 0..moves.len() {
-        let v = wide(moves[i]);
+    for &m in moves {
+        let v = wide(m);
         if moved(v, stored, trial) {
-            mark(v, makes, starts, places, marks);
+            mark(v, makes, index, marks);
         }
     }
 }

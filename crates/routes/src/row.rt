@@ -1,25 +1,26 @@
 // The value of one row over a row of values.
 ghost use Rattle.std.specs.Prelude.{◌≡◌};
-ghost use Rattle.routes.specs.Rows.{RowFits, row_gives};
+ghost use Rattle.tables.specs.Lent.{lent_tables};
+ghost use Rattle.routes.specs.Rows.{RowFitsIn, row_gives_in};
 
 use formulas::formula_value;
 use integers::wide;
+use tables::lent::Tables;
 
 // What the formula of row r gives over the values.
-pub fn row_value(
-    r: usize,
-    kinds: &[u16],
-    params: &[i32],
-    firsts: &[u16],
-    counts: &[u16],
-    vars: &[u16],
-    coefs: &[i16],
-    values: &[i32],
-) -> i32
-    requires { RowFits r kinds.now params.now firsts.now counts.now vars.now coefs.now values.now }
-    ensures { result ≡ row_gives r kinds.now params.now firsts.now counts.now vars.now coefs.now values.now }
+pub fn row_value(r: usize, tables: &Tables, values: &[i32]) -> i32
+    requires { RowFitsIn (lent_tables tables.now) r values.now }
+    ensures { result ≡ row_gives_in (lent_tables tables.now) r values.now }
 {
-    let first = wide(firsts[r]);
-    let count = wide(counts[r]);
-    formula_value(kinds[r], params[r], first, count, coefs, vars, values)
+    let first = wide(tables.firsts[r]);
+    let count = wide(tables.counts[r]);
+    formula_value(
+        tables.kinds[r],
+        tables.params[r],
+        first,
+        count,
+        tables.coefs,
+        tables.vars,
+        values,
+    )
 }

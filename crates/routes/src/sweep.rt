@@ -1,8 +1,8 @@
 // Route 1, from inputs to outputs: what changed flags what its readers make, and along the order every flagged row has its turn.
 ghost use Rattle.std.specs.Prelude.{[], ◌≡◌, ◌<◌, ◌≤◌, length};
 ghost use Rattle.paper.specs.Net.{input-to-output};
-ghost use Rattle.paper.specs.Tables.{lent};
 ghost use Rattle.paper.specs.Checks.{Sound};
+ghost use Rattle.tables.specs.Lent.{lent_tables};
 ghost use Rattle.routes.specs.Rows.{Along};
 ghost use Rattle.routes.specs.Sections.{made_from};
 ghost use Rattle.index.specs.Index.{Indexed};
@@ -11,37 +11,36 @@ ghost use Rattle.routes.specs.Routed.{Begun, Named, Routed, Section, flag_each, 
 use crate::row::row_value;
 use integers::wide;
 use rows::steps::moved;
+use tables::lent::{Index, Tables};
 
 // Flags what the readers of v make.
-fn flag_readers(v: usize, makes: &[u16], starts: &[u16], places: &[u16], flags: &mut [u8])
-    requires { Section makes.now starts.now places.now v (length flags.old) }
-    ensures { flags.new ≡ flag_each (made_from makes.now starts.now places.now v) flags.old }
+fn flag_readers(v: usize, makes: &[u16], index: &Index, flags: &mut [u8])
+    requires { Section makes.now index.now.starts.now index.now.places.now v (length flags.old) }
+    ensures { flags.new ≡ flag_each (made_from makes.now index.now.starts.now index.now.places.now v) flags.old }
 {
-    let end = wide(starts[v + 1]);
-    let mut i = wide(starts[v]);
-    while i < end {
-        flags[wide(makes[wide(places[i])])] = 1;
-        i += 1;
+    let end = wide(index.starts[v + 1]);
+    for i in wide(index.starts[v])..end {
+        flags[wide(makes[wide(index.places[i])])] = 1;
     }
 }
 
 // Flags what the readers of each variable that moved make.
+// Stays: no plainer as one with `mark_moved`, which would be handed the walk as a closure over the row and what it promises as laws.
 fn flag_moved(
     moves: &[u16],
     makes: &[u16],
-    starts: &[u16],
-    places: &[u16],
+    index: &Index,
     stored: &[i32],
     trial: &[i32],
     flags: &mut [u8],
 )
-    requires { Passable makes.now starts.now places.now stored.now trial.now moves.now (length flags.old) }
-    ensures { flags.new ≡ pass_each makes.now starts.now places.now stored.now trial.now moves.now flags.old }
+    requires { Passable makes.now index.now.starts.now index.now.places.now stored.now trial.now moves.now (length flags.old) }
+    ensures { flags.new ≡ pass_each makes.now index.now.starts.now index.now.places.now stored.now trial.now moves.now flags.old }
 {
-    for i in 0..moves.len() {
-        let v = wide(moves[i]);
+    for &m in moves {
+        let v = wide(m);
         if moved(v, stored, trial) {
-            flag_readers(v, makes, starts, places, flags);
+            flag_readers(v, makes, index, flags);
         }
     }
 }
@@ -49,83 +48,46 @@ fn flag_moved(
 // If what row r makes is flagged, it has its value over the new inputs; and if that is another than before, what its readers make is flagged.
 fn turn(
     r: usize,
-    n: usize,
-    m: usize,
-    e: usize,
-    kinds: &[u16],
-    makes: &[u16],
-    params: &[i32],
-    firsts: &[u16],
-    counts: &[u16],
-    vars: &[u16],
-    coefs: &[i16],
-    starts: &[u16],
-    places: &[u16],
+    tables: &Tables,
+    index: &Index,
     stored: &[i32],
     trial: &mut [i32],
     flags: &mut [u8],
 )
-    requires sound { Sound (lent n m e kinds.now makes.now params.now firsts.now counts.now vars.now coefs.now) }
-    requires index { Indexed (lent n m e kinds.now makes.now params.now firsts.now counts.now vars.now coefs.now) starts.now places.now }
-    requires row { r < m }
-    requires room { (n ≤ length stored.now) × (n ≤ length trial.old) × (n ≤ length flags.old) }
-    ensures { Turned (lent n m e kinds.now makes.now params.now firsts.now counts.now vars.now coefs.now) starts.now places.now r stored.now trial.old flags.old trial.new flags.new }
+    requires sound { Sound (lent_tables tables.now) }
+    requires index { Indexed (lent_tables tables.now) index.now.starts.now index.now.places.now }
+    requires row { r < tables.now.m }
+    requires room { (tables.now.n ≤ length stored.now) × (tables.now.n ≤ length trial.old) × (tables.now.n ≤ length flags.old) }
+    ensures { Turned (lent_tables tables.now) index.now.starts.now index.now.places.now r stored.now trial.old flags.old trial.new flags.new }
 {
-    let u = wide(makes[r]);
+    let u = wide(tables.makes[r]);
     if flags[u] != 1 {
         return;
     }
-    trial[u] = row_value(r, kinds, params, firsts, counts, vars, coefs, trial);
+    trial[u] = row_value(r, tables, trial);
     if moved(u, stored, trial) {
-        flag_readers(u, makes, starts, places, flags);
+        flag_readers(u, tables.makes, index, flags);
     }
 }
 
 // Gives every row its turn, along the order.
 pub fn input_to_output(
-    n: usize,
-    m: usize,
-    e: usize,
-    kinds: &[u16],
-    makes: &[u16],
-    params: &[i32],
-    firsts: &[u16],
-    counts: &[u16],
-    vars: &[u16],
-    coefs: &[i16],
+    tables: &Tables,
     order: &[u16],
-    starts: &[u16],
-    places: &[u16],
+    index: &Index,
     moves: &[u16],
     stored: &[i32],
     trial: &mut [i32],
     flags: &mut [u8],
 )
-    requires along { Along (lent n m e kinds.now makes.now params.now firsts.now counts.now vars.now coefs.now) order.now }
-    requires index { Indexed (lent n m e kinds.now makes.now params.now firsts.now counts.now vars.now coefs.now) starts.now places.now }
-    requires begun { Begun (lent n m e kinds.now makes.now params.now firsts.now counts.now vars.now coefs.now) stored.now trial.old flags.old }
-    requires named { Named (lent n m e kinds.now makes.now params.now firsts.now counts.now vars.now coefs.now) stored.now trial.old moves.now }
-    ensures { Routed (lent n m e kinds.now makes.now params.now firsts.now counts.now vars.now coefs.now) input-to-output stored.now trial.old flags.old [] trial.new flags.new }
+    requires along { Along (lent_tables tables.now) order.now }
+    requires index { Indexed (lent_tables tables.now) index.now.starts.now index.now.places.now }
+    requires begun { Begun (lent_tables tables.now) stored.now trial.old flags.old }
+    requires named { Named (lent_tables tables.now) stored.now trial.old moves.now }
+    ensures { Routed (lent_tables tables.now) input-to-output stored.now trial.old flags.old [] trial.new flags.new }
 {
-    flag_moved(moves, makes, starts, places, stored, trial, flags);
-    for j in 0..m {
-        turn(
-            wide(order[j]),
-            n,
-            m,
-            e,
-            kinds,
-            makes,
-            params,
-            firsts,
-            counts,
-            vars,
-            coefs,
-            starts,
-            places,
-            stored,
-            trial,
-            flags,
-        );
+    flag_moved(moves, tables.makes, index, stored, trial, flags);
+    for &row in &order[..tables.m] {
+        turn(wide(row), tables, index, stored, trial, flags);
     }
 }

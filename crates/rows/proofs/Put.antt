@@ -5,11 +5,13 @@ use native.Mathlib.Nat.{le_refl, lt_irrefl}
 use native.Mathlib.Omega.{arith}
 use mathlib.Core.Logic.{◌≢◌}
 use mathlib.Core.Bool.{Bool, true, false, cond, ◌||◌}
-use mathlib.Core.List.{List, [], ◌∷◌}
+use mathlib.Core.List.{List, [], ◌∷◌, ◌++◌}
 use mathlib.Core.Path.{◌≡◌, refl, ap, sym, ◌∙◌}
 use lib.Dec.{eqb, ltb}
 use lib.IntN.{ℤ, pos}
-use lib.ListN.{length, get_or, drop, set, length-set, drop_of_length-le}
+use lib.ListN.{length, get_or, drop, set, length-set, drop_of_length-le, replicate}
+use Rattle.std.proofs.lemmas.List.{replicate-append-replicate}
+use native.Mathlib.Numerals.{add-one}
 use borrow.Author.Tests.{ltb-true, ltb-false, ne_eqb}
 use Rattle.paper.specs.Lists.{any, nat, below, over}
 use Rattle.paper.specs.Net.{Values, moved, names}
@@ -91,3 +93,8 @@ module _ (mv : Move) (before : List ℤ) where
 
   pub putting-end : (row : List ℤ) (i : ℕ) → Putting row i → i ≡ 0 → row ≡ put_in (pairs_of_move mv) before
   putting-end row i s e = s.is ∙ ap (λ k. put_in (drop k (pairs_of_move mv)) before) e
+
+-- ── a row cleared ──
+pub below-one : {A : Type 0} (x : A) (n : ℕ) → replicate n x ≡ below (λ v. x) n
+below-one x zero = refl
+below-one x (suc n) = ap (λ k. replicate k x) (sym (add-one n)) ∙ sym (replicate-append-replicate n 1 x) ∙ ap (◌++ (x ∷ [])) (below-one x n)

@@ -17,13 +17,7 @@ pub fn value<R: Print>(rt: &R, v: i32) -> io::Result<()> {
     if is_blank(v) {
         return text(rt, b"blank");
     }
-    let bits = integers::bits32(v) as u64;
-    if v < 0 {
-        text(rt, b"-")?;
-        number(rt, 4294967296 - bits)
-    } else {
-        number(rt, bits)
-    }
+    rt.print(v)
 }
 
 // Prints a number below 100 in two digits.
@@ -39,7 +33,7 @@ pub fn clock<R: Print>(rt: &R, time: i32) -> io::Result<()> {
     if time < 0 {
         return value(rt, time);
     }
-    let seconds = integers::bits32(time);
+    let seconds = time.unsigned_abs();
     two_digits(rt, seconds / 3600)?;
     text(rt, b":")?;
     two_digits(rt, seconds / 60 % 60)?;

@@ -1,19 +1,18 @@
 -- Lists one after another, and parts copied, as loops store them. Assumes nothing.
-use Prim.Native.Nat.{ℕ, ◌+◌, ◌-◌, ◌≤◌, ◌<◌}
-use native.Mathlib.Numerals.{add-one}
+use Prim.Native.Nat.{ℕ, ◌+◌, ◌≤◌, ◌<◌}
 use native.Mathlib.Omega.{arith}
-use mathlib.Core.Bool.{Bool, true, false, ◌&&◌}
-use mathlib.Core.List.{List, ◌++◌, map}
+use mathlib.Core.Bool.{Bool, true, false, cond, ◌&&◌}
+use lib.IntN.{ℤ, pos}
+use mathlib.Core.List.{List, map}
 use mathlib.Core.Path.{◌≡◌, refl, ap, ap₂, sym, ◌∙◌, subst}
-use lib.ListN.{length, get_or, take, drop, set, length-set, length-map}
-use lib.Seq.{sets, sets-eq, paste, paste-zero, paste-suc, take_all, take_at, take-length, get_or-drop, ext_get_or}
+use lib.ListN.{length, get_or, take, drop, length-map, set}
+use lib.Seq.{sets, take_all, take_at, get_or-drop, ext_get_or, set-get_or}
 use Rattle.paper.specs.Lists.{nat, total, those, joined, below, over}
 use Rattle.paper.specs.Tables.{Tables, ends}
-use Rattle.paper.proofs.Buffers.{length-below, get_d-below, over-front, over-same, Filled}
+use Rattle.paper.proofs.Buffers.{length-below, get_d-below, over-front, over-same, Filled, filled_next}
 use Rattle.paper.proofs.Bytes.{sets-front}
 use Rattle.paper.proofs.Scan.{part_length}
 use Rattle.tables.specs.Makers.{AllBelow}
-use Rattle.tables.proofs.Whole.{front}
 use Rattle.order.specs.Formed.{bare}
 use Rattle.order.specs.Numbering.{ended}
 use Rattle.salvage.specs.Packing.{part_of_row, shape, Packable, Shaped, Known, Makes}
@@ -31,10 +30,10 @@ map_below f d rows =
 pub over-map : {A : Type 0} (f : ℕ → A) (d : A) (rows : List ℕ) (before : List A) {l : List A} → l ≡ over (length rows) (λ i. f (nat rows i)) before → take (length rows) l ≡ map f rows
 over-map f d rows before e = ap (take (length rows)) e ∙ over-front (λ i. f (nat rows i)) (length rows) before ∙ map_below f d rows
 
--- what stands at the front of a row, as code cuts it out
-pub front_of : {A : Type 0} (xs before : List A) (k : ℕ) {out : List A} → length xs ≤ length before → out ≡ sets before 0 xs → k ≡ 0 + length xs → take (k - 0) (drop 0 out) ≡ xs
+-- what stands at the front of a row
+pub front_of : {A : Type 0} (xs before : List A) (k : ℕ) {out : List A} → length xs ≤ length before → out ≡ sets before 0 xs → k ≡ 0 + length xs → take k out ≡ xs
 front_of xs before k {out} room e q =
-    let z : k - 0 ≡ length xs = omega arith in
+    let z : k ≡ length xs = omega arith in
     ap (λ i. take i out) z ∙ ap (take (length xs)) (e ∙ sets-front xs before (length xs) refl room) ∙ take_at xs (drop (length xs) before) (length xs) refl
 
 -- where parts with these counts begin
@@ -45,14 +44,8 @@ firsts-front cut counts before k e h q =
 
 -- columns that hold packed rows are the rows' tables
 pub shaped-is : (n : ℕ) (makes firsts counts vars rows : List ℕ) {a b c d : List ℕ} {e : ℕ} → Shaped (bare 0 0 makes firsts counts vars) rows a b c d e
-    → bare n (length (take (length rows - 0) (drop 0 a))) (take (length rows - 0) (drop 0 a)) (take (length rows - 0) (drop 0 b)) (take (length rows - 0) (drop 0 c)) (take (e - 0) (drop 0 d))
-    ≡ shape n makes firsts counts vars rows
-shaped-is n makes firsts counts vars rows {a} {b} {c} {d} {e} S =
-    same (front (length rows) a ∙ S.made) (front (length rows) b ∙ S.first) (front (length rows) c ∙ S.count) (front e d ∙ S.read)
-  where
-    same : {a b c d : List ℕ} → a ≡ map (nat makes) rows → b ≡ (shape n makes firsts counts vars rows).firsts → c ≡ (shape n makes firsts counts vars rows).counts → d ≡ (shape n makes firsts counts vars rows).vars
-        → bare n (length a) a b c d ≡ shape n makes firsts counts vars rows
-    same p q r s = rw (p, q, r, s, length-map rows (nat makes))
+    → bare n (length rows) (take (length rows) a) (take (length rows) b) (take (length rows) c) (take e d) ≡ shape n makes firsts counts vars rows
+shaped-is n makes firsts counts vars rows S = rw (S.made, S.first, S.count, S.read)
 
 pub known_same : {a b : Tables} {state : List ℕ} → a ≡ b → Known a state → Known b state
 known_same {state = state} e k = subst (λ t. Known t state) e k
@@ -75,6 +68,16 @@ pub filled-here : {A : Type 0} (f : ℕ → A) (before l : List A) (i : ℕ) (d 
 filled-here f before l i d s =
     let z : i + 0 ≡ i = omega arith in
     ap (λ k. get_or l k d) (sym z) ∙ sym (get_or-drop i l 0 d) ∙ ap (λ k. get_or k 0 d) s.back ∙ get_or-drop i before 0 d ∙ ap (λ k. get_or before k d) z
+
+-- a loop that puts 0 in the place of values that are not kept: one that is not, and one that is
+module _ (f : ℕ → Bool) {before l : List ℤ} {v : ℕ} (s : Filled (λ u. cond (f u) (get_or before u (pos 0)) (pos 0)) before l v) (low : v < length before) where
+  pub value-cleared : false ≡ f v → Filled (λ u. cond (f u) (get_or before u (pos 0)) (pos 0)) before (set l v (pos 0)) (v + 1)
+  value-cleared e = filled_next _ _ _ _ s low (ap (λ b. cond b (get_or before v (pos 0)) (pos 0)) e)
+
+  pub value-kept : true ≡ f v → Filled (λ u. cond (f u) (get_or before u (pos 0)) (pos 0)) before l (v + 1)
+  value-kept e =
+      subst (λ z. Filled (λ u. cond (f u) (get_or before u (pos 0)) (pos 0)) before z (v + 1)) (set-get_or l v (pos 0))
+      (filled_next _ _ _ _ s low (filled-here _ before l v (pos 0) s ∙ ap (λ b. cond b (get_or before v (pos 0)) (pos 0)) e))
 
 -- ── the parts of rows that can be packed ──
 module _ (firsts counts rows : List ℕ) {A : Type 0} (entries : List A) (P : Packable firsts counts (length entries) rows) where
@@ -102,27 +105,3 @@ module _ (firsts counts rows : List ℕ) {A : Type 0} (entries : List A) (P : Pa
       let long = parts-length in let s = P.small in
       ap (take (total (map (nat counts) rows))) (e ∙ sets-front (joined parts (length rows)) before (total (map (nat counts) rows)) long (omega arith))
       ∙ take_at (joined parts (length rows)) (drop (total (map (nat counts) rows)) before) (total (map (nat counts) rows)) long
-
--- ── a loop that copies a part to a place: i entries are copied ──
-pub record Copied {A : Type 0} (part before : List A) (at : ℕ) (now : List A) (i : ℕ) : Type 0 where
-  pub come : i ≤ length part
-  pub room : at + length part ≤ length before
-  pub long : length now ≡ length before
-  pub is : now ≡ paste before at part i
-
-pub copied-start : {A : Type 0} (part before : List A) (at : ℕ) → at + length part ≤ length before → Copied part before at before 0
-copied-start part before at h = record { come = omega arith; room = h; long = refl; is = paste-zero before at part }
-
-module _ {A : Type 0} {part before now : List A} {at i : ℕ} (C : Copied part before at now i) where
-  pub copied_next : (d : A) {x : A} → i < length part → x ≡ get_or part i d → Copied part before at (set now (at + i) x) (i + 1)
-  copied_next d {x} l e = rw (add-one i) (record {
-    come = l;
-    room = C.room;
-    long = length-set now (at + i) x ∙ C.long;
-    is = let r = C.room in rw (e, C.is) (paste-suc before at part i d (omega arith) l);
-  })
-
-  pub copied-end : length part ≤ i → now ≡ sets before at part
-  copied-end h =
-      let c = C.come in let z : i ≡ length part = omega arith in
-      C.is ∙ ap (paste before at part) z ∙ ap (λ l. take at before ++ l ++ drop (at + length part) before) (take-length part) ∙ sym (sets-eq part before at C.room)

@@ -1,12 +1,12 @@
 -- From the rows that the file gives, with flags for those kept, to the rows that stand, and to what is saved of them. Assumes nothing.
-use Prim.Native.Nat.{ℕ, ◌+◌, ◌-◌, ◌≤◌, ◌<◌}
+use Prim.Native.Nat.{ℕ, ◌+◌, ◌≤◌, ◌<◌}
 use native.Mathlib.Omega.{arith}
 use mathlib.Core.Bool.{Bool, true, false, ◌&&◌}
 use mathlib.Core.List.{List, [], ◌++◌, append-nil}
 use mathlib.Core.Path.{◌≡◌, refl, ap, ap₂, sym, ◌∙◌, subst}
 use lib.Dec.{eqb}
 use lib.IntN.{ℤ}
-use lib.ListN.{length, get_or, take, drop, length-take, length-map}
+use lib.ListN.{length, get_or, take, length-take}
 use lib.Seq.{drop-nil, take-take}
 use borrow.Author.Tests.{ltb-true}
 use Rattle.paper.specs.File.{version1, Contents, unbounded_contents, n_in, m_in, e_in, cut}
@@ -27,7 +27,7 @@ use Rattle.damage.specs.Scratch.{Laid, KeptFlags}
 use Rattle.damage.proofs.Given.{variables, starts-long}
 use Rattle.damage.proofs.KeptRows.{keeps, kept-those, kept_whole, any-those, rows-kept}
 use Rattle.salvage.proofs.Outcome.{rows-most, entries-most, rows-stand}
-use Rattle.damage.proofs.Packed.{Rows, packed-sound, packed-entries, good-alone}
+use Rattle.damage.proofs.Packed.{Rows, packed-sound, good-alone}
 use Rattle.damage.proofs.Stored.{those-most}
 use Rattle.salvage.proofs.Copied.{those-below}
 
@@ -104,22 +104,21 @@ module _ (bytes : List ℕ) (t : Tables) (starts : List ℤ) (row : List Bool) (
   params_in = rows_in t.params long.params
 
   -- columns that hold them packed are the tables saved
-  pub rows-packed : {kinds makes firsts counts vars : List ℕ} {params coefs : List ℤ} → let p = packed t rows in
-      kinds ≡ p.kinds → makes ≡ p.makes → params ≡ p.params → firsts ≡ p.firsts → counts ≡ p.counts → vars ≡ p.vars → coefs ≡ p.coefs
-      → Packed bytes t.m (lent t.n (length makes) (length vars) kinds makes params firsts counts vars coefs) starts row
-  rows-packed {kinds} {makes} {firsts} {counts} {vars} {params} {coefs} k a p f c v o = record {
+  pub rows-packed : {e : ℕ} {kinds makes firsts counts vars : List ℕ} {params coefs : List ℤ} → let p = packed t rows in
+      e ≡ p.e → kinds ≡ p.kinds → makes ≡ p.makes → params ≡ p.params → firsts ≡ p.firsts → counts ≡ p.counts → vars ≡ p.vars → coefs ≡ p.coefs
+      → Packed bytes t.m (lent t.n (length rows) e kinds makes params firsts counts vars coefs) starts row
+  rows-packed i k a p f c v o = record {
     head = J.head;
     rows = m-is;
-    tables = same (ap length a ∙ length-map rows (nat t.makes)) (ap length v ∙ packed-entries t rows good.whole t.vars (λ i l. (good.whole i l).vars)) k a p f c v o
-        ∙ ap₂ packed J.tables rows_are;
+    tables = same i k a p f c v o ∙ ap₂ packed J.tables rows_are;
     values = J.values;
     standing = J.standing;
   }
     where
-      same : {m e : ℕ} {kinds makes firsts counts vars : List ℕ} {params coefs : List ℤ} → let p = packed t rows in
-          m ≡ p.m → e ≡ p.e → kinds ≡ p.kinds → makes ≡ p.makes → params ≡ p.params → firsts ≡ p.firsts → counts ≡ p.counts → vars ≡ p.vars → coefs ≡ p.coefs
-          → lent t.n m e kinds makes params firsts counts vars coefs ≡ packed t rows
-      same i j k a p f c v o = cc
+      same : {e : ℕ} {kinds makes firsts counts vars : List ℕ} {params coefs : List ℤ} → let p = packed t rows in
+          e ≡ p.e → kinds ≡ p.kinds → makes ≡ p.makes → params ≡ p.params → firsts ≡ p.firsts → counts ≡ p.counts → vars ≡ p.vars → coefs ≡ p.coefs
+          → lent t.n (length rows) e kinds makes params firsts counts vars coefs ≡ packed t rows
+      same i k a p f c v o = cc
 
 -- ── from the rows kept to the rows that stand ──
 pub gives-few : (bytes : List ℕ) (t : Tables) → FileGives bytes t → t.m ≤ 4096
@@ -176,22 +175,17 @@ module _ (bytes : List ℕ) (t : Tables) (G : FileGives bytes t) (row : List Boo
         ∙ ap₂ ◌&&◌ (K.at r l) (ap (λ f. f (nat t.makes r)) (ends-bare (packed t (flagged true row t.m))) ∙ ap (λ rows. ends (packed t rows) (nat t.makes r)) flagged-are)
         ∙ subst (λ (s : Tables). (any (eqb r) (kept_rows bytes s.m) && ends (packed s (kept_rows bytes s.m)) (nat s.makes r)) ≡ is_saved bytes r) (sym G.is) refl
 
-    pub left-judged : Judged bytes (lent t.n (length t.makes) (length t.vars) t.kinds t.makes t.params t.firsts t.counts t.vars t.coefs) starts left
-    left-judged = record {
-      head = G.head;
-      tables = ap₂ (λ m e. lent t.n m e t.kinds t.makes t.params t.firsts t.counts t.vars t.coefs) long₁.makes long₁.vars ∙ G.is;
-      values = values;
-      standing = λ r l. stands-is r (rw long₁.makes at l);
-    }
+    pub left-judged : Judged bytes t starts left
+    left-judged = record { head = G.head; tables = G.is; values = values; standing = stands-is }
 
 -- ── from rows over which the file's were laid ──
 module _ (bytes : List ℕ) (t : Tables) (starts : List ℤ) (L : Laid bytes t starts) where
   laid-gives : FileGives bytes (cut version1 (unbounded_contents t [])).tables
   laid-gives = record { head = L.head; is = ap (λ (z : Contents). z.tables) L.is }
 
-  pub laid-cut : FileGives bytes (lent t.n t.m t.e (take (t.m - 0) (drop 0 t.kinds)) (take (t.m - 0) (drop 0 t.makes)) (take (t.m - 0) (drop 0 t.params))
-      (take (t.m - 0) (drop 0 t.firsts)) (take (t.m - 0) (drop 0 t.counts)) (take (t.e - 0) (drop 0 t.vars)) (take (t.e - 0) (drop 0 t.coefs)))
-  laid-cut = let m : t.m - 0 ≡ t.m = omega arith in let e : t.e - 0 ≡ t.e = omega arith in rw (m, e) laid-gives
+  pub laid-cut : FileGives bytes (lent t.n t.m t.e (take t.m t.kinds) (take t.m t.makes) (take t.m t.params) (take t.m t.firsts) (take t.m t.counts)
+      (take t.e t.vars) (take t.e t.coefs))
+  laid-cut = laid-gives
 
   laid-values : take t.n starts ≡ start_given bytes
   laid-values = ap (λ (z : Contents). z.starts) L.is
@@ -225,7 +219,5 @@ module _ (bytes : List ℕ) (t : Tables) (starts : List ℤ) (L : Laid bytes t s
       )
 
   -- the start values, cut too
-  pub laid-starts : (t.n ≤ length (take (t.n - 0) (drop 0 starts))) × (take t.n (take (t.n - 0) (drop 0 starts)) ≡ start_given bytes)
-  laid-starts =
-      let n : t.n - 0 ≡ t.n = omega arith in let long = laid-room.1 in
-      rw n (omega (arith, length-take t.n starts), take-take t.n t.n starts (omega arith) ∙ laid-values)
+  pub laid-starts : (t.n ≤ length (take t.n starts)) × (take t.n (take t.n starts) ≡ start_given bytes)
+  laid-starts = let long = laid-room.1 in (omega (arith, length-take t.n starts), take-take t.n t.n starts (omega arith) ∙ laid-values)

@@ -4,7 +4,7 @@ use Prim.Native.Nat.{ℕ, ◌+◌, ◌≤◌}
 use native.Mathlib.Omega.{arith}
 use mathlib.Core.Bool.{Bool, true, false, cond, not, ◌&&◌}
 use mathlib.Core.List.{List, ◌++◌}
-use mathlib.Core.Path.{◌≡◌, refl, ap, ap₂, sym, ◌∙◌, subst}
+use mathlib.Core.Path.{◌≡◌, ap, ap₂, sym, ◌∙◌, subst}
 use lib.Dec.{eqb, leb}
 use lib.IntN.{ℤ, pos}
 use lib.ListN.{length, get_or, drop, length-append}
@@ -19,16 +19,14 @@ use Rattle.paper.proofs.Sizes.{Sized, held_of}
 use Rattle.paper.proofs.Those.{those-same}
 use Rattle.paper.proofs.Written.{file-length, write-whole}
 use Rattle.files.proofs.Counted.{counted-facts, counted_next, counted-stops}
-use Rattle.files.specs.HeaderAnswers.{answer}
-use Rattle.files.specs.declared.headers.Reading.{Reading}
+use Rattle.std.specs.Prelude.{Ok, Err}
+use Rattle.tables.specs.Answers.{refusal}
 use Rattle.damage.specs.Saved.{given, start_given, is_saved, start_kept, saved_tables, saved_file, saved_list, dropped_rows, reset_values}
-use Rattle.salvage.specs.Salvage.{salvage_verdict, salvage, lends_to_salvage, left_by_salvage}
+use Rattle.salvage.specs.Salvage.{salvage_verdict, salvage, saved, lends_to_salvage, left_by_salvage}
 use Rattle.damage.specs.Flags.{flagged}
 use Rattle.salvage.specs.Saving.{SavedReady}
-use Rattle.salvage.specs.declared.Salvaged.TheVariants.{Accepted, Refused}
 use Rattle.damage.proofs.KeptRows.{keeps, kept-those, any-those, rows-kept}
 use Rattle.damage.proofs.Packed.{Rows, packed-sized, packed-sound}
-use Rattle.files.specs.declared.headers.Reading.TheVariants as reading
 
 -- ── the header's version and counts ──
 module _ (bytes : List ℕ) where
@@ -55,7 +53,7 @@ module _ (bytes : List ℕ) where
     abbrev fits : Bool
     fits = leb (length (saved_file bytes)) (length file) && leb (length (saved_list bytes)) (length list)
 
-    pub salvage-headed : {c p : ℕ} → by_lines (head_lines version1 bytes) accepted ≡ refused c p → left_by_salvage (Refused c p) file list ≡ salvage (lends_to_salvage bytes file list)
+    pub salvage-headed : {c p : ℕ} → by_lines (head_lines version1 bytes) accepted ≡ refused c p → left_by_salvage (Err (refusal c p)) file list ≡ salvage (lends_to_salvage bytes file list)
     unfolding salvage salvage_verdict
     salvage-headed h = simp (counted-stops version1 bytes h (require 1 0 fits accepted))
 
@@ -64,26 +62,19 @@ module _ (bytes : List ℕ) where
       unfolding salvage_verdict
       verdict-is = counted_next version1 bytes head (require 1 0 fits accepted)
 
-      pub salvage-short : fits ≡ false → left_by_salvage (Refused 1 0) file list ≡ salvage (lends_to_salvage bytes file list)
+      pub salvage-short : fits ≡ false → left_by_salvage (Err (refusal 1 0)) file list ≡ salvage (lends_to_salvage bytes file list)
       unfolding salvage
       salvage-short h = simp (verdict-is ∙ ap (λ b. require 1 0 b accepted) h)
 
       pub salvage-done : fits ≡ true
-          → left_by_salvage (Accepted (length (saved_file bytes)) (length (dropped_rows bytes)) (length (reset_values bytes)))
+          → left_by_salvage (Ok (saved (length (saved_file bytes)) (length (dropped_rows bytes)) (length (reset_values bytes))))
           (saved_file bytes ++ drop (length (saved_file bytes)) file) (saved_list bytes ++ drop (length (saved_list bytes)) list)
           ≡ salvage (lends_to_salvage bytes file list)
       unfolding salvage
       salvage-done h = simp (verdict-is ∙ ap (λ b. require 1 0 b accepted) h)
 
--- ── the answer to the header ──
-pub told-refused : (bytes : List ℕ) (v : Verdict) {told : Reading} {c p : ℕ} → told ≡ answer bytes v → told ≡ reading.Refused c p → v ≡ refused c p
-told-refused bytes accepted e h = let z : ◌≡◌ {A = ℕ} 0 1 = cc in absurd (omega arith)
-told-refused bytes (refused c p) e h = cc
-
-pub told-accepted : (bytes : List ℕ) (v : Verdict) {told : Reading} {n m k : ℕ} → told ≡ answer bytes v → told ≡ reading.Accepted n m k
-    → ((n ≡ n_in bytes) × (m ≡ m_in bytes) × (k ≡ e_in bytes)) × (v ≡ accepted)
-told-accepted bytes accepted e h = (((cc), (cc), (cc)), refl)
-told-accepted bytes (refused c p) e h = let z : ◌≡◌ {A = ℕ} 0 1 = cc in absurd (omega arith)
+pub not-both : {number place : ℕ} → refused number place ≡ accepted → ⊥
+not-both q = cc
 
 -- ── from what is ready ──
 module _ (bytes : List ℕ) (m : ℕ) (t : Tables) (starts : List ℤ) (row taken : List Bool) (R : SavedReady bytes m t starts row taken) where
@@ -126,7 +117,7 @@ module _ (bytes : List ℕ) (m : ℕ) (t : Tables) (starts : List ℤ) (row take
         let l : rows + values ≡ length (saved_list bytes) = ap₂ ◌+◌ p q ∙ sym (length-append (flagged false row m) (flagged false taken t.n)) ∙ ap length (sym list-is) in
         ap₂ (λ a b. leb a (length file) && leb b (length list)) (e ∙ sym long-is) l
 
-    pub ready-short : (leb size (length file) && leb (rows + values) (length list)) ≡ false → left_by_salvage (Refused 1 0) file list ≡ salvage (lends_to_salvage bytes file list)
+    pub ready-short : (leb size (length file) && leb (rows + values) (length list)) ≡ false → left_by_salvage (Err (refusal 1 0)) file list ≡ salvage (lends_to_salvage bytes file list)
     ready-short h = salvage-short bytes file list R.head (sym fits-is ∙ h)
 
     module _ (h : (leb size (length file) && leb (rows + values) (length list)) ≡ true) where
@@ -134,18 +125,25 @@ module _ (bytes : List ℕ) (m : ℕ) (t : Tables) (starts : List ℤ) (row take
       pub ready-room : length (flagged false row m ++ flagged false taken t.n) ≤ length list
       ready-room = let l = leb-true (rows + values) (length list) (and_right (leb size (length file)) (leb (rows + values) (length list)) h) in let g = length-append (flagged false row m) (flagged false taken t.n) in omega arith
 
+      -- and for the file, which is therefore written
+      whole : ◌≡◌ {A = Verdict × List ℕ} (accepted, file_bytes version1 (unbounded_contents t starts) ++ drop (ends_at version1 t.n t.m t.e) file) (write version1 (unbounded_contents t starts) file)
+      whole =
+          let l = leb-true size (length file) (and_left (leb size (length file)) (leb (rows + values) (length list)) h) in
+          write-whole version1 (unbounded_contents t starts) file (held_of version1 (unbounded_contents t starts) (record { sized = ready-sized; starts = starts-long; lows = omega arith; highs = omega arith })) (omega arith)
+
+      pub ready-taken : {v : Verdict} {after : List ℕ} → ◌≡◌ {A = Verdict × List ℕ} (v, after) (write version1 (unbounded_contents t starts) file) → v ≡ accepted
+      ready-taken w = ap (λ (z : Verdict × List ℕ). z.0) (w ∙ sym whole)
+
       pub ready-done : {v : Verdict} {after : List ℕ} {put : List ℕ}
           → put ≡ (flagged false row m ++ flagged false taken t.n) ++ drop (length (flagged false row m ++ flagged false taken t.n)) list
           → ◌≡◌ {A = Verdict × List ℕ} (v, after) (write version1 (unbounded_contents t starts) file)
-          → left_by_salvage (Accepted size rows values) after put ≡ salvage (lends_to_salvage bytes file list)
+          → left_by_salvage (Ok (saved size rows values)) after put ≡ salvage (lends_to_salvage bytes file list)
       ready-done {v} {after} {put} b w =
-          let l = leb-true size (length file) (and_left (leb size (length file)) (leb (rows + values) (length list)) h) in
-          let whole = write-whole version1 (unbounded_contents t starts) file (held_of version1 (unbounded_contents t starts) (record { sized = ready-sized; starts = starts-long; lows = omega arith; highs = omega arith })) (omega arith) in
           let written : after ≡ file_bytes version1 (unbounded_contents t starts) ++ drop (ends_at version1 t.n t.m t.e) file = ap (λ (z : Verdict × List ℕ). z.1) (w ∙ sym whole) in
           same (e ∙ sym long-is) (p ∙ ap length (sym rows_are)) (q ∙ ap length (sym values-are))
           (written ∙ ap₂ (λ f k. f ++ drop k file) (sym file-is) (sym file-ends))
           (b ∙ ap (λ (f : List ℕ). f ++ drop (length f) list) (sym list-is))
           ∙ salvage-done bytes file list R.head (sym fits-is ∙ h)
         where
-          same : {s r v s' r' v' : ℕ} {a b a' b' : List ℕ} → s ≡ s' → r ≡ r' → v ≡ v' → a ≡ a' → b ≡ b' → left_by_salvage (Accepted s r v) a b ≡ left_by_salvage (Accepted s' r' v') a' b'
+          same : {s r v s' r' v' : ℕ} {a b a' b' : List ℕ} → s ≡ s' → r ≡ r' → v ≡ v' → a ≡ a' → b ≡ b' → left_by_salvage (Ok (saved s r v)) a b ≡ left_by_salvage (Ok (saved s' r' v')) a' b'
           same i j k x y = cc

@@ -1,12 +1,12 @@
 -- With the tables saved and their row of makers, the start values kept are those that the paper keeps, so what is saved is ready. Assumes nothing.
-use Prim.Native.Nat.{ℕ, suc, ◌-◌, ◌<◌}
+use Prim.Native.Nat.{ℕ, suc, ◌<◌}
 use native.Mathlib.Omega.{arith}
 use mathlib.Core.Bool.{Bool, true, false, cond, not}
 use mathlib.Core.List.{List}
 use mathlib.Core.Path.{◌≡◌, refl, ap, ap₂, sym, ◌∙◌, subst}
 use lib.Dec.{eqb, leb}
 use lib.IntN.{ℤ, pos}
-use lib.ListN.{length, get_or, take, drop}
+use lib.ListN.{length, get_or, take}
 use lib.Seq.{get_or-take}
 use Rattle.paper.specs.Checks.{Sound}
 use Rattle.paper.specs.File.{rows_from, n_in}
@@ -16,7 +16,6 @@ use Rattle.paper.proofs.Buffers.{below-same, over-front, over-at}
 use Rattle.paper.proofs.Sizes.{Sized}
 use Rattle.tables.specs.Makers.{Makers}
 use Rattle.tables.proofs.Made.{maker-zero}
-use Rattle.tables.proofs.Whole.{front}
 use Rattle.damage.specs.Saved.{start_given, start_kept, saved_tables}
 use Rattle.damage.specs.Starts.{start_test}
 use Rattle.salvage.specs.Saving.{start_taken, Packed, SavedReady}
@@ -47,7 +46,7 @@ module _ (bytes : List ℕ) (m : ℕ) (t : Tables) (starts : List ℤ) (row : Li
 
     pub starts-ready : (taken : List Bool) {said : List Bool} {put : List ℤ} → said ≡ over t.n (start_taken (length bytes) by starts) taken
         → put ≡ over t.n (λ v. cond (start_taken (length bytes) by starts v) (get_or starts v (pos 0)) (pos 0)) starts
-        → SavedReady bytes m t (take (t.n - 0) (drop 0 put)) row said
+        → SavedReady bytes m t (take t.n put) row said
     starts-ready taken {said} {put} p q = record {
       head = P.head;
       rows = P.rows;
@@ -55,7 +54,7 @@ module _ (bytes : List ℕ) (m : ℕ) (t : Tables) (starts : List ℤ) (row : Li
       values =
           let old : ℕ → ℤ = λ v. cond (start_taken (length bytes) by starts v) (get_or starts v (pos 0)) (pos 0) in
           let new : ℕ → ℤ = λ v. cond (start_kept bytes v) (get_or (start_given bytes) v (pos 0)) (pos 0) in
-          front t.n put ∙ ap (take t.n) q ∙ over-front old t.n starts
+          ap (take t.n) q ∙ over-front old t.n starts
           ∙ below-same old new t.n (λ v l. ap₂ (λ b x. cond b x (pos 0)) (taken_is v l) (value-is v l)) ∙ ap (below new) n-is;
       standing = P.standing;
       kept = λ v l. ap (λ k. get_or k v false) p ∙ over-at (start_taken (length bytes) by starts) t.n taken v false l ∙ taken_is v l;

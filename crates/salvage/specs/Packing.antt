@@ -6,6 +6,7 @@ use Rattle.order.specs.Formed.{bare, Formed}
 use Rattle.order.specs.Numbering.{ended}
 use Rattle.damage.specs.Saved.{packed}
 use Rattle.damage.specs.Flags.{flagged}
+use Rattle.tables.specs.declared.lent.Tables as code-tables
 
 -- ── packing ──
 -- the part of an entry list that row r names
@@ -32,6 +33,13 @@ pub record Shaped (t : Tables) (rows : List ℕ) (makes firsts counts vars : Lis
 abbrev pub shape : ℕ → List ℕ → List ℕ → List ℕ → List ℕ → List ℕ → Tables
 shape n makes firsts counts vars rows = let p = packed (bare n 0 makes firsts counts vars) rows in bare n p.m p.makes p.firsts p.counts p.vars
 
+-- the same of lent tables
+abbrev pub bare_part : code-tables.Tables → Tables
+bare_part t = bare 0 0 t.makes.now t.firsts.now t.counts.now t.vars.now
+
+abbrev pub shape_of : code-tables.Tables → List ℕ → Tables
+shape_of t = shape t.n t.makes.now t.firsts.now t.counts.now t.vars.now
+
 -- ── dropping ──
 -- the row of states says which variables can have a number
 pub record Known (t : Tables) (state : List ℕ) : Type 0 where
@@ -49,3 +57,6 @@ pub record Numberable (n m : ℕ) (makes firsts counts vars : List ℕ) (row : L
   pub packable : Packable firsts counts (length vars) (flagged true row m)
   pub formed : Formed (shape n makes firsts counts vars (flagged true row m))
   pub variable : Makes n m makes row
+
+abbrev pub CanBeNumbered : code-tables.Tables → List Bool → Type 0
+CanBeNumbered t = Numberable t.n t.m t.makes.now t.firsts.now t.counts.now t.vars.now

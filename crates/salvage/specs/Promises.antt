@@ -1,6 +1,6 @@
 -- What holds of what is saved, whatever the bytes are: build accepts it with full bounds, and a file that was not damaged and has no closed chain comes back.
 -- `proofs/Builds` and `proofs/Same` prove it, and `demands/proofs/Buffers` of what a caller has. Assumes nothing.
-use Rattle.std.specs.Prelude.{ℕ, ◌<◌, true, false, List, [], ◌≡◌, ℤ, take, drop}
+use Rattle.std.specs.Prelude.{ℕ, ◌<◌, true, false, List, [], ◌≡◌, ℤ, take, drop, Ok}
 use Rattle.paper.specs.Lists.{nat}
 use Rattle.paper.specs.Tables.{Tables}
 use Rattle.paper.specs.Chains.{closes}
@@ -10,8 +10,7 @@ use Rattle.paper.specs.File.{version1, Contents, unbounded_contents, held, count
 use Rattle.records.specs.Stated.{BuildOutcome, left_built}
 use Rattle.files.specs.Stated.{ReadOutcome, left_read}
 use Rattle.damage.specs.Saved.{saved_tables, saved_starts, saved_file, saved_list}
-use Rattle.salvage.specs.Salvage.{SalvageLent, SalvageHad}
-use Rattle.salvage.specs.declared.Salvaged.TheVariants as salvaged
+use Rattle.salvage.specs.Salvage.{SalvageLent, SalvageHad, saved}
 
 -- the bytes are bytes, and the header's version and counts are right
 pub record Readable (bytes : List ℕ) : Type 0 where
@@ -56,4 +55,4 @@ abbrev pub ComesBack : SalvageLent → Type 0
 ComesBack l =
     (t : Tables) (starts : List ℤ) (r : ReadOutcome version1 l.bytes (unbounded_contents t starts)) → (left_read r).0 ≡ accepted
     → (b : BuildLent) (q : BuildOutcome b) → unbounded_contents b.tables b.starts ≡ (left_read r).1 → closes b.tables ≡ false → number_of (left_built q).answer ≡ 0
-    → (o : SalvageHad l) (size rows values : ℕ) → o.answer ≡ salvaged.Accepted size rows values → (take size o.file ≡ l.bytes) × (rows ≡ 0) × (values ≡ 0)
+    → (o : SalvageHad l) (size rows values : ℕ) → o.answer ≡ Ok (saved size rows values) → (take size o.file ≡ l.bytes) × (rows ≡ 0) × (values ≡ 0)

@@ -12,29 +12,20 @@ ghost use Rattle.salvage.specs.Salvage as Salvage;
 
 use crate::stand::salvage_given;
 use files::counts;
-use files::headers::Reading;
+use tables::Refusal;
 
-// What the call answers: how long the file is, and how many rows dropped and start values missing or reset the list has; or why it is refused.
-#[derive(Drop)]
-pub enum Salvaged {
-    Accepted {
-        length: usize,
-        rows: usize,
-        values: usize,
-    },
-    Refused {
-        number: u32,
-        place: u32,
-    },
+// What was saved: how long the file is, and how many rows dropped and start values missing or reset the list has.
+#[derive(Clone, Copy)]
+pub struct Saved {
+    pub length: usize,
+    pub rows: usize,
+    pub values: usize,
 }
 
 // Writes what is saved of the bytes of a damaged file, and the list.
-pub fn salvage(bytes: &[u8], file: &mut [u8], list: &mut [u16]) -> Salvaged
+pub fn salvage(bytes: &[u8], file: &mut [u8], list: &mut [u16]) -> Result<Saved, Refusal>
     ensures { left_by_salvage result file.new list.new ≡ Salvage.salvage (lends_to_salvage bytes.now file.old list.old) }
 {
-    let told = counts(bytes);
-    match told {
-        Reading::Accepted { n, m, e } => salvage_given(bytes, n, m, e, file, list),
-        Reading::Refused { number, place } => Salvaged::Refused { number, place },
-    }
+    let size = counts(bytes)?;
+    salvage_given(bytes, size, file, list)
 }

@@ -4,16 +4,7 @@ ghost use Rattle.paper.specs.Lists.{over};
 ghost use Rattle.salvage.specs.Saving.{start_taken};
 
 use damage::admissions::start_good;
-
-// The value, or 0 if it is not kept.
-fn value_if(kept: bool, value: i32) -> i32
-    ensures { result ≡ cond kept value (pos 0) }
-{
-    if kept {
-        return value;
-    }
-    0
-}
+use fields::places::{Version, rows_at};
 
 // Says which start values are kept, and puts 0 in the place of the others. `by` is the row of makers.
 pub(crate) fn keep_starts(size: usize, n: usize, by: &[u16], starts: &mut [i32], taken: &mut [bool])
@@ -21,9 +12,16 @@ pub(crate) fn keep_starts(size: usize, n: usize, by: &[u16], starts: &mut [i32],
     ensures say { taken.new ≡ over n (start_taken size by.now starts.old) taken.old }
     ensures put { starts.new ≡ over n (λ v. cond (start_taken size by.now starts.old v) (get_or starts.old v (pos 0)) (pos 0)) starts.old }
 {
+    // Stays: v picks from three rows, and the place too.
     for v in 0..n {
-        let kept = start_good(24 + 4 * (v + 1) <= size, by[v] != 0, starts[v]);
+        let kept = start_good(
+            rows_at(Version::One.head_length(), v + 1) <= size,
+            by[v] != 0,
+            starts[v],
+        );
         taken[v] = kept;
-        starts[v] = value_if(kept, starts[v]);
+        if !kept {
+            starts[v] = 0;
+        }
     }
 }

@@ -1,26 +1,26 @@
 -- The chain of checks 2 to 5: past check 3 the parts lie within e; a caller may go on from the answer with any check that comes next, and where it
 -- accepts the tables are sound. Assumes nothing.
-use Prim.Native.Nat.{ℕ, pred, ◌-◌, ◌≤◌, ◌<◌}
-use native.Mathlib.Nat.{lt_irrefl}
+use Prim.Native.Nat.{ℕ, pred, ◌<◌}
 use native.Mathlib.Omega.{arith}
 use mathlib.Core.Bool.{◌&&◌}
-use mathlib.Core.Path.{◌≡◌, refl, ap, ◌∙◌}
+use mathlib.Core.Path.{◌≡◌, ap}
 use lib.Dec.{eqb}
 use lib.IntN.{pos}
-use lib.ListN.{get_or, take, drop}
+use lib.ListN.{get_or, take}
 use borrow.Author.Tests.{leb-true, ltb-true}
+use Rattle.std.specs.Prelude.{None}
+use Rattle.integers.specs.Below.{if_below}
+use Rattle.integers.proofs.Below.{none-below}
 use Rattle.paper.specs.Lists.{total, nat, first_fail}
 use Rattle.paper.specs.Tables.{Tables, part}
-use Rattle.paper.specs.Checks.{Verdict, accepted, refused, check, require, kind_good, shape_good, number_good, Bounds, bounds_good, made_once, row_lines, by_lines}
+use Rattle.paper.specs.Checks.{Verdict, accepted, check, require, kind_good, shape_good, number_good, Bounds, bounds_good, made_once, row_lines, by_lines}
 use Rattle.paper.proofs.Lists.{each}
 use Rattle.paper.proofs.Least.{first_fail-before}
 use Rattle.paper.proofs.Scan.{first_fail-same}
 use Rattle.paper.proofs.Verdicts.{check-rest, check-held}
 use Rattle.tables.specs.Makers.{AllBelow}
-use Rattle.tables.specs.Rows.{number_rows, coefs_good, param_good}
-use Rattle.tables.specs.Answers.{answer_of}
-use Rattle.tables.specs.declared.Answer.TheVariants.{Accepted, Refused}
-use Rattle.tables.proofs.Whole.{front, part-front}
+use Rattle.tables.specs.Rows.{coefs_good, param_good}
+use Rattle.tables.proofs.Whole.{part-front}
 
 -- ── the chain from each check on ──
 module _ (t : Tables) (next : Verdict) where
@@ -43,29 +43,19 @@ module _ (t : Tables) (next : Verdict) where
 
 -- ── check 4 after check 3 ──
 -- the parts lie within e, so the first e coefficients are as good as all
-pub numbers-front : (t : Tables) (bad row : ℕ) → bad ≡ first_fail (shape_good t) t.m → t.m ≤ bad
-    → row ≡ first_fail (number_good (number_rows t.kinds t.params t.firsts t.counts (take (t.e - 0) (drop 0 t.coefs)))) t.m
-    → row ≡ first_fail (number_good t) t.m
-numbers-front t bad row q h e =
-    e ∙ first_fail-same _ _ t.m (λ r low. ap (λ own. coefs_good (kind r) own && param_good (kind r) (get_or t.params r (pos 0))) (same r low))
+pub numbers-front : (t : Tables) → None ≡ if_below t.m (first_fail (shape_good t) t.m)
+    → first_fail (number_good (record { n = t.n; m = t.m; e = t.e; kinds = t.kinds; makes = t.makes; params = t.params; firsts = t.firsts; counts = t.counts; vars = t.vars; coefs = take t.e t.coefs })) t.m ≡ first_fail (number_good t) t.m
+numbers-front t q =
+    first_fail-same _ _ t.m (λ r low. ap (λ own. coefs_good (kind r) own && param_good (kind r) (get_or t.params r (pos 0))) (same r low))
   where
     kind : ℕ → ℕ
     kind r = nat t.kinds r
 
-    same : (r : ℕ) → r < t.m → part t r (take (t.e - 0) (drop 0 t.coefs)) ≡ part t r t.coefs
+    same : (r : ℕ) → r < t.m → part t r (take t.e t.coefs) ≡ part t r t.coefs
     same r low =
+        let past = none-below _ _ q in
         let good = first_fail-before (shape_good t) t.m r (omega arith) in
-        ap (part t r) (front t.e t.coefs)
-        ∙ part-front (nat t.firsts r) (nat t.counts r) t.e t.coefs (leb-true _ _ (each _ good).1.1.1.1.0)
-
--- ── an answer, and the verdict that it stands for ──
-pub accepted-is : (k j : ℕ) (v : Verdict) → answer_of k v ≡ Accepted j → v ≡ accepted
-accepted-is k j accepted e = refl
-accepted-is k j (refused a b) e = let z : ◌≡◌ {A = ℕ} 0 1 = cc in absurd (lt_irrefl 1 (omega arith))
-
-pub refused-is : (k a b : ℕ) (v : Verdict) → answer_of k v ≡ Refused a b → v ≡ refused a b
-refused-is k a b accepted e = let z : ◌≡◌ {A = ℕ} 0 1 = cc in absurd (lt_irrefl 1 (omega arith))
-refused-is k a b (refused c d) e = let p : c ≡ a = cc in let q : d ≡ b = cc in rw (p, q)
+        part-front (nat t.firsts r) (nat t.counts r) t.e t.coefs (leb-true _ _ (each _ good).1.1.1.1.0)
 
 -- ── what a caller has of the tables ──
 

@@ -1,12 +1,12 @@
 pub mod Tests
 pub mod Whole
+pub mod Positions
 pub mod Cut
 pub mod Shapes
 pub mod Placing
 pub mod Numbers
 pub mod Sifting
 pub mod Made
+pub mod Answered
 pub mod Judged
 pub mod Asked
-pub mod Walk
-pub mod Plain

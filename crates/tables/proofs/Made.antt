@@ -3,13 +3,15 @@
 use Prim.Native.Nat.{ℕ, zero, suc, ◌+◌, ◌≤◌, ◌<◌}
 use native.Mathlib.Omega.{arith}
 use mathlib.Core.Bool.{Bool, true, false, cond, not}
-use mathlib.Core.List.{List, [], ◌∷◌}
+use native.Mathlib.Numerals.{add-one}
+use mathlib.Core.List.{List, [], ◌∷◌, ◌++◌}
 use mathlib.Core.Path.{◌≡◌, refl, ap, ap₂, sym, ◌∙◌}
 use lib.Dec.{eqb, ltb, leb-suc-suc, eqb-suc-zero}
-use lib.ListN.{length, take, drop, set, length-take, drop_of_length-le}
-use lib.Seq.{get_or-take, drop-cons}
+use lib.ListN.{length, take, drop, set, replicate, length-take, drop_of_length-le}
+use Rattle.std.proofs.lemmas.List.{replicate-append-replicate}
+use lib.Seq.{get_or-take, length-take-le, drop-cons}
 use borrow.Author.Tests.{lt-ltb}
-use Rattle.paper.specs.Lists.{nat, seek, over}
+use Rattle.paper.specs.Lists.{nat, seek, below, over}
 use Rattle.paper.specs.Tables.{Tables, row_of, is_made}
 use Rattle.paper.specs.Checks.{Sound}
 use Rattle.paper.proofs.Buffers.{over-length, over-at, over-over, over-same, over-set}
@@ -35,6 +37,14 @@ first-seek i (x ∷ xs) v = go (eqb x v) (first-seek (suc i) xs v)
 abbrev pub maker_from : ℕ → List ℕ → ℕ → ℕ → ℕ
 maker_from m makes row = first_at row (drop row (take m makes))
 
+-- a row cleared: its first n places filled with zeros
+pub below-one : {A : Type 0} (x : A) (n : ℕ) → replicate n x ≡ below (λ v. x) n
+below-one x zero = refl
+below-one x (suc n) = ap (λ k. replicate k x) (sym (add-one n)) ∙ sym (replicate-append-replicate n 1 x) ∙ ap (◌++ (x ∷ [])) (below-one x n)
+
+pub cleared : (n : ℕ) (old part : List ℕ) → n ≤ length old → part ≡ replicate (length (take n old)) 0 → part ++ drop n old ≡ over n (λ v. 0) old
+cleared n old part h e = ap (◌++ drop n old) (e ∙ ap (λ k. replicate k 0) (length-take-le n old h) ∙ below-one 0 n)
+
 -- n places of `by` hold the makers among the rows from `row` on, and the rest what stood before
 pub record Filling (n m : ℕ) (makes before by : List ℕ) (row : ℕ) : Type 0 where
   pub low : row ≤ m
@@ -51,9 +61,6 @@ module _ (n m : ℕ) (makes before : List ℕ) where
         let none : drop m (take m makes) ≡ [] = drop_of_length-le (take m makes) {i = m} (simp length-take (omega arith)) in
         rw none (e ∙ sym (over-over (λ v. 0) n old (λ v. 0)) ∙ ap (over n (λ v. 0)) (sym e));
   }
-
-  pub filling-long : (by : List ℕ) (row : ℕ) → Filling n m makes before by row → length by ≡ length before
-  filling-long by row f = ap length f.is ∙ over-length (maker_from m makes row) n before f.room
 
   -- row r is written over those after it
   pub filling-next : (by : List ℕ) (row r x v : ℕ) → Filling n m makes before by row → row ≡ suc r → m ≤ length makes → x ≡ row → v ≡ nat makes r → v < n

@@ -3,13 +3,16 @@
 use Prim.Native.Nat.{ℕ, suc}
 use mathlib.Core.Bool.{Bool, true, false, cond, ◌&&◌, ◌||◌, and-true, false≢true}
 use mathlib.Core.List.{List}
-use mathlib.Core.Path.{◌≡◌, refl, sym, ap, ◌∙◌}
+use mathlib.Core.Path.{◌≡◌, refl, sym, ap, ap₂, ◌∙◌}
 use lib.Dec.{eqb, leb, leb-suc-suc}
 use lib.IntN.{ℤ, pos, negsuc, nat_abs}
-use lib.ListN.{take, drop}
+use lib.ListN.{get_or, take, drop}
 use lib.Signed.{le_z}
 use Rattle.integers.specs.Integers.{eq_z}
 use Rattle.integers.proofs.Order.{eq_z-yes}
+use Rattle.paper.specs.Lists.{nat}
+use Rattle.paper.specs.Tables.{Tables, part}
+use Rattle.paper.specs.Checks.{number_good}
 use Rattle.paper.proofs.Lists.{all_in, all_of}
 use Rattle.tables.specs.Rows.{all_small, all_one, coefs_good, param_good}
 use Rattle.tables.proofs.Whole.{all-part, known-or}
@@ -50,3 +53,10 @@ param-known kind z = go (eq_z z (pos 0)) refl (eqb kind 1 || eqb kind 6)
     go true e false = refl
     go false e true = refl
     go false e false = refl
+
+-- a row is good by its coefficients, which are known or looked up, and by its parameter
+pub row-good : (t : Tables) (r : ℕ) (ones linear suit param : Bool) (own : List ℤ) → ones ≡ all_one t.coefs → linear ≡ (ones || all_small t.coefs) → own ≡ part t r t.coefs
+    → suit ≡ ((ones || (linear && eqb (nat t.kinds r) 1)) || coefs_good (nat t.kinds r) own) → param ≡ param_good (nat t.kinds r) (get_or t.params r (pos 0))
+    → (suit && param) ≡ number_good t r
+row-good t r ones linear suit param own o s e g p =
+    ap₂ ◌&&◌ (g ∙ coefs-known (nat t.kinds r) (nat t.firsts r) (nat t.counts r) t.coefs own ones linear o s e) p

@@ -1,7 +1,7 @@
 -- All rows and all entries at once: parts that each begin where the one before ends begin where those before them end, and where nothing is wrong with
 -- all together nothing is with any. Assumes nothing.
 use Prim.Native.Nat.{ℕ, zero, suc, ◌+◌, ◌≤◌, ◌<◌}
-use native.Mathlib.Nat.{not-suc-le-zero}
+use native.Mathlib.Nat.{le_refl, not-suc-le-zero}
 use native.Mathlib.Omega.{arith}
 use mathlib.Core.Bool.{Bool, true, false, ◌&&◌}
 use mathlib.Core.List.{List, [], ◌∷◌}
@@ -9,13 +9,15 @@ use mathlib.Core.Path.{◌≡◌, refl, sym, ap, ap₂, ◌∙◌}
 use lib.Dec.{eqb, leb, ltb}
 use lib.ListN.{length, take}
 use borrow.Author.Tests.{leb-true, eqb-true, eq-eqb, le-leb}
+use Rattle.std.specs.Prelude.{None}
+use Rattle.integers.specs.Below.{if_below}
 use Rattle.paper.specs.Lists.{all, greatest, total, nat, first_fail, all_below}
 use Rattle.paper.specs.Tables.{Tables}
 use Rattle.paper.specs.Checks.{arity, shape_good}
 use Rattle.paper.proofs.Lists.{and_left, and_right}
-use Rattle.paper.proofs.Least.{all_below-at, first_fail-none}
-use Rattle.paper.proofs.Scan.{total-next}
-use Rattle.tables.specs.Rows.{shape_rows, parts_good}
+use Rattle.paper.proofs.Least.{all_below-at}
+use Rattle.paper.proofs.Scan.{scan-none, total-next}
+use Rattle.tables.specs.Rows.{parts_good}
 use Rattle.tables.proofs.Cut.{cut}
 use Rattle.tables.proofs.Whole.{below_next}
 use Rattle.tables.proofs.Shapes.{rows-known, inputs-known, placed-shape}
@@ -78,37 +80,34 @@ module _ (m e : ℕ) (firsts counts : List ℕ) (parts : parts_good m e firsts c
   sum-within l =
       let z = total-grows counts r m l in let w = leb-true (total (take m counts)) e (and_right begins (leb (total (take m counts)) e) parts) in omega arith
 
-module _ (n m e : ℕ) (kinds makes firsts counts vars : List ℕ) (long : m ≤ length makes) (room : m ≤ length counts) where
-  pub all-shapes : {a b c d : Bool} → a ≡ ltb (greatest (take m makes)) n → b ≡ all_below (λ i. arity (nat kinds i) (nat counts i)) m
-      → c ≡ ltb (greatest (take e vars)) n → d ≡ parts_good m e firsts counts → ((a && b) && (c && d)) ≡ true
-      → m ≡ first_fail (shape_good (shape_rows n e kinds makes firsts counts vars)) m
-  all-shapes {a} {b} {c} {d} pa pb pc pd q = first_fail-none (shape_good t) m row
+module _ (t : Tables) (long : t.m ≤ length t.makes) (room : t.m ≤ length t.counts) where
+  pub all-shapes : {a b c d : Bool} → a ≡ ltb (greatest (take t.m t.makes)) t.n → b ≡ all_below (λ i. arity (nat t.kinds i) (nat t.counts i)) t.m
+      → c ≡ ltb (greatest (take t.e t.vars)) t.n → d ≡ parts_good t.m t.e t.firsts t.counts → ((a && b) && (c && d)) ≡ true
+      → None ≡ if_below t.m (first_fail (shape_good t) t.m)
+  all-shapes {a} {b} {c} {d} pa pb pc pd q = scan-none (shape_good t) t.m t.m (record { low = le_refl t.m; good = row }) (le_refl t.m)
     where
-      t : Tables
-      t = shape_rows n e kinds makes firsts counts vars
-
       known : (c && d) ≡ true
       known = and_right (a && b) (c && d) q
 
-      parts : parts_good m e firsts counts ≡ true
+      parts : parts_good t.m t.e t.firsts t.counts ≡ true
       parts = sym pd ∙ and_right c d known
 
-      row : (r : ℕ) → r < m → shape_good t r ≡ true
-      row r l = sym (placed-shape t r true (nat firsts r) (nat counts r) (total (take r counts)) (sym own) refl refl refl) ∙ ap₂ ◌&&◌ (ap₂ ◌&&◌ at ends) inputs
+      row : (r : ℕ) → r < t.m → shape_good t r ≡ true
+      row r l = sym (placed-shape t r true (nat t.firsts r) (nat t.counts r) (total (take r t.counts)) (sym own) refl refl refl) ∙ ap₂ ◌&&◌ (ap₂ ◌&&◌ at ends) inputs
         where
-          own : (ltb (nat makes r) n && arity (nat kinds r) (nat counts r)) ≡ true
-          own = rows-known n m r kinds makes counts long l (sym pa ∙ and_left a b (and_left (a && b) (c && d) q)) (sym pb ∙ and_right a b (and_left (a && b) (c && d) q))
+          own : (ltb (nat t.makes r) t.n && arity (nat t.kinds r) (nat t.counts r)) ≡ true
+          own = rows-known t.n t.m r t.kinds t.makes t.counts long l (sym pa ∙ and_left a b (and_left (a && b) (c && d) q)) (sym pb ∙ and_right a b (and_left (a && b) (c && d) q))
 
-          at : eqb (nat firsts r) (total (take r counts)) ≡ true
-          at = eq-eqb (nat firsts r) (total (take r counts)) (part-begins m e firsts counts parts r l)
+          at : eqb (nat t.firsts r) (total (take r t.counts)) ≡ true
+          at = eq-eqb (nat t.firsts r) (total (take r t.counts)) (part-begins t.m t.e t.firsts t.counts parts r l)
 
-          inside : nat firsts r + nat counts r ≤ e
+          inside : nat t.firsts r + nat t.counts r ≤ t.e
           inside =
-              let x = part-begins m e firsts counts parts r l in let y = total-next counts r (omega arith) in
-              let z = sum-within m e firsts counts parts (r + 1) (omega arith) in omega arith
+              let x = part-begins t.m t.e t.firsts t.counts parts r l in let y = total-next t.counts r (omega arith) in
+              let z = sum-within t.m t.e t.firsts t.counts parts (r + 1) (omega arith) in omega arith
 
-          ends : leb (nat firsts r + nat counts r) e ≡ true
-          ends = le-leb (nat firsts r + nat counts r) e inside
+          ends : leb (nat t.firsts r + nat t.counts r) t.e ≡ true
+          ends = le-leb (nat t.firsts r + nat t.counts r) t.e inside
 
-          inputs : all (λ v. ltb v n) (cut (nat firsts r) (nat counts r) vars) ≡ true
-          inputs = inputs-known n e (nat firsts r) (nat counts r) vars inside (sym pc ∙ and_left c d known)
+          inputs : all (λ v. ltb v t.n) (cut (nat t.firsts r) (nat t.counts r) t.vars) ≡ true
+          inputs = inputs-known t.n t.e (nat t.firsts r) (nat t.counts r) t.vars inside (sym pc ∙ and_left c d known)

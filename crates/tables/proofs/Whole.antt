@@ -1,29 +1,24 @@
 -- A test of every entry of a list, as a loop that no entry stops, and what the answer for the whole list says of its parts. Assumes nothing.
-use Prim.Native.Nat.{ℕ, zero, suc, ◌+◌, ◌-◌, ◌≤◌, ◌<◌}
+use Prim.Native.Nat.{ℕ, zero, suc, ◌+◌, ◌-◌, ◌≤◌}
 use native.Mathlib.Nat.{lt_irrefl, not-suc-le-zero}
 use native.Mathlib.Numerals.{add-one}
 use native.Mathlib.Omega.{arith}
 use mathlib.Core.Bool.{Bool, true, false, cond, ◌&&◌, ◌||◌, and-true, and_assoc}
-use mathlib.Core.List.{List, [], ◌∷◌}
+use mathlib.Core.List.{List, [], ◌∷◌, ◌++◌}
 use mathlib.Core.Path.{◌≡◌, refl, sym, ap, ap₂, ◌∙◌}
 use lib.Dec.{eqb, ltb}
 use lib.ListN.{length, get_or, take, drop}
-use lib.Seq.{take-take, drop-drop}
-use borrow.Author.Tests.{ltb-true, ltb-false, eq-eqb, ne_eqb}
+use lib.Seq.{take-suc, take-take, drop-drop}
+use borrow.Author.Tests.{ltb-true, ltb-false, eq-eqb, eqb-true, ne_eqb}
+use Rattle.std.specs.Prelude.{None}
+use Rattle.integers.specs.Below.{if_below}
+use Rattle.integers.proofs.Below.{if_below-none}
 use Rattle.paper.specs.Lists.{all, first_fail, all_below}
 use Rattle.paper.proofs.Lists.{and_left, and_right, eqb-self}
 use Rattle.paper.proofs.Least.{first_fail-le}
-use Rattle.paper.proofs.Scan.{all-next, all_end}
 
--- ── the loop: what was passed, and what is left ──
-module _ {A : Type 0} (p : A → Bool) (l : List A) (i : ℕ) (good : Bool) where
-  pub fold_next : (d : A) → i < length l → (good && all p (drop i l)) ≡ all p l → ((good && p (get_or l i d)) && all p (drop (i + 1) l)) ≡ all p l
-  fold_next d h e = and_assoc good (p (get_or l i d)) (all p (drop (i + 1) l)) ∙ ap (good &&◌) (sym (all-next p l i d h)) ∙ e
-
-  pub fold_end : length l ≤ i → (good && all p (drop i l)) ≡ all p l → good ≡ all p l
-  fold_end h e = sym (and-true good) ∙ ap (good &&◌) (sym (all_end p l i h)) ∙ e
-
--- the same by the number of a row
+-- ── the loop: what was passed, and the next ──
+-- by the number of a row
 pub below_next : (p : ℕ → Bool) (i : ℕ) (good : Bool) → good ≡ all_below p i → (good && p i) ≡ all_below p (i + 1)
 below_next p i good h = ap (◌&& p i) h ∙ sym (ap (all_below p) (add-one i) ∙ go (ltb (first_fail p i) i) refl (p i))
   where
@@ -36,6 +31,25 @@ below_next p i good h = ap (◌&& p i) h ∙ sym (ap (all_below p) (add-one i) �
         ne_eqb (first_fail p i) (suc i) (λ x. lt_irrefl i (omega arith)) ∙ sym (ap (◌&& q) (ne_eqb (first_fail p i) i (λ x. lt_irrefl i (omega arith))))
     go false e true = eqb-self (suc i) ∙ sym (ap (◌&& true) (whole e))
     go false e false = ne_eqb i (suc i) (λ x. lt_irrefl i (omega arith)) ∙ sym (ap (◌&& false) (whole e))
+
+-- by `fold`
+pub fold_push : {A : Type 0} (p : A → Bool) (xs : List A) {a b : Bool} (x : A) → a ≡ all p xs → b ≡ (a && p x) → b ≡ all p (xs ++ (x ∷ []))
+fold_push p xs x h e = e ∙ ap (◌&& p x) h ∙ sym (push xs)
+  where
+    push : (ys : List _) → all p (ys ++ (x ∷ [])) ≡ (all p ys && p x)
+    push [] = and-true (p x)
+    push (y ∷ ys) = ap (p y &&◌) (push ys) ∙ sym (and_assoc (p y) (all p ys) (p x))
+
+-- the first m entries, by the number of a row
+pub all-first : {A : Type 0} (p : A → Bool) (d : A) (m : ℕ) (l : List A) → m ≤ length l → all p (take m l) ≡ all_below (λ i. p (get_or l i d)) m
+all-first p d zero l h = refl
+all-first p d (suc m) l h =
+    ap (all p) (take-suc l m d h) ∙ sym (fold_push p (take m l) (get_or l m d) refl refl)
+    ∙ below_next (λ i. p (get_or l i d)) m (all p (take m l)) (all-first p d m l (omega arith)) ∙ ap (all_below (λ i. p (get_or l i d))) (add-one m)
+
+-- all good: no place fails
+pub all-none : (p : ℕ → Bool) (m : ℕ) → all_below p m ≡ true → None ≡ if_below m (first_fail p m)
+all-none p m h = if_below-none m (first_fail p m) (let e = eqb-true (first_fail p m) m h in omega arith)
 
 -- ── parts ──
 module _ {A : Type 0} (p : A → Bool) where
@@ -80,3 +94,10 @@ shows false b h = refl
 pub known-or : (a b : Bool) → (a ≡ true → b ≡ true) → (a || b) ≡ b
 known-or true b h = sym (h refl)
 known-or false b h = refl
+
+-- a test that is made only where another fails
+pub or-known : (a b v : Bool) → a ≡ true → v ≡ a → v ≡ (a || b)
+or-known a b v p q = q ∙ p ∙ sym (ap (◌|| b) p)
+
+pub or-looked : (a b v : Bool) → a ≡ false → v ≡ b → v ≡ (a || b)
+or-looked a b v p q = q ∙ sym (ap (◌|| b) p)

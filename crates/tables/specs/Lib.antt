@@ -3,3 +3,4 @@ pub mod Makers
 pub mod Answers
 pub mod Given
 pub mod Entries
+pub mod Lent

@@ -1,18 +1,23 @@
--- The lent rows that one check reads, as tables: what it does not read is left empty. So its contract is the paper's own test, which is the
--- same over the whole tables. Then check 3 of all parts at once, and check 4 as the code takes it, coefficients and parameter each. Assumes nothing.
-use Rattle.std.specs.Prelude.{ℕ, Bool, cond, ◌&&◌, ◌||◌, List, [], ℤ, pos, nat_abs, eqb, leb, get_or, take, drop}
+-- How long the lent rows must be for checks 3 and 4, each as long as the check reads it. Then check 3 of all parts at once, and check 4 as the code
+-- takes it, coefficients and parameter each. Assumes nothing.
+use Rattle.std.specs.Prelude.{ℕ, ◌≤◌, Bool, cond, ◌&&◌, ◌||◌, List, ℤ, pos, nat_abs, eqb, leb, length, get_or, take, drop}
 use Rattle.integers.specs.Integers.{eq_z}
 use Rattle.paper.specs.Lists.{all, total, nat, all_below}
-use Rattle.paper.specs.Tables.{Tables, lent}
+use Rattle.paper.specs.Tables.{Tables}
 
-abbrev pub kind_rows : List ℕ → Tables
-kind_rows kinds = lent 0 0 0 kinds [] [] [] [] [] []
+pub record PartsLong (t : Tables) : Type 0 where
+  pub kinds : t.m ≤ length t.kinds
+  pub firsts : t.m ≤ length t.firsts
+  pub counts : t.m ≤ length t.counts
 
-abbrev pub shape_rows : ℕ → ℕ → List ℕ → List ℕ → List ℕ → List ℕ → List ℕ → Tables
-shape_rows n e kinds makes firsts counts vars = lent n 0 e kinds makes [] firsts counts vars []
+pub record ShapesLong (t : Tables) : Type 0 where
+  pub parts : PartsLong t
+  pub makes : t.m ≤ length t.makes
+  pub vars : t.e ≤ length t.vars
 
-abbrev pub number_rows : List ℕ → List ℤ → List ℕ → List ℕ → List ℤ → Tables
-number_rows kinds params firsts counts coefs = lent 0 0 0 kinds [] params firsts counts [] coefs
+pub record NumbersLong (t : Tables) : Type 0 where
+  pub parts : PartsLong t
+  pub params : t.m ≤ length t.params
 
 -- check 3 of the parts of m rows: each begins where those before it end, and the last ends within e
 abbrev pub parts_good : ℕ → ℕ → List ℕ → List ℕ → Bool
@@ -37,3 +42,6 @@ all_coefs_good m kinds firsts counts coefs = all_below (λ r. coefs_good (nat ki
 
 abbrev pub all_params_good : ℕ → List ℕ → List ℤ → Bool
 all_params_good m kinds params = all_below (λ r. param_good (nat kinds r) (get_or params r (pos 0))) m
+
+abbrev pub coefs_suit : Tables → Bool
+coefs_suit t = all_coefs_good t.m t.kinds t.firsts t.counts t.coefs

@@ -1,9 +1,12 @@
 // Check 4: coefficients and parameters.
-ghost use Rattle.std.specs.Prelude.{◌≡◌, true, cond, not, ◌&&◌, ◌||◌, ◌+◌, ◌-◌, ◌≤◌, ◌<◌, min, leb, nat_abs, length, take, drop};
+ghost use Rattle.std.specs.Prelude.{◌≡◌, true, cond, not, ◌&&◌, ◌||◌, ◌+◌, ◌-◌, ◌≤◌, ◌<◌, leb, nat_abs, length, take, drop};
 ghost use Rattle.paper.specs.Lists.{nat, first_fail};
 ghost use Rattle.paper.specs.Checks.{number_good};
-ghost use Rattle.tables.specs.Rows.{number_rows, parts_good, all_small, all_one, coefs_good, param_good, all_coefs_good, all_params_good};
+ghost use Rattle.integers.specs.Below.{if_below};
+ghost use Rattle.tables.specs.Lent.{lent_tables};
+ghost use Rattle.tables.specs.Rows.{PartsLong, NumbersLong, parts_good, all_small, all_one, coefs_good, param_good, coefs_suit, all_params_good};
 
+use crate::lent::Tables;
 use crate::shape::parts_good;
 use integers::wide;
 
@@ -18,35 +21,24 @@ fn small(coef: i16) -> bool
 fn all_small(part: &[i16]) -> bool
     ensures { result ≡ all_small part.now }
 {
-    let mut good = true;
-    for i in 0..part.len() {
-        good = good & small(part[i]);
-    }
-    good
+    part.iter().fold(true, |good, &coef| good & small(coef))
 }
 
 // All these coefficients are 1.
 fn all_one(part: &[i16]) -> bool
     ensures { result ≡ all_one part.now }
 {
-    let mut good = true;
-    for i in 0..part.len() {
-        good = good & (part[i] == 1);
-    }
-    good
+    part.iter().fold(true, |good, &coef| good & (coef == 1))
 }
 
-// A row of this kind may have these coefficients, which is known or looked up.
-fn coefs_good(known: bool, kind: u16, part: &[i16]) -> bool
-    ensures { result ≡ known || coefs_good kind part.now }
+// A row of this kind may have these coefficients.
+fn coefs_good(kind: u16, part: &[i16]) -> bool
+    ensures { result ≡ coefs_good kind part.now }
 {
-    if known {
-        return true;
+    if kind == 1 {
+        return all_small(part);
     }
-    match kind {
-        1 => all_small(part),
-        _ => all_one(part),
-    }
+    all_one(part)
 }
 
 // A row of this kind may have the parameter. 0 suits every kind, so that no test waits for another.
@@ -58,133 +50,90 @@ fn param_good(kind: u16, param: i32) -> bool
 }
 
 // All m parameters suit the kinds of their rows. No row stops the loop, so that it takes several at a time.
-fn params_good(m: usize, kinds: &[u16], params: &[i32]) -> bool
-    requires { (m ≤ length kinds.now) × (m ≤ length params.now) }
-    ensures { result ≡ all_params_good m kinds.now params.now }
+fn params_good(tables: &Tables) -> bool
+    requires { (tables.now.m ≤ length tables.now.kinds.now) × (tables.now.m ≤ length tables.now.params.now) }
+    ensures { result ≡ all_params_good tables.now.m tables.now.kinds.now tables.now.params.now }
 {
     let mut good = true;
-    for row in 0..m {
-        good = good & param_good(kinds[row], params[row]);
+    // Stays: two columns at one row; a `zip` of two cut slices is no plainer.
+    for row in 0..tables.m {
+        good = good & param_good(tables.kinds[row], tables.params[row]);
     }
     good
 }
 
-// The coefficients from one place to another are 1, if that is asked.
-fn ones_between(asked: bool, from: usize, end: usize, coefs: &[i16]) -> bool
-    requires { (from ≤ end) × (end ≤ length coefs.now) }
-    ensures { result ≡ (not asked || all_one (take (end - from) (drop from coefs.now))) }
-{
-    if !asked {
-        return true;
-    }
-    all_one(&coefs[from..end])
-}
-
-// Where the part of a LINEAR row ends; of another row, where the last LINEAR part before it did.
-fn linear_end(linear: bool, from: usize, row: usize, firsts: &[u16], counts: &[u16]) -> usize
-    requires { (row < length firsts.now) × (row < length counts.now) }
-    ensures { result ≡ cond linear (nat firsts.now row + nat counts.now row) from }
-{
-    if linear {
-        return wide(firsts[row]) + wide(counts[row]);
-    }
-    from
-}
-
 // The coefficients before, between and after the LINEAR parts are 1, each run of them looked at in one go. Where all coefficients are small and
 // the parts lie one behind the other, a yes shows that those of every row suit its kind.
-fn others_one(m: usize, kinds: &[u16], firsts: &[u16], counts: &[u16], coefs: &[i16]) -> bool
-    requires m_in_bounds { (m ≤ length kinds.now) × (m ≤ length firsts.now) × (m ≤ length counts.now) }
-    requires coefs_value { (parts_good m (length coefs.now) firsts.now counts.now && all_small coefs.now) ≡ true }
-    ensures { (result && all_coefs_good m kinds.now firsts.now counts.now coefs.now) ≡ result }
+fn others_one(tables: &Tables) -> bool
+    requires m_in_bounds { PartsLong (lent_tables tables.now) }
+    requires coefs_value { (parts_good tables.now.m (length tables.now.coefs.now) tables.now.firsts.now tables.now.counts.now && all_small tables.now.coefs.now) ≡ true }
+    ensures { (result && coefs_suit (lent_tables tables.now)) ≡ result }
 {
     let mut good = true;
     let mut from = 0;
-    for row in 0..m {
-        let linear = kinds[row] == 1;
-        good = good & ones_between(linear, from, wide(firsts[row]), coefs);
-        from = linear_end(linear, from, row, firsts, counts);
+    for row in 0..tables.m {
+        if tables.kinds[row] == 1 {
+            let first = wide(tables.firsts[row]);
+            good = good & all_one(&tables.coefs[from..first]);
+            from = first + wide(tables.counts[row]);
+        }
     }
-    good & ones_between(true, from, coefs.len(), coefs)
+    good & all_one(&tables.coefs[from..])
 }
 
 // All coefficients looked at together show that those of every row suit its kind.
-fn all_suit(m: usize, kinds: &[u16], firsts: &[u16], counts: &[u16], coefs: &[i16]) -> bool
-    requires { (m ≤ length kinds.now) × (m ≤ length firsts.now) × (m ≤ length counts.now) }
-    ensures { (result && all_coefs_good m kinds.now firsts.now counts.now coefs.now) ≡ result }
+fn all_suit(tables: &Tables) -> bool
+    requires { PartsLong (lent_tables tables.now) }
+    ensures { (result && coefs_suit (lent_tables tables.now)) ≡ result }
 {
-    if all_one(coefs) {
+    if all_one(tables.coefs) {
         return true;
     }
-    let known = parts_good(m, coefs.len(), firsts, counts) & all_small(coefs);
+    let known = parts_good(tables, tables.coefs.len()) & all_small(tables.coefs);
     if !known {
         return false;
     }
-    others_one(m, kinds, firsts, counts, coefs)
-}
-
-// The lesser of two numbers.
-fn lesser(a: usize, b: usize) -> usize
-    ensures { result ≡ min a b }
-{
-    if a <= b {
-        return a;
-    }
-    b
+    others_one(tables)
 }
 
 // The coefficients of a part, as many of them as there are.
 fn part_of<'a>(first: u16, count: u16, coefs: &'a [i16]) -> &'a [i16]
     ensures { result.now ≡ take count (drop first coefs.now) }
 {
-    let end = lesser(wide(first) + wide(count), coefs.len());
-    let start = lesser(wide(first), end);
+    let end = (wide(first) + wide(count)).min(coefs.len());
+    let start = wide(first).min(end);
     &coefs[start..end]
 }
 
 // The first row whose coefficients or parameter do not suit its kind, row by row. All coefficients are looked at once: if all suit a kind, no part of
 // a row of that kind is looked at.
-fn bad_number_by_row(
-    m: usize,
-    kinds: &[u16],
-    params: &[i32],
-    firsts: &[u16],
-    counts: &[u16],
-    coefs: &[i16],
-) -> usize
-    requires { (m ≤ length kinds.now) × (m ≤ length params.now) × (m ≤ length firsts.now) × (m ≤ length counts.now) }
-    ensures { result ≡ first_fail (number_good (number_rows kinds.now params.now firsts.now counts.now coefs.now)) m }
+fn bad_number_by_row(tables: &Tables) -> Option<usize>
+    requires { NumbersLong (lent_tables tables.now) }
+    ensures { result ≡ if_below tables.now.m (first_fail (number_good (lent_tables tables.now)) tables.now.m) }
 {
-    let ones = all_one(coefs);
-    let linear = coefs_good(ones, 1, coefs);
-    for row in 0..m {
-        let kind = kinds[row];
-        let part = part_of(firsts[row], counts[row], coefs);
+    let ones = all_one(tables.coefs);
+    let linear = ones || all_small(tables.coefs);
+    for row in 0..tables.m {
+        let kind = tables.kinds[row];
+        let part = part_of(tables.firsts[row], tables.counts[row], tables.coefs);
         let known = ones | (linear & (kind == 1));
-        let good = coefs_good(known, kind, part) & param_good(kind, params[row]);
+        let good = (known || coefs_good(kind, part)) & param_good(kind, tables.params[row]);
         if !good {
-            return row;
+            return Some(row);
         }
     }
-    m
+    None
 }
 
 // The same. All parameters and all coefficients are looked at once, in loops that nothing stops; only where these do not show every row to be good are
 // they looked at row by row.
-pub fn first_bad_number(
-    m: usize,
-    kinds: &[u16],
-    params: &[i32],
-    firsts: &[u16],
-    counts: &[u16],
-    coefs: &[i16],
-) -> usize
-    requires { (m ≤ length kinds.now) × (m ≤ length params.now) × (m ≤ length firsts.now) × (m ≤ length counts.now) }
-    ensures { result ≡ first_fail (number_good (number_rows kinds.now params.now firsts.now counts.now coefs.now)) m }
+pub fn first_bad_number(tables: &Tables) -> Option<usize>
+    requires { NumbersLong (lent_tables tables.now) }
+    ensures { result ≡ if_below tables.now.m (first_fail (number_good (lent_tables tables.now)) tables.now.m) }
 {
-    let known = params_good(m, kinds, params) & all_suit(m, kinds, firsts, counts, coefs);
+    let known = params_good(tables) & all_suit(tables);
     if known {
-        return m;
+        return None;
     }
-    bad_number_by_row(m, kinds, params, firsts, counts, coefs)
+    bad_number_by_row(tables)
 }

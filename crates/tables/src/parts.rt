@@ -6,13 +6,15 @@ use integers::wide;
 
 // A part of the lent entries: where it starts among them, and how many it has.
 #[repr(C)]
-#[derive(Drop)]
+#[derive(Clone, Copy)]
 pub struct Part {
     pub first: usize,
     pub count: usize,
 }
 
 // The part of a row's inputs: empty if there is no such row or its part ends after e.
+// Stays: an empty part for none, since C is handed a `Part`, and `part_asked` with `part_named` says so.
+// Stays: rows of their own, here and below, since docs/LINKING names `inputs_of_row`, whose caller may hold these three alone, and what is given back may outlive the other two.
 pub fn part_of_row(
     m: usize,
     e: usize,
@@ -49,7 +51,5 @@ pub fn inputs_of_row<'a>(
     ensures { VeryPart vars.entry (part_asked m e firsts.now counts.now vars.now row) result }
 {
     let part = part_of_row(m, e, firsts, counts, vars, row);
-    let first = part.first;
-    let end = first + part.count;
-    &vars[first..end]
+    &vars[part.first..part.first + part.count]
 }

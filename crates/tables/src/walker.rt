@@ -3,24 +3,24 @@
 ghost use Rattle.std.specs.Prelude.{◌≡◌};
 ghost use Rattle.tables.specs.Entries.{step_at, went_on};
 
-#[derive(Drop)]
+#[derive(Clone, Copy)]
 pub struct Walker<'a, 'b> {
     pub vars: &'a [u16],
     pub coefs: &'b [i16],
     pub at: usize,
 }
 
-// What stands at a place of the entry table.
-#[derive(Drop)]
-pub enum Found {
-    Entry { variable: u16, coefficient: i16 },
-    End,
+// An entry of the table.
+#[derive(Clone, Copy)]
+pub struct Entry {
+    pub variable: u16,
+    pub coefficient: i16,
 }
 
-// What was found, and the place after it.
-#[derive(Drop)]
+// What stands at a place of the entry table, if anything does, and the place after it.
+#[derive(Clone, Copy)]
 pub struct Step {
-    pub found: Found,
+    pub found: Option<Entry>,
     pub at: usize,
 }
 
@@ -30,45 +30,46 @@ pub fn entry_at(vars: &[u16], coefs: &[i16], at: usize) -> Step
 {
     if (at < vars.len()) & (at < coefs.len()) {
         return Step {
-            found: Found::Entry {
+            found: Some(Entry {
                 variable: vars[at],
                 coefficient: coefs[at],
-            },
+            }),
             at: at + 1,
         };
     }
-    Step {
-        found: Found::End,
-        at: at,
+    Step { found: None, at }
+}
+
+impl<'a, 'b> Walker<'a, 'b> {
+    // A walker over the lent entry table, at a place.
+    pub fn new(vars: &'a [u16], coefs: &'b [i16], at: usize) -> Walker<'a, 'b>
+        ensures { result ≡ record { vars = vars.entry; coefs = coefs.entry; at = at } }
+    {
+        Walker { vars, coefs, at }
+    }
+
+    // What stands at the place reached, and the place after it.
+    pub fn peek(&self) -> Step
+        ensures { result ≡ step_at self.now.vars.now self.now.coefs.now self.now.at }
+    {
+        entry_at(self.vars, self.coefs, self.at)
+    }
+
+    // The next entry: the walker is lent, yields what stands at the place reached, and goes on to the place after it.
+    // Stays: no `impl Iterator`, since docs/STATEMENTS says what this method promises, `went_on`.
+    pub fn next(&mut self) -> Option<Entry>
+        ensures { went_on self.old self.new result }
+    {
+        let step = self.peek();
+        self.at = step.at;
+        step.found
     }
 }
 
-// A walker over the lent entry table, at a place.
-pub fn new<'a, 'b>(vars: &'a [u16], coefs: &'b [i16], at: usize) -> Walker<'a, 'b>
-    ensures { result ≡ record { vars = vars.entry; coefs = coefs.entry; at = at } }
-{
-    Walker { vars, coefs, at }
-}
-
-// What stands at the place reached, and the place after it.
-pub fn peek<'a, 'b>(w: Walker<'a, 'b>) -> Step
-    ensures { result ≡ step_at w.entry.vars.now w.entry.coefs.now w.entry.at }
-{
-    entry_at(w.vars, w.coefs, w.at)
-}
-
-// The next entry: the walker is lent, yields what stands at the place reached, and goes on to the place after it.
-pub fn next<'s, 'a, 'b>(w: &'s mut Walker<'a, 'b>) -> Found
-    ensures { went_on w.old w.new result }
-{
-    let s = entry_at(w.vars, w.coefs, w.at);
-    w.at = s.at;
-    s.found
-}
-
 // What a walker finds at a place, and the place after it, for a caller that holds the slices alone.
+// Stays: beside `entry_at`, which promises the same, since docs/ARCHITECTURE names both.
 pub fn entry_from(vars: &[u16], coefs: &[i16], at: usize) -> Step
     ensures { result ≡ step_at vars.now coefs.now at }
 {
-    peek(new(vars, coefs, at))
+    Walker::new(vars, coefs, at).peek()
 }

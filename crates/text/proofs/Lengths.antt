@@ -1,5 +1,5 @@
 -- How long the lines are: no number has more digits than it needs, so a list of 4,096 lines has at most 90,112 bytes. Assumes nothing.
-use Prim.Native.Nat.{ℕ, zero, suc, ◌+◌, ◌*◌, ◌/◌, ◌^◌, ◌≤◌, ◌<◌, min, zero-le}
+use Prim.Native.Nat.{ℕ, zero, suc, ◌*◌, ◌/◌, ◌^◌, ◌≤◌, ◌<◌, min, zero-le}
 use native.Mathlib.Omega.{arith}
 use mathlib.Core.Bool.{Bool, true, false, cond}
 use mathlib.Core.List.{List, [], ◌∷◌, ◌++◌}
@@ -13,7 +13,6 @@ use Rattle.io.specs.Digits.{last_digits}
 use Rattle.integers.specs.Integers.{eq_z}
 use Rattle.paper.specs.Lists.{nat, joined}
 use Rattle.paper.specs.Formula.{blank}
-use Rattle.text.specs.Buffer.{sign}
 use Rattle.text.specs.Lines.{digit_count, decimal, value, value_or_reason, line, lines, refusal}
 
 -- ── numbers ──

@@ -1,17 +1,14 @@
--- The fewest digits that hold a number are as many as `places` says; and how far a number is from 0, by its bits. Assumes nothing.
-use Prim.Native.Nat.{ℕ, zero, suc, ◌+◌, ◌-◌, ◌/◌, ◌^◌, ◌≤◌, ◌<◌}
+-- The fewest digits that hold a number are as many as `digit_count` says. Assumes nothing.
+use Prim.Native.Nat.{ℕ, zero, suc, ◌-◌, ◌/◌, ◌^◌, ◌≤◌, ◌<◌}
 use native.Mathlib.Numerals.{unary_clauses}
 use native.Mathlib.Omega.{arith}
 use native.Mathlib.Nat.{not-suc-le-zero, pow-le-pow_right}
 use mathlib.Core.Bool.{Bool, true, false, cond}
 use mathlib.Core.List.{List, [], ◌∷◌, ◌++◌}
 use mathlib.Core.Path.{◌≡◌, refl, ap, sym, subst}
-use borrow.Author.Tests.{ltb-true, lt-ltb, le-ltb, leb-true, leb-false}
+use borrow.Author.Tests.{lt-ltb, le-ltb, leb-true, leb-false}
 use lib.Dec.{leb}
-use lib.IntN.{ℤ, pos, negsuc, nat_abs}
-use lib.Signed.{lt_z}
-use mir.Syntax.{w32}
-use mir.Val.{SFits, of_z}
+use lib.IntN.{ℤ, nat_abs}
 use Rattle.io.specs.Digits.{IsDigitCount, last_digits}
 use Rattle.integers.specs.Integers.{eq_z}
 use Rattle.paper.specs.Formula.{blank}
@@ -50,11 +47,6 @@ at_most n k f h = go (leb k 20) refl
 pub decimal-is : (n k : ℕ) → IsDigitCount 10 1 n k → n < 2 ^ 64 → last_digits 10 k n ≡ decimal n
 unfolding decimal
 decimal-is n k f h = ap (λ z. last_digits 10 z n) (fewest-places 20 n k f (at_most n k f h))
-
--- how far a number of 32 bits below 0 is from 0
-pub below-zero : (v : ℤ) → SFits w32 v → lt_z v (pos 0) ≡ true → (of_z w32 v ≤ 4294967296) × (4294967296 - of_z w32 v ≡ nat_abs v)
-below-zero (pos n) f e = absurd (omega (arith, ltb-true n 0 e))
-below-zero (negsuc n) f e = let h : n < 2 ^ 31 = f.sfits in (omega arith, omega arith)
 
 -- ── a text of two, by a test ──
 module _ {l after : List ℕ} {at next : ℕ} (xs ys : List ℕ) {t : Bool} where

@@ -1,13 +1,6 @@
 // Bytes, put one behind the other into a lent buffer: one, many, and the sign of a number.
-ghost use Rattle.std.specs.Prelude.{[], ◌∷◌, ◌≡◌, min};
+ghost use Rattle.std.specs.Prelude.{[], ◌∷◌};
 ghost use Rattle.text.specs.Buffer.{Put, sign};
-
-// The lesser of two numbers.
-pub fn least(a: usize, b: usize) -> usize
-    ensures { result ≡ min a b }
-{
-    if a < b { a } else { b }
-}
 
 // Puts a byte.
 pub fn put(out: &mut [u8], at: usize, byte: u8) -> usize
@@ -26,8 +19,8 @@ pub fn put_all(out: &mut [u8], at: usize, bytes: &[u8]) -> usize
     ensures { Put bytes.now out.old at out.new result }
 {
     let mut next = at;
-    for i in 0..bytes.len() {
-        next = put(out, next, bytes[i]);
+    for &byte in bytes {
+        next = put(out, next, byte);
     }
     next
 }

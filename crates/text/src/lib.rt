@@ -10,11 +10,12 @@ ghost use Rattle.io.specs.Counts.{IsPrefixLen};
 ghost use Rattle.text.specs.Buffer.{Put, Shows};
 ghost use Rattle.text.specs.Lines as Lines;
 
-use crate::buffers::{least, put, put_all};
+use crate::buffers::{put, put_all};
 use crate::numbers::put_decimal;
 use crate::reasons::{put_field, reason_at};
 
 // Puts a line of the list, with reasons or without.
+// Stays: the buffer is written: a struct of it and the place would need a clause at each call that it is still the caller's, as rows in a struct lent as `&mut` do.
 fn put_line(
     reasons: bool,
     out: &mut [u8],
@@ -28,7 +29,7 @@ fn put_line(
 {
     let a = put_decimal(out, at, v as u64);
     let b = put(out, a, b' ');
-    let c = put_decimal(out, b, number as u64);
+    let c = put_decimal(out, b, u64::from(number));
     let d = put(out, c, b' ');
     let e = put_field(reasons, out, d, value, reason);
     put(out, e, b'\n')
@@ -45,7 +46,7 @@ fn put_lines(
 ) -> usize
     ensures { Put (Lines.lines reasons n numbers.now values.now row.now) out.old 0 out.new result }
 {
-    let count = least(n, least(numbers.len(), values.len()));
+    let count = n.min(numbers.len().min(values.len()));
     let mut at = 0;
     for v in 0..count {
         at = put_line(
@@ -62,17 +63,19 @@ fn put_lines(
 }
 
 // Puts the refusal line, from the front on.
+// Stays: two numbers in place of a `Refusal`, since this crate stands on none that knows it.
 fn put_refusal(number: u32, place: u32, out: &mut [u8]) -> usize
     ensures { Put (Lines.refusal number place) out.old 0 out.new result }
 {
     let a = put_all(out, 0, b"refused ");
-    let b = put_decimal(out, a, number as u64);
+    let b = put_decimal(out, a, u64::from(number));
     let c = put(out, b, b' ');
-    let d = put_decimal(out, c, place as u64);
+    let d = put_decimal(out, c, u64::from(place));
     put(out, d, b'\n')
 }
 
 // The list of the variables below n, with the reasons of a row or without: its text in front of the buffer, and how many bytes that is.
+// Stays: a flag beside the row, here and above, since `Lines.lines` takes both, and `printed`, in which the contracts of the programs are stated, the flag.
 pub fn lines(
     reasons: bool,
     n: usize,

@@ -1,27 +1,18 @@
 // Numbers and values as text.
-ghost use Rattle.std.specs.Prelude.{nat_abs, ◌≡◌};
 ghost use Rattle.text.specs.Buffer.{Put};
 ghost use Rattle.text.specs.Lines as Lines;
 
 use crate::buffers::{put, put_all, put_sign};
 use formulas::blanks::is_blank;
-use integers::bits32;
 
 // Puts the decimal digits of a number.
 pub fn put_decimal(out: &mut [u8], at: usize, n: u64) -> usize
     ensures { Put (Lines.decimal n) out.old at out.new result }
 {
+    // Stays: rows of a fixed length, since no call allocates.
     let mut digits = [0u8; 20];
     let k = io::decimal(n, &mut digits);
     put_all(out, at, &digits[..k])
-}
-
-// How far a number is from 0.
-fn size(v: i32) -> u64
-    ensures { result ≡ nat_abs v }
-{
-    let bits = bits32(v) as u64;
-    if v < 0 { 4294967296 - bits } else { bits }
 }
 
 // Puts a value, or `-` if it is blank.
@@ -32,5 +23,5 @@ pub fn put_value(out: &mut [u8], at: usize, v: i32) -> usize
         return put(out, at, b'-');
     }
     let next = put_sign(out, at, v);
-    put_decimal(out, next, size(v))
+    put_decimal(out, next, u64::from(v.unsigned_abs()))
 }

@@ -12,7 +12,7 @@ use formulas::blanks::is_blank;
 pub fn reason_at(row: &[u8], v: usize) -> u8
     ensures { result ≡ nat row.now v }
 {
-    if v < row.len() { row[v] } else { 0 }
+    row.get(v).copied().unwrap_or(0)
 }
 
 // Puts a value, or `blank:` followed by the reason if it is blank.
@@ -21,7 +21,7 @@ fn put_reasoned(out: &mut [u8], at: usize, value: i32, reason: u8) -> usize
 {
     if is_blank(value) {
         let next = put_all(out, at, b"blank:");
-        return put_decimal(out, next, reason as u64);
+        return put_decimal(out, next, u64::from(reason));
     }
     put_value(out, at, value)
 }

@@ -1,3 +1,4 @@
 pub mod Windows
+pub mod Lent
 pub mod Order
 pub mod Taken

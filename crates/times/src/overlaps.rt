@@ -1,48 +1,44 @@
 // Checks 1 to 3 of the windows that a departure board is lent: all are lent, their numbers are good, and no two overlap. A check over the windows
-// answers the least that fails, or their number if none does.
+// answers the least that fails, if any does.
 ghost use Rattle.std.specs.Prelude.{[], ◌≡◌, not, ◌≤◌, ◌<◌, length};
-ghost use Rattle.integers.specs.Integers.{eq_z};
+ghost use Rattle.integers.specs.Below.{if_below};
 ghost use Rattle.paper.specs.Lists.{first_fail};
-ghost use Rattle.paper.specs.Formula.{blank};
-ghost use Rattle.times.specs.Windows.{lends, windows_fit, window_good, numbers_good, shared, overlap, apart};
+ghost use Rattle.times.specs.Windows.{windows_fit, window_good, numbers_good, shared, overlap, apart};
+ghost use Rattle.times.specs.Lent.{lent_windows, Timed};
 
-use formulas::blanks::BLANK;
+use crate::Windows;
+use formulas::blanks::is_blank;
 
 // There are at most 64 windows, and all of them are lent.
-pub fn windows_fit(windows: usize, starts: &[i32], ends: &[i32], headways: &[i32]) -> bool
-    ensures { result ≡ windows_fit (lends windows starts.now ends.now headways.now []) }
+pub fn windows_fit(windows: &Windows) -> bool
+    ensures { result ≡ windows_fit (lent_windows windows.now []) }
 {
-    (windows <= 64)
-        & (windows <= starts.len())
-        & (windows <= ends.len())
-        & (windows <= headways.len())
-}
-
-// The number is not blank.
-fn has_value(number: i32) -> bool
-    ensures { result ≡ not (eq_z number blank) }
-{
-    number != BLANK
+    let count = windows.count;
+    (count <= 64)
+        & (count <= windows.starts.len())
+        & (count <= windows.ends.len())
+        & (count <= windows.headways.len())
 }
 
 // No number of the window is blank, and its headway is above 0.
 fn window_good(start: i32, end: i32, headway: i32) -> bool
     ensures { result ≡ window_good start end headway }
 {
-    has_value(start) & has_value(end) & has_value(headway) & (0 < headway)
+    !is_blank(start) & !is_blank(end) & !is_blank(headway) & (0 < headway)
 }
 
 // The first window with a blank number or a headway of 0 or less.
-pub fn first_bad_number(windows: usize, starts: &[i32], ends: &[i32], headways: &[i32]) -> usize
-    requires { (windows ≤ length starts.now) × (windows ≤ length ends.now) × (windows ≤ length headways.now) }
-    ensures { result ≡ first_fail (numbers_good (lends windows starts.now ends.now headways.now [])) windows }
+pub fn first_bad_number(windows: &Windows) -> Option<usize>
+    requires { (windows.now.count ≤ length windows.now.starts.now) × (windows.now.count ≤ length windows.now.ends.now)
+        × (windows.now.count ≤ length windows.now.headways.now) }
+    ensures { result ≡ if_below windows.now.count (first_fail (numbers_good (lent_windows windows.now [])) windows.now.count) }
 {
-    for i in 0..windows {
-        if !window_good(starts[i], ends[i], headways[i]) {
-            return i;
+    for i in 0..windows.count {
+        if !window_good(windows.starts[i], windows.ends[i], windows.headways[i]) {
+            return Some(i);
         }
     }
-    windows
+    None
 }
 
 // Each of two windows has its start before its own end and before the other's end.
@@ -53,27 +49,35 @@ fn share(start: i32, end: i32, other_start: i32, other_end: i32) -> bool
 }
 
 // The first window that overlaps window i.
-fn first_on(windows: usize, starts: &[i32], ends: &[i32], i: usize) -> usize
-    requires { (windows ≤ length starts.now) × (windows ≤ length ends.now) × (i < windows) }
-    ensures { result ≡ first_fail (λ j. not (overlap (lends windows starts.now ends.now [] []) i j)) windows }
+fn first_on(windows: &Windows, i: usize) -> Option<usize>
+    requires timed { Timed windows.now }
+    requires there { i < windows.now.count }
+    ensures { result ≡ if_below windows.now.count (first_fail (λ j. not (overlap (lent_windows windows.now []) i j)) windows.now.count) }
 {
-    for j in 0..windows {
-        if (i != j) & share(starts[i], ends[i], starts[j], ends[j]) {
-            return j;
+    for j in 0..windows.count {
+        if (i != j)
+            & share(
+                windows.starts[i],
+                windows.ends[i],
+                windows.starts[j],
+                windows.ends[j],
+            )
+        {
+            return Some(j);
         }
     }
-    windows
+    None
 }
 
 // The first window that overlaps another.
-pub fn first_overlapping(windows: usize, starts: &[i32], ends: &[i32]) -> usize
-    requires { (windows ≤ length starts.now) × (windows ≤ length ends.now) }
-    ensures { result ≡ first_fail (apart (lends windows starts.now ends.now [] [])) windows }
+pub fn first_overlapping(windows: &Windows) -> Option<usize>
+    requires { Timed windows.now }
+    ensures { result ≡ if_below windows.now.count (first_fail (apart (lent_windows windows.now [])) windows.now.count) }
 {
-    for i in 0..windows {
-        if first_on(windows, starts, ends, i) != windows {
-            return i;
+    for i in 0..windows.count {
+        if first_on(windows, i).is_some() {
+            return Some(i);
         }
     }
-    windows
+    None
 }

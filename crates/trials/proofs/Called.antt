@@ -11,8 +11,9 @@ use Rattle.paper.specs.Lists.{total}
 use Rattle.paper.specs.Calls.{Session, Accepted, Refused, Model, TrialLeft}
 use Rattle.paper.proofs.Lists.{and_left, and_right}
 use Rattle.tables.proofs.Tests.{joined, in_two}
-use Rattle.tables.specs.declared.Answer as code
-use Rattle.tables.specs.declared.Answer.TheVariants as code-answers
+use Rattle.std.specs.Prelude.{Result, Err}
+use Rattle.tables.specs.declared.Refusal as code
+use Rattle.tables.specs.Answers.{refusal}
 use Rattle.records.specs.Left.{answer_in}
 use Rattle.trials.specs.Batch.{Batch, moves_of}
 use Rattle.trials.specs.Trials.{Question, Rows, tries, evaluations_given, filled, trials_fit, trials}
@@ -49,7 +50,7 @@ module _ (b : Batch) (q : Question) (rows : Rows) where
     abbrev all : List TrialLeft
     all = tries s w q (moves_of b) rows.results rows.why
 
-    pub trials-refused : trials_fit b q rows ≡ false → (r : code.Answer) → r ≡ code-answers.Refused 1 0 → (answer_in r, rows) ≡ trials s w b q rows
+    pub trials-refused : trials_fit b q rows ≡ false → (r : Result ℕ code.Refusal) → r ≡ Err (refusal 1 0) → (answer_in r, rows) ≡ trials s w b q rows
     trials-refused h r e = ap (λ a. (answer_in a, rows)) e ∙ ap (λ x. cond x (Accepted (total (map evaluations_given all)), filled b.moves q.asked all rows) (Refused 1 0, rows)) (sym h)
 
     pub trials-accepted : trials_fit b q rows ≡ true → (count : ℕ) (left : Rows) → count ≡ total (map evaluations_given all) → left ≡ filled b.moves q.asked all rows

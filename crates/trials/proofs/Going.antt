@@ -14,7 +14,8 @@ use Rattle.paper.specs.Lists.{nat, total}
 use Rattle.paper.specs.Checks.{Move}
 use Rattle.paper.specs.Calls.{Session, Answer, number_of, place_of, evaluations_of, Model, TrialLeft}
 use Rattle.paper.proofs.Lists.{each}
-use Rattle.tables.specs.declared.Answer as code
+use Rattle.std.specs.Prelude.{Result}
+use Rattle.tables.specs.declared.Refusal as code
 use Rattle.records.specs.Left.{answer_in}
 use Rattle.trials.specs.Batch.{Batch, unpacked, moves_of}
 use Rattle.trials.specs.Trials.{Question, Rows, rows_in, as_trial, try_one, GivenAt, tries, joined, number_given, place_given, evaluations_given, results_given, why_given, trials_fit, filled}
@@ -142,7 +143,7 @@ module _ (s : Session) (w : Model) (b : Batch) (q : Question) (rows : Rows) wher
           ∙ ap₂ (λ rs ys. tried ∷ tries s w q (unpacked (drop (i + 1) (take b.moves b.pairs)) (drop (first + k) b.vars) (drop (first + k) b.values)) rs ys)
           (drop-drop q.asked at rows.results) (drop-drop q.asked at rows.why)
 
-      module _ (mv : Move) (is : mv ≡ move_at first k) (r : code.Answer) (results' : List ℤ) (why' : List ℕ) (given : GivenAt s w q mv at filling.results filling.why r results' why') where
+      module _ (mv : Move) (is : mv ≡ move_at first k) (r : Result ℕ code.Refusal) (results' : List ℤ) (why' : List ℕ) (given : GivenAt s w q mv at filling.results filling.why r results' why') where
         same : try_one s w q mv (take q.asked (drop at filling.results)) (take q.asked (drop at filling.why)) ≡ tried
         same = λ j. try_one s w q (is j) (take q.asked (g.results.back j)) (take q.asked (g.why.back j))
 

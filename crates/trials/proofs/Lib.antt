@@ -1,4 +1,3 @@
-pub mod Judging
 pub mod Scratch
 pub mod Low
 pub mod Laid

@@ -8,7 +8,8 @@ use lib.ListN.{length, take, drop, length-replicate}
 use Rattle.paper.specs.Lists.{every, between, nat}
 use Rattle.paper.specs.Checks.{Verdict, accepted, require, places, whole, by_lines, Move, move_fits, move_lines, fresh_lines}
 use Rattle.paper.specs.Calls.{Session, Model, stored_values, model_fits, TrialLent, TrialLeft, model_lines, trial_verdict, trial_leaves, trial}
-use Rattle.tables.specs.declared.Answer as code
+use Rattle.std.specs.Prelude.{Result}
+use Rattle.tables.specs.declared.Refusal as code
 use Rattle.records.specs.declared.Done.{Done}
 use Rattle.records.specs.Left.{left_by_trial}
 use Rattle.trials.specs.Trials.{Question, as_trial, try_one, Given, GivenAt}
@@ -48,7 +49,7 @@ given_by s w q mv results why row flags long wide done results' row' flags' why'
     }
 
 -- the same of the parts of two rows, which come back to their places
-pub given-at : (s : Session) (w : Model) (q : Question) (mv : Move) (at : ℕ) (results : List ℤ) (why : List ℕ) (r : code.Answer) (k : ℕ) → k ≡ q.asked → (ys : List ℤ) (zs : List ℕ)
+pub given-at : (s : Session) (w : Model) (q : Question) (mv : Move) (at : ℕ) (results : List ℤ) (why : List ℕ) (r : Result ℕ code.Refusal) (k : ℕ) → k ≡ q.asked → (ys : List ℤ) (zs : List ℕ)
     → Given s w q mv (take k (drop at results)) (take k (drop at why)) r ys zs
     → GivenAt s w q mv at results why r (take at results ++ (ys ++ drop k (drop at results))) (take at why ++ (zs ++ drop k (drop at why)))
 given-at s w q mv at results why r k e ys zs g = record {

@@ -1,10 +1,11 @@
 -- Many moves tried on the same stored values, as one function from what the call is lent to what it leaves: each move is given what a trial gives it.
 -- Assumes nothing.
-use Rattle.std.specs.Prelude.{ℕ, ◌*◌, Bool, cond, List, [], ◌∷◌, ◌++◌, map, ◌≡◌, leb, ℤ, pos, length, take, drop, replicate}
+use Rattle.std.specs.Prelude.{ℕ, ◌*◌, Bool, cond, List, [], ◌∷◌, ◌++◌, map, ◌≡◌, Result, leb, ℤ, pos, length, take, drop, replicate}
 use Rattle.paper.specs.Lists.{every, total}
 use Rattle.paper.specs.Checks.{Move}
 use Rattle.paper.specs.Calls.{Session, Answer, Accepted, Refused, number_of, place_of, evaluations_of, Model, TrialLent, TrialLeft, trial}
-use Rattle.tables.specs.declared.Answer as code
+use Rattle.tables.specs.declared.Refusal as code
+use Rattle.verdicts.specs.declared.asked.Asked as code-asked
 use Rattle.records.specs.Left.{answer_in}
 use Rattle.trials.specs.Batch.{Batch, moves_of}
 
@@ -16,6 +17,9 @@ pub record Question : Type 0 where
 
 abbrev pub question : ℕ → List ℕ → ℕ → Question
 question asked vars route = record { asked = asked; vars = vars; route = route }
+
+abbrev pub question_of : code-asked.Asked → Question
+question_of q = question q.count q.vars.now q.route
 
 -- the rows to fill: a number, a place and evaluations of every move, and `asked` results and reasons of every move
 pub record Rows : Type 0 where
@@ -47,13 +51,13 @@ module _ (s : Session) (w : Model) (q : Question) where
   try_one mv results why = trial s w (as_trial q mv results why)
 
   -- the answer, the results and the reasons that a move is given are those
-  pub record Given (mv : Move) (results : List ℤ) (why : List ℕ) (r : code.Answer) (results' : List ℤ) (why' : List ℕ) : Type 0 where
+  pub record Given (mv : Move) (results : List ℤ) (why : List ℕ) (r : Result ℕ code.Refusal) (results' : List ℤ) (why' : List ℕ) : Type 0 where
     pub answer : answer_in r ≡ (try_one mv results why).answer
     pub results-are : results' ≡ (try_one mv results why).results
     pub why-is : why' ≡ (try_one mv results why).why
 
   -- and where its places in both rows begin at `at`: those, and nothing besides
-  pub record GivenAt (mv : Move) (at : ℕ) (results : List ℤ) (why : List ℕ) (r : code.Answer) (results' : List ℤ) (why' : List ℕ) : Type 0 where
+  pub record GivenAt (mv : Move) (at : ℕ) (results : List ℤ) (why : List ℕ) (r : Result ℕ code.Refusal) (results' : List ℤ) (why' : List ℕ) : Type 0 where
     pub answer : answer_in r ≡ (try_one mv (take q.asked (drop at results)) (take q.asked (drop at why))).answer
     pub results-are : results' ≡ take at results ++ ((try_one mv (take q.asked (drop at results)) (take q.asked (drop at why))).results ++ drop q.asked (drop at results))
     pub why-is : why' ≡ take at why ++ ((try_one mv (take q.asked (drop at results)) (take q.asked (drop at why))).why ++ drop q.asked (drop at why))

@@ -1,34 +1,16 @@
--- How an answer and the checks that come next come out together, and those of what is asked, one by one. Assumes nothing.
+-- The checks that come next, as chains. Assumes nothing.
 use Prim.Native.Nat.{ℕ}
-use mathlib.Core.Bool.{Bool, true, false}
-use mathlib.Core.Path.{◌≡◌, ap, sym, ◌∙◌}
+use mathlib.Core.Bool.{Bool}
 use lib.Dec.{ltb}
 use Rattle.paper.specs.Lists.{nat, between}
 use Rattle.paper.specs.Tables.{Tables}
-use Rattle.paper.specs.Checks.{Bounds, Verdict, accepted, refused, check, require, Move}
+use Rattle.paper.specs.Checks.{Bounds, check, require, Move}
 use Rattle.paper.specs.Log.{Log, logged, log_good}
 use Rattle.paper.specs.Calls.{TrialLent}
-use Rattle.paper.proofs.Verdicts.{and_then, Chain, chain-after, check-then, require-then, require-stops, require-next}
-use Rattle.tables.specs.Answers.{answer_of}
-use Rattle.tables.specs.declared.Answer.{Answer}
-use Rattle.tables.specs.declared.Answer.TheVariants.{Accepted, Refused}
-use Rattle.tables.proofs.Judged.{accepted-is, refused-is}
+use Rattle.paper.proofs.Verdicts.{Chain, chain-after, check-then, require-then}
 use Rattle.checks.specs.Moves.{pair_checks}
 use Rattle.checks.proofs.MovesJudged.{pair_then}
 use Rattle.verdicts.specs.Chains.{ask_checks, log_checks, keep_checks, take_checks}
-
--- ── an answer, and the checks that come next ──
-module _ (v : Verdict) (r : Answer) (said : r ≡ answer_of 0 v) where
-  -- it refuses, and they are not looked at
-  pub answer-stops : (next : Verdict) (number place : ℕ) → r ≡ Refused number place → r ≡ answer_of 0 (and_then v next)
-  answer-stops next number place e = e ∙ ap (λ u. answer_of 0 (and_then u next)) (sym (refused-is 0 number place v (sym said ∙ e)))
-
-  -- it accepts, and they decide
-  pub answer-next : (next : Verdict) (j : ℕ) → r ≡ Accepted j → and_then v next ≡ next
-  answer-next next j e = ap (λ u. and_then u next) (accepted-is 0 j v (sym said ∙ e))
-
-  pub answer-accepts : (j : ℕ) → r ≡ Accepted j → r ≡ answer_of 0 accepted
-  answer-accepts j e = said ∙ ap (answer_of 0) (accepted-is 0 j v (sym said ∙ e))
 
 -- ── from each chain a caller may go on with any check that comes next ──
 module _ (bs : Bounds) (t : Tables) where
@@ -44,14 +26,3 @@ module _ (bs : Bounds) (t : Tables) where
   pub take-then : (l : Log) (kept : ℕ) → Chain (take_checks l kept t bs)
   take-then l kept =
       chain-after (log_checks l t bs kept) (require 15 0 (ltb 0 (logged l))) (require-then 16 0 (log_good l t bs kept)) (require-then 15 0 (ltb 0 (logged l)))
-
--- ── what is asked: checks 9 to 13 ──
-module _ (c : TrialLent) (bs : Bounds) (t : Tables) where
-  abbrev pub from_thirteen : Verdict
-  from_thirteen = check 13 c.asked (λ i. ltb (nat c.asked_vars i) t.n) accepted
-
-  pub stops-9 : between 1 c.route 3 ≡ false → ask_checks c t bs accepted ≡ refused 9 0
-  stops-9 h = require-stops 9 0 (between 1 c.route 3) _ h
-
-  pub past-9 : between 1 c.route 3 ≡ true → ask_checks c t bs accepted ≡ and_then (pair_checks c.move bs t accepted) from_thirteen
-  past-9 h = require-next 9 0 (between 1 c.route 3) _ h ∙ pair_then c.move bs t from_thirteen

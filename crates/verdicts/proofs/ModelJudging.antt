@@ -4,17 +4,17 @@ use mathlib.Core.Bool.{Bool, true, false}
 use mathlib.Core.Path.{◌≡◌, refl, ap, sym, ◌∙◌}
 use mathlib.Core.List.{List}
 use lib.ListN.{length}
+use Rattle.std.specs.Prelude.{Result, Err}
 use borrow.Author.Tests.{leb-true}
 use Rattle.paper.proofs.Lists.{and_left, and_right, each}
 use Rattle.paper.specs.Tables.{Tables}
 use Rattle.paper.specs.Checks.{Verdict, accepted, refused, require, sized, table_lines, indexed, by_lines}
-use Rattle.paper.specs.Chains.{groups_numbered}
+use Rattle.paper.specs.Chains.{groups_numbered, closes}
 use Rattle.paper.specs.Calls.{Model, model_fits, model_lines}
 use Rattle.paper.proofs.Verdicts.{and_then, Chain, lines_then, refused-not, require-stops, require-next}
 use Rattle.paper.proofs.Sizes.{Sized, sized-facts}
 use Rattle.tables.specs.Answers.{answer_of}
-use Rattle.tables.specs.declared.Answer.{Answer}
-use Rattle.tables.specs.declared.Answer.TheVariants.{Refused}
+use Rattle.tables.specs.declared.Refusal.{Refusal}
 use Rattle.checks.specs.Allowed.{stored_checks}
 use Rattle.verdicts.proofs.Lengths.{index-long, bounds-long}
 use Rattle.verdicts.specs.ModelJudged.{ModelJudged}
@@ -58,14 +58,12 @@ module _ (w : Model) (blanks : ℕ) where
         highs = (bounds-long t w.bounds long.1.1.1.1.0).1;
       }
 
-  pub model-refused : (by : List ℕ) (closed : Bool) (r : Answer) (number place : ℕ) → r ≡ Refused number place → by_lines (model_lines w blanks) accepted ≡ refused number place
-      → ModelJudged w blanks by closed r
-  model-refused by closed r number place e h = record {
-    verdict = e ∙ ap (answer_of 0) (sym h);
+  pub model-refused : (by : List ℕ) {z : Result Bool Refusal} (f : Refusal) → z ≡ Err f → by_lines (model_lines w blanks) accepted ≡ refused f.number f.place → ModelJudged w blanks by z
+  model-refused by f e h = record {
+    verdict = e ∙ ap (answer_of (closes t)) (sym h);
     makers = λ a. refused-not (sym h ∙ a);
     sound = λ a. refused-not (sym h ∙ a);
     grouped = λ a. refused-not (sym h ∙ a);
-    closing = λ a. refused-not (sym h ∙ a);
   }
 
   -- 2 to 5

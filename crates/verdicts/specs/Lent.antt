@@ -1,8 +1,15 @@
 -- What a caller lends to each call, in the paper's records. Assumes nothing.
-use Rattle.std.specs.Prelude.{ℕ, List, ℤ}
+use Rattle.std.specs.Prelude.{ℕ, Bool, List, [], ◌∷◌, ℤ, leb, length}
+use Rattle.paper.specs.Lists.{every}
 use Rattle.paper.specs.Tables.{lent, index_in}
-use Rattle.paper.specs.Checks.{bounds_in}
+use Rattle.paper.specs.Checks.{Bounds, bounds_in, move_fits}
 use Rattle.paper.specs.Calls.{Session, BuildLent, Model, TrialLent, KeepLent, TakeLent}
+use Rattle.tables.specs.Lent.{lent_tables, lent_bounds, lent_move, lent_index}
+use Rattle.tables.specs.declared.lent.Tables as code-tables
+use Rattle.tables.specs.declared.lent.Bounds as code-bounds
+use Rattle.tables.specs.declared.lent.Move as code-move
+use Rattle.tables.specs.declared.lent.Index as code-index
+use Rattle.verdicts.specs.declared.asked.Asked as code-asked
 
 -- a record that nobody holds
 abbrev pub no_record : Session
@@ -56,3 +63,54 @@ to_keep pairs vars values flags = record { move = record { pairs = pairs; vars =
 -- to taking back: the row of flags
 abbrev pub to_take : List ℕ → TakeLent
 to_take flags = record { flags = flags }
+
+-- ── the same over the structs that are lent ──
+-- to build
+abbrev pub lent_to_build : Session → code-tables.Tables → Bounds → List ℤ → List ℕ → List ℕ → List ℤ → List ℕ → List ℕ → List ℕ → List ℕ → BuildLent
+lent_to_build session tables bounds starts numbers order stored reader_starts reader_places reasons log_sizes = record {
+  session = session;
+  tables = lent_tables tables;
+  bounds = bounds;
+  starts = starts;
+  numbers = numbers;
+  order = order;
+  stored = stored;
+  index = index_in reader_starts reader_places;
+  reasons = reasons;
+  log_sizes = log_sizes;
+}
+
+-- the model, where its values and reasons are written
+abbrev pub lent_to_model : code-tables.Tables → code-bounds.Bounds → List ℕ → List ℕ → List ℤ → code-index.Index → List ℕ → Model
+lent_to_model tables bounds numbers order stored index reasons = record {
+  tables = lent_tables tables;
+  bounds = lent_bounds bounds;
+  numbers = numbers;
+  order = order;
+  stored = stored;
+  index = lent_index index;
+  reasons = reasons;
+}
+
+-- to trial and to keep beside it
+abbrev pub lent_to_try : code-move.Move → code-asked.Asked → List ℤ → List ℤ → List ℕ → List ℕ → TrialLent
+lent_to_try mv asked results trial flags why = record {
+  move = lent_move mv;
+  asked = asked.count;
+  asked_vars = asked.vars.now;
+  route = asked.route;
+  results = results;
+  trial = trial;
+  flags = flags;
+  why = why;
+}
+
+abbrev pub lent_to_keep : code-move.Move → List ℕ → KeepLent
+lent_to_keep mv flags = record { move = lent_move mv; flags = flags }
+
+-- check 1 of what a trial is lent beside the model
+abbrev pub move_own_fits : ℕ → TrialLent → Bool
+move_own_fits n c =
+    every (
+    move_fits c.move ∷ leb c.asked 32 ∷ leb c.asked (length c.asked_vars) ∷ leb c.asked (length c.results)
+    ∷ leb n (length c.trial) ∷ leb n (length c.flags) ∷ leb c.asked (length c.why) ∷ [])

@@ -1,24 +1,27 @@
 // Check 1 of each call: the counts within their bounds, and every lent buffer as long as they ask.
 ghost use Rattle.std.specs.Prelude.{suc, ◌&&◌, ◌≡◌, leb, length};
-ghost use Rattle.paper.specs.Log.{Log, log_in, log_fits};
-ghost use Rattle.paper.specs.Calls.{BuildLent, Model, TrialLent, KeepLent, build_fits, model_fits, trial_fits, keep_fits, take_fits};
-ghost use Rattle.verdicts.specs.Lent.{no_record, to_build, to_model, to_try, to_keep, to_take};
+ghost use Rattle.paper.specs.Log.{log_fits};
+ghost use Rattle.paper.specs.Calls.{build_fits, model_fits, keep_fits, take_fits};
+ghost use Rattle.tables.specs.Lent.{lent_bounds, lent_model, lent_log};
+ghost use Rattle.verdicts.specs.Lent.{no_record, lent_to_build, lent_to_try, lent_to_keep, to_take, move_own_fits};
 
+use crate::asked::Asked;
 use checks::moves::move_sizes;
+use tables::lent::{Bounds, Index, Log, Model, Move, Tables};
 use tables::sizes;
 
 // Check 1 of the index: room for n + 1 starts and a place of every entry.
-fn index_fits(n: usize, e: usize, reader_starts: &[u16], reader_places: &[u16]) -> bool
-    ensures { result ≡ (leb (suc n) (length reader_starts.now) && leb e (length reader_places.now)) }
+fn index_fits(n: usize, e: usize, index: &Index) -> bool
+    ensures { result ≡ (leb (suc n) (length index.now.starts.now) && leb e (length index.now.places.now)) }
 {
-    (n < reader_starts.len()) & (e <= reader_places.len())
+    (n < index.starts.len()) & (e <= index.places.len())
 }
 
 // Check 1 of the bounds: a lowest and a highest number of each variable.
-fn bounds_fit(n: usize, lows: &[i32], highs: &[i32]) -> bool
-    ensures { result ≡ (leb n (length lows.now) && leb n (length highs.now)) }
+fn bounds_fit(n: usize, bounds: &Bounds) -> bool
+    ensures { result ≡ (leb n (length bounds.now.lows.now) && leb n (length bounds.now.highs.now)) }
 {
-    (n <= lows.len()) & (n <= highs.len())
+    (n <= bounds.lows.len()) & (n <= bounds.highs.len())
 }
 
 // Check 1 of the reasons: room for one of each variable.
@@ -29,249 +32,81 @@ fn reasons_fit(n: usize, reasons: &[u8]) -> bool
 }
 
 // Check 1 of build.
+// Stays: rows and no `Model`: an index of two written rows beside tables and bounds would be in a struct at lifetimes that the check does not cover.
 pub fn build_fits(
-    n: usize,
-    m: usize,
-    e: usize,
-    kinds: &[u16],
-    makes: &[u16],
-    params: &[i32],
-    firsts: &[u16],
-    counts: &[u16],
-    vars: &[u16],
-    coefs: &[i16],
-    lows: &[i32],
-    highs: &[i32],
+    tables: &Tables,
+    bounds: &Bounds,
     starts: &[i32],
     numbers: &[u16],
     order: &[u16],
     stored: &[i32],
-    reader_starts: &[u16],
-    reader_places: &[u16],
+    index: &Index,
     reasons: &[u8],
     log_sizes: &[u16],
 ) -> bool
-    ghost w: { BuildLent }
-    requires lent { to_build no_record n m e kinds.now makes.now params.now firsts.now counts.now vars.now coefs.now lows.now highs.now starts.now numbers.now order.now stored.now reader_starts.now reader_places.now reasons.now log_sizes.now ≡ w }
-    ensures { result ≡ build_fits w }
+    ensures { result ≡ build_fits (lent_to_build no_record tables.now (lent_bounds bounds.now) starts.now numbers.now order.now stored.now index.now.starts.now index.now.places.now reasons.now log_sizes.now) }
 {
-    sizes(
-        n, m, e, kinds, makes, params, firsts, counts, vars, coefs, starts,
-    ) & (n <= numbers.len())
-        & (m <= order.len())
-        & (n <= stored.len())
-        & index_fits(n, e, reader_starts, reader_places)
+    sizes(tables, starts)
+        & (tables.n <= numbers.len())
+        & (tables.m <= order.len())
+        & (tables.n <= stored.len())
+        & index_fits(tables.n, tables.e, index)
         & (65 <= log_sizes.len())
-        & bounds_fit(n, lows, highs)
-        & reasons_fit(n, reasons)
+        & bounds_fit(tables.n, bounds)
+        & reasons_fit(tables.n, reasons)
 }
 
 // Check 1 of the model that trial, keep and taking back are lent.
-pub fn model_fits(
-    n: usize,
-    m: usize,
-    e: usize,
-    kinds: &[u16],
-    makes: &[u16],
-    params: &[i32],
-    firsts: &[u16],
-    counts: &[u16],
-    vars: &[u16],
-    coefs: &[i16],
-    lows: &[i32],
-    highs: &[i32],
-    numbers: &[u16],
-    order: &[u16],
-    stored: &[i32],
-    reader_starts: &[u16],
-    reader_places: &[u16],
-    reasons: &[u8],
-) -> bool
-    ensures { result ≡ model_fits (to_model n m e kinds.now makes.now params.now firsts.now counts.now vars.now coefs.now lows.now highs.now numbers.now order.now stored.now reader_starts.now reader_places.now reasons.now) }
+pub fn model_fits(model: &Model) -> bool
+    ensures { result ≡ model_fits (lent_model model.now) }
 {
-    sizes(
-        n, m, e, kinds, makes, params, firsts, counts, vars, coefs, stored,
-    ) & (n <= numbers.len())
-        & (m <= order.len())
-        & index_fits(n, e, reader_starts, reader_places)
-        & bounds_fit(n, lows, highs)
-        & reasons_fit(n, reasons)
+    let tables = &model.tables;
+    sizes(tables, model.stored)
+        & (tables.n <= model.numbers.len())
+        & (tables.m <= model.order.len())
+        & index_fits(tables.n, tables.e, &model.index)
+        & bounds_fit(tables.n, &model.bounds)
+        & reasons_fit(tables.n, model.reasons)
 }
 
-// Check 1 of trial.
-pub(crate) fn trial_fits(
+// Check 1 of what a trial is lent beside the model: its pairs, what is asked, and the rows to fill.
+pub(crate) fn move_fits(
     n: usize,
-    m: usize,
-    e: usize,
-    kinds: &[u16],
-    makes: &[u16],
-    params: &[i32],
-    firsts: &[u16],
-    counts: &[u16],
-    vars: &[u16],
-    coefs: &[i16],
-    lows: &[i32],
-    highs: &[i32],
-    numbers: &[u16],
-    order: &[u16],
-    stored: &[i32],
-    reader_starts: &[u16],
-    reader_places: &[u16],
-    reasons: &[u8],
-    pairs: usize,
-    move_vars: &[u16],
-    move_values: &[i32],
-    asked: usize,
-    asked_vars: &[u16],
-    route: u32,
+    mv: &Move,
+    asked: &Asked,
     results: &[i32],
     trial: &[i32],
     flags: &[u8],
     why: &[u8],
 ) -> bool
-    ghost w: { Model × TrialLent }
-    requires lent { (to_model n m e kinds.now makes.now params.now firsts.now counts.now vars.now coefs.now lows.now highs.now numbers.now order.now stored.now reader_starts.now reader_places.now reasons.now, to_try pairs move_vars.now move_values.now asked asked_vars.now route results.now trial.now flags.now why.now) ≡ w }
-    ensures { result ≡ trial_fits w.0 w.1 }
+    ensures { result ≡ move_own_fits n (lent_to_try mv.now asked.now results.now trial.now flags.now why.now) }
 {
-    model_fits(
-        n,
-        m,
-        e,
-        kinds,
-        makes,
-        params,
-        firsts,
-        counts,
-        vars,
-        coefs,
-        lows,
-        highs,
-        numbers,
-        order,
-        stored,
-        reader_starts,
-        reader_places,
-        reasons,
-    ) & move_sizes(pairs, move_vars, move_values)
-        & (asked <= 32)
-        & (asked <= asked_vars.len())
-        & (asked <= results.len())
+    move_sizes(mv)
+        & (asked.count <= 32)
+        & (asked.count <= asked.vars.len())
+        & (asked.count <= results.len())
         & (n <= trial.len())
         & (n <= flags.len())
-        & (asked <= why.len())
+        & (asked.count <= why.len())
 }
 
 // Check 1 of a log: room for 64 moves of 64 pairs.
-fn log_fits(log_sizes: &[u16], log_vars: &[u16], log_values: &[i32]) -> bool
-    ensures { result ≡ log_fits (log_in log_sizes.now log_vars.now log_values.now) }
+fn log_fits(log: &Log) -> bool
+    ensures { result ≡ log_fits (lent_log log.now) }
 {
-    (65 <= log_sizes.len()) & (4096 <= log_vars.len()) & (4096 <= log_values.len())
+    (65 <= log.sizes.len()) & (4096 <= log.vars.len()) & (4096 <= log.values.len())
 }
 
 // Check 1 of keep.
-pub(crate) fn keep_fits(
-    n: usize,
-    m: usize,
-    e: usize,
-    kinds: &[u16],
-    makes: &[u16],
-    params: &[i32],
-    firsts: &[u16],
-    counts: &[u16],
-    vars: &[u16],
-    coefs: &[i16],
-    lows: &[i32],
-    highs: &[i32],
-    numbers: &[u16],
-    order: &[u16],
-    stored: &[i32],
-    reader_starts: &[u16],
-    reader_places: &[u16],
-    reasons: &[u8],
-    pairs: usize,
-    move_vars: &[u16],
-    move_values: &[i32],
-    flags: &[u8],
-    log_sizes: &[u16],
-    log_vars: &[u16],
-    log_values: &[i32],
-) -> bool
-    ghost w: { Log × Model × KeepLent }
-    requires lent { (log_in log_sizes.now log_vars.now log_values.now, to_model n m e kinds.now makes.now params.now firsts.now counts.now vars.now coefs.now lows.now highs.now numbers.now order.now stored.now reader_starts.now reader_places.now reasons.now, to_keep pairs move_vars.now move_values.now flags.now) ≡ w }
-    ensures { result ≡ keep_fits w.0 w.1 w.2 }
+pub(crate) fn keep_fits(model: &Model, mv: &Move, flags: &[u8], log: &Log) -> bool
+    ensures { result ≡ keep_fits (lent_log log.now) (lent_model model.now) (lent_to_keep mv.now flags.now) }
 {
-    model_fits(
-        n,
-        m,
-        e,
-        kinds,
-        makes,
-        params,
-        firsts,
-        counts,
-        vars,
-        coefs,
-        lows,
-        highs,
-        numbers,
-        order,
-        stored,
-        reader_starts,
-        reader_places,
-        reasons,
-    ) & move_sizes(pairs, move_vars, move_values)
-        & (n <= flags.len())
-        & log_fits(log_sizes, log_vars, log_values)
+    model_fits(model) & move_sizes(mv) & (model.tables.n <= flags.len()) & log_fits(log)
 }
 
 // Check 1 of taking back.
-pub(crate) fn take_fits(
-    n: usize,
-    m: usize,
-    e: usize,
-    kinds: &[u16],
-    makes: &[u16],
-    params: &[i32],
-    firsts: &[u16],
-    counts: &[u16],
-    vars: &[u16],
-    coefs: &[i16],
-    lows: &[i32],
-    highs: &[i32],
-    numbers: &[u16],
-    order: &[u16],
-    stored: &[i32],
-    reader_starts: &[u16],
-    reader_places: &[u16],
-    reasons: &[u8],
-    flags: &[u8],
-    log_sizes: &[u16],
-    log_vars: &[u16],
-    log_values: &[i32],
-) -> bool
-    ghost w: { Log × Model }
-    requires lent { (log_in log_sizes.now log_vars.now log_values.now, to_model n m e kinds.now makes.now params.now firsts.now counts.now vars.now coefs.now lows.now highs.now numbers.now order.now stored.now reader_starts.now reader_places.now reasons.now) ≡ w }
-    ensures { result ≡ take_fits w.0 w.1 (to_take flags.now) }
+pub(crate) fn take_fits(model: &Model, flags: &[u8], log: &Log) -> bool
+    ensures { result ≡ take_fits (lent_log log.now) (lent_model model.now) (to_take flags.now) }
 {
-    model_fits(
-        n,
-        m,
-        e,
-        kinds,
-        makes,
-        params,
-        firsts,
-        counts,
-        vars,
-        coefs,
-        lows,
-        highs,
-        numbers,
-        order,
-        stored,
-        reader_starts,
-        reader_places,
-        reasons,
-    ) & (n <= flags.len())
-        & log_fits(log_sizes, log_vars, log_values)
+    model_fits(model) & (model.tables.n <= flags.len()) & log_fits(log)
 }

@@ -14,10 +14,12 @@ use Rattle.paper.proofs.Scan.{part_length}
 use Rattle.formulas.specs.Inputs.{part_of, Within}
 use Rattle.whys.specs.Rows.{RowReads}
 
-pub reads-row : {r : ℕ} {kinds firsts counts vars : List ℕ} {values : List ℤ} → RowReads r kinds firsts counts vars values
-    → let part = part_of (nat firsts r) (nat counts r) vars in (arity (nat kinds r) (length part) ≡ true) × Within part values
-reads-row {r} {kinds} {firsts} {counts} {vars} {values} p =
-    let part = part_of (nat firsts r) (nat counts r) vars in (
-      ap (arity (nat kinds r)) (part_length vars (nat firsts r) (nat counts r) p.in-vars) ∙ p.suits,
-      record { each = λ i h. ltb-true _ _ (all-at (λ u. ltb u (length values)) part p.below i 0 h) },
-    )
+module _ {r : ℕ} {kinds firsts counts vars : List ℕ} {values : List ℤ} (p : RowReads r kinds firsts counts vars values) where
+  abbrev part : List ℕ
+  part = part_of (nat firsts r) (nat counts r) vars
+
+  pub reads-suits : arity (nat kinds r) (length part) ≡ true
+  reads-suits = ap (arity (nat kinds r)) (part_length vars (nat firsts r) (nat counts r) p.in-vars) ∙ p.suits
+
+  pub reads-within : Within part values
+  reads-within = record { each = λ i h. ltb-true _ _ (all-at (λ u. ltb u (length values)) part p.below i 0 h) }

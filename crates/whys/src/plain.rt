@@ -12,13 +12,9 @@ pub fn none_blank(n: usize, values: &[i32], flags: &[u8], asked: &[u16]) -> bool
     requires asked_value { all (λ v. ltb v n) asked.now ≡ true }
     ensures { result ≡ all_below (λ i. not_blank flags.now values.now (nat asked.now i)) (length asked.now) }
 {
-    for i in 0..asked.len() {
-        let v = wide(asked[i]);
-        if (flags[v] == 1) & is_blank(values[v]) {
-            return false;
-        }
-    }
-    true
+    !asked
+        .iter()
+        .any(|&v| (flags[wide(v)] == 1) & is_blank(values[wide(v)]))
 }
 
 // Copies out the reasons, in asking order: 0 where the flag is 1, else the stored one.
@@ -27,8 +23,8 @@ pub fn ask_plain(n: usize, flags: &[u8], stored: &[u8], asked: &[u16], out: &mut
     requires asked_value { all (λ v. ltb v n) asked.now ≡ true }
     ensures { out.new ≡ over (length asked.now) (λ i. plain_now flags.now (nat stored.now) (nat asked.now i)) out.old }
 {
-    for i in 0..asked.len() {
-        let v = wide(asked[i]);
+    for (i, &v) in asked.iter().enumerate() {
+        let v = wide(v);
         out[i] = if flags[v] == 1 { 0 } else { stored[v] };
     }
 }

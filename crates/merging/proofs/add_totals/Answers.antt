@@ -34,11 +34,11 @@ returns c =
     let g2 : SFits w32 o.greatest = search rules in
     let s1 : SFits w64 t.sum = search rules in
     let s2 : SFits w64 o.sum = search rules in
-    let l : SFits w32 c.one_of.result = search rules in
-    let g : SFits w32 c.one_of-2.result = search rules in
+    let l : SFits w32 c.least_of.result = search rules in
+    let g : SFits w32 c.greatest_of.result = search rules in
     let s : SFits w64 c.add_sums.result = search rules in
-    let least_is = to_z-of_z l ∙ c.one_of.ensures ∙ ap₂ (one_of lesser) (to_z-of_z l1) (to_z-of_z l2) in
-    let greatest_is = to_z-of_z g ∙ c.one_of-2.ensures ∙ ap₂ (one_of greater) (to_z-of_z g1) (to_z-of_z g2) in
+    let least_is = to_z-of_z l ∙ c.least_of.ensures ∙ ap₂ (one_of lesser) (to_z-of_z l1) (to_z-of_z l2) in
+    let greatest_is = to_z-of_z g ∙ c.greatest_of.ensures ∙ ap₂ (one_of greater) (to_z-of_z g1) (to_z-of_z g2) in
     let sum_is = to_z-of_z s ∙ c.add_sums.ensures ∙ ap₂ ◌+ℤ◌ (to_z-of_z s1) (to_z-of_z s2) in
     λ i. record {
       blank = t.blank + o.blank;

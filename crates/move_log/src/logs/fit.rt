@@ -1,73 +1,43 @@
-// Check 16: whether a log is one that keep and taking back may work with.
+// The moves of a log, each judged as a move to be kept is, and all of them together.
 ghost use Rattle.std.specs.Prelude.{true, ◌≡◌, ◌≤◌, ◌<◌, length};
-ghost use Rattle.paper.specs.Checks.{bounds_in};
-ghost use Rattle.paper.specs.Log.{log_in, log_fits, move_good, back, log_good};
+ghost use Rattle.paper.specs.Log.{log_fits, move_good, back, log_good};
+ghost use Rattle.tables.specs.Lent.{lent_bounds, lent_log};
 ghost use Rattle.checks.specs.Allowed.{OfMakers};
 
 use checks::moves::move_checks;
 use integers::wide;
-use tables::Answer;
+use tables::lent::{Bounds, Log, Move};
 
 // Move k of the log has at most 64 pairs, of search variables, each named once, and no value is blank or outside its bounds.
-fn logged_good(
-    n: usize,
-    by: &[u16],
-    lows: &[i32],
-    highs: &[i32],
-    k: usize,
-    log_sizes: &[u16],
-    log_vars: &[u16],
-    log_values: &[i32],
-) -> bool
+fn logged_good(n: usize, by: &[u16], bounds: &Bounds, log: &Log, k: usize) -> bool
     requires n_in_bounds { (n ≤ length by.now) × (k < 64) }
-    requires log_values_value { log_fits (log_in log_sizes.now log_vars.now log_values.now) ≡ true }
-    ensures { OfMakers n by.now (λ t. result ≡ move_good t (bounds_in lows.now highs.now) (back (log_in log_sizes.now log_vars.now log_values.now) k)) }
+    requires log_values_value { log_fits (lent_log log.now) ≡ true }
+    ensures { OfMakers n by.now (λ t. result ≡ move_good t (lent_bounds bounds.now) (back (lent_log log.now) k)) }
 {
-    let pairs = wide(log_sizes[k + 1]);
+    let pairs = wide(log.sizes[k + 1]);
     if 64 < pairs {
         return false;
     }
-    let checked = move_checks(
-        n,
-        by,
-        lows,
-        highs,
+    let logged = Move {
         pairs,
-        &log_vars[64 * k..],
-        &log_values[64 * k..],
-    );
-    let Answer::Accepted { .. } = checked else {
-        return false;
+        vars: &log.vars[64 * k..],
+        values: &log.values[64 * k..],
     };
-    true
+    move_checks(n, by, bounds, &logged).is_ok()
 }
 
 // The log has no more moves than 64 or than that number kept, and each is good.
-pub fn log_good(
-    n: usize,
-    by: &[u16],
-    lows: &[i32],
-    highs: &[i32],
-    kept: u32,
-    log_sizes: &[u16],
-    log_vars: &[u16],
-    log_values: &[i32],
-) -> bool
+pub fn log_good(n: usize, by: &[u16], bounds: &Bounds, kept: u32, log: &Log) -> bool
     requires n_in_bounds { n ≤ length by.now }
-    requires log_values_value { log_fits (log_in log_sizes.now log_vars.now log_values.now) ≡ true }
-    ensures { OfMakers n by.now (λ t. result ≡ log_good (log_in log_sizes.now log_vars.now log_values.now) t (bounds_in lows.now highs.now) kept) }
+    requires log_values_value { log_fits (lent_log log.now) ≡ true }
+    ensures { OfMakers n by.now (λ t. result ≡ log_good (lent_log log.now) t (lent_bounds bounds.now) kept) }
 {
-    let held = wide(log_sizes[0]);
+    let held = wide(log.sizes[0]);
     if 64 < held {
         return false;
     }
     if (kept as usize) < held {
         return false;
     }
-    for k in 0..held {
-        if !logged_good(n, by, lows, highs, k, log_sizes, log_vars, log_values) {
-            return false;
-        }
-    }
-    true
+    (0..held).all(|k| logged_good(n, by, bounds, log, k))
 }

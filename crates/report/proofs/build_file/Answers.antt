@@ -8,21 +8,21 @@ use Rattle.report.proofs.build_file.Goals as goal
 pub returns-then-file-gt65536 : goal.returns-then-file-gt65536
 returns-then-file-gt65536 c =
     let a = c.args in
-    unread-left a.numbers.now a.stored.now a.reasons.now c.unread.result 1 0 c.unread.ensures
-    ∙ long-left a.numbers.now a.stored.now a.reasons.now a.file.now c.if-file-gt65536.true
+    unread-left a.numbers.now a.stored.now a.reasons.now c.unread.result _ c.unread.ensures
+    ∙ rw c.refused.ensures (long-left a.numbers.now a.stored.now a.reasons.now a.file.now c.if-file-gt65536.true)
 
-pub returns-in-Accepted : goal.returns-in-Accepted
-returns-in-Accepted c =
-    let a = c.args in let l = c.read-told.new in
+pub returns-in-Ok : goal.returns-in-Ok
+returns-in-Ok c =
+    let a = c.args in let l = c.read-read.new in
     c.build_tables.ensures
-    ∙ read_left a.numbers.now a.stored.now a.reasons.now a.file.now c.read-told.result
+    ∙ read_left a.numbers.now a.stored.now a.reasons.now a.file.now c.read-read.result
     (unbounded_contents (lent 0 0 0 l.kinds l.makes l.params l.firsts l.counts l.vars l.coefs) l.starts)
-    c.read-told.ensures c.if-file-gt65536.false _ _ _ c.in-Accepted.is
+    c.read-read.ensures c.if-file-gt65536.false _ c.in-Ok.is
 
-pub returns-in-Refused : goal.returns-in-Refused
-returns-in-Refused c =
-    let a = c.args in let l = c.read-told.new in
-    unread-left a.numbers.now a.stored.now a.reasons.now c.unread-in-Refused.result _ _ c.unread-in-Refused.ensures
-    ∙ refused-left a.numbers.now a.stored.now a.reasons.now a.file.now c.read-told.result
+pub returns-in-Err : goal.returns-in-Err
+returns-in-Err c =
+    let a = c.args in let l = c.read-read.new in
+    unread-left a.numbers.now a.stored.now a.reasons.now c.unread-in-Err.result _ c.unread-in-Err.ensures
+    ∙ refused-left a.numbers.now a.stored.now a.reasons.now a.file.now c.read-read.result
     (unbounded_contents (lent 0 0 0 l.kinds l.makes l.params l.firsts l.counts l.vars l.coefs) l.starts)
-    c.read-told.ensures c.if-file-gt65536.false _ _ c.in-Refused.is
+    c.read-read.ensures c.if-file-gt65536.false _ c.in-Err.is

@@ -9,11 +9,7 @@ pub fn copy_values(n: usize, from: &[i32], to: &mut [i32])
     requires { (n ≤ length from.now) × (n ≤ length to.old) }
     ensures { to.new ≡ over n (λ v. get_or from.now v (pos 0)) to.old }
 {
-    let mut v = 0;
-    while v < n {
-        to[v] = from[v];
-        v += 1;
-    }
+    to[..n].copy_from_slice(&from[..n]);
 }
 
 // Copies the values of the asked variables, in asking order.
@@ -22,7 +18,7 @@ pub fn copy_asked(asked: &[u16], values: &[i32], results: &mut [i32])
     requires room { length asked.now ≤ length results.old }
     ensures { results.new ≡ over (length asked.now) (λ i. get_or values.now (nat asked.now i) (pos 0)) results.old }
 {
-    for i in 0..asked.len() {
-        results[i] = values[wide(asked[i])];
+    for (i, &v) in asked.iter().enumerate() {
+        results[i] = values[wide(v)];
     }
 }

@@ -7,20 +7,14 @@ pub fn next_place(kind: u16, x: i32, i: usize, first: usize, last: usize) -> usi
     requires { (i < last) × (first < last) × (last < 131072) }
     ensures { result ≡ next_place kind x i first last }
 {
+    // Stays: a kind is a number of the lent tables (the C interface).
     if kind != 4 {
         return i + 1;
     }
-    if i != first {
+    if i != first || x < 0 {
         return last;
     }
-    if x < 0 {
-        return last;
-    }
-    let place = first + 1 + x as usize;
-    if place < last {
-        return place;
-    }
-    last
+    (first + 1 + x as usize).min(last)
 }
 
 // There is work to do for variable v that is not done yet.
@@ -28,8 +22,5 @@ pub fn waits(v: usize, work: &[u16], flags: &[u8]) -> bool
     requires { (v < length work.now) × (v < length flags.now) }
     ensures { result ≡ waiting work.now flags.now v }
 {
-    if work[v] == 0 {
-        return false;
-    }
-    flags[v] != 1
+    work[v] != 0 && flags[v] != 1
 }

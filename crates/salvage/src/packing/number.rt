@@ -1,81 +1,71 @@
 // Rows whose variable has no topological number among those of the rows kept.
-ghost use Rattle.std.specs.Prelude.{true, false, ◌&&◌, ◌≡◌, ◌≤◌, ◌<◌, length, get_or};
+ghost use Rattle.std.specs.Prelude.{true, false, ◌&&◌, ◌≡◌, ◌≤◌, length, get_or};
 ghost use Rattle.paper.specs.Lists.{nat, over};
 ghost use Rattle.paper.specs.Tables.{ends};
 ghost use Rattle.tables.specs.Makers.{AllBelow};
-ghost use Rattle.order.specs.Formed.{bare, Formed};
+ghost use Rattle.order.specs.Formed.{bare_lent, Formed};
 ghost use Rattle.order.specs.Numbering.{Clean, ended};
 ghost use Rattle.damage.specs.Flags.{flagged};
-ghost use Rattle.salvage.specs.Packing.{shape, Packable, Known, Makes, Numberable};
+ghost use Rattle.salvage.specs.Packing.{shape_of, Packable, Known, Makes, CanBeNumbered};
 
 use crate::packing::copy::pack_shape;
 use damage::admissions::still;
 use damage::flags::list_flagged;
 use order::find_numbers;
+use tables::lent::Tables;
 use tables::makers;
 
 // Finds which variables can have a number in these tables.
-fn number_packed(
-    n: usize,
-    makes: &[u16],
-    firsts: &[u16],
-    counts: &[u16],
-    vars: &[u16],
-    state: &mut [u16; 4096],
-)
-    requires formed { Formed (bare n (length makes.now) makes.now firsts.now counts.now vars.now) }
-    requires clean { Clean n state.old }
-    ensures { Known (bare n (length makes.now) makes.now firsts.now counts.now vars.now) state.new }
+fn number_packed(tables: &Tables, state: &mut [u16; 4096])
+    requires formed { Formed (bare_lent tables.now) }
+    requires clean { Clean tables.now.n state.old }
+    ensures { Known (bare_lent tables.now) state.new }
 {
+    // Stays: rows of a fixed length, since no call allocates.
     let mut by = [0u16; 4096];
-    let k = makes.len();
-    makers(n, k, makes, &mut by);
-    find_numbers(n, k, makes, firsts, counts, vars, &by, state);
+    makers(tables.n, tables.m, tables.makes, &mut by);
+    find_numbers(tables, &by, state);
 }
 
 // Finds which variables can have a number in the tables of these rows.
-fn number_rows(
-    n: usize,
-    rows: &[u16],
-    makes: &[u16],
-    firsts: &[u16],
-    counts: &[u16],
-    vars: &[u16],
-    state: &mut [u16; 4096],
-)
-    requires packable { Packable firsts.now counts.now (length vars.now) rows.now }
-    requires made { AllBelow (length rows.now) rows.now (length makes.now) }
-    requires formed { Formed (shape n makes.now firsts.now counts.now vars.now rows.now) }
-    requires clean { Clean n state.old }
-    ensures { Known (shape n makes.now firsts.now counts.now vars.now rows.now) state.new }
+fn number_rows(tables: &Tables, rows: &[u16], state: &mut [u16; 4096])
+    requires packable { Packable tables.now.firsts.now tables.now.counts.now (length tables.now.vars.now) rows.now }
+    requires made { AllBelow (length rows.now) rows.now (length tables.now.makes.now) }
+    requires formed { Formed (shape_of tables.now rows.now) }
+    requires clean { Clean tables.now.n state.old }
+    ensures { Known (shape_of tables.now rows.now) state.new }
 {
-    let mut packed_makes = [0u16; 4096];
-    let mut packed_firsts = [0u16; 4096];
-    let mut packed_counts = [0u16; 4096];
-    let mut packed_vars = [0u16; 16384];
+    // Stays: rows of a fixed length, since no call allocates.
+    let mut makes = [0u16; 4096];
+    let mut firsts = [0u16; 4096];
+    let mut counts = [0u16; 4096];
+    let mut vars = [0u16; 16384];
+    let m = rows.len();
     let e = pack_shape(
         rows,
-        makes,
-        firsts,
-        counts,
-        vars,
-        &mut packed_makes,
-        &mut packed_firsts,
-        &mut packed_counts,
-        &mut packed_vars,
+        tables,
+        &mut makes,
+        &mut firsts,
+        &mut counts,
+        &mut vars,
     );
-    let k = rows.len();
-    number_packed(
-        n,
-        &packed_makes[0..k],
-        &packed_firsts[0..k],
-        &packed_counts[0..k],
-        &packed_vars[0..e],
-        state,
-    );
+    let packed = Tables {
+        n: tables.n,
+        m,
+        e,
+        kinds: &[],
+        makes: &makes[..m],
+        params: &[],
+        firsts: &firsts[..m],
+        counts: &counts[..m],
+        vars: &vars[..e],
+        coefs: &[],
+    };
+    number_packed(&packed, state);
 }
 
 // Clears the flags of rows whose variable has no number.
+// Stays: r picks from two rows.
 fn clear_rows(m: usize, makes: &[u16], state: &[u16; 4096], row: &mut [bool])
     requires there { (m ≤ length makes.now) × (m ≤ length row.old) }
     requires made { Makes 4096 m makes.now row.old }
@@ -87,23 +77,16 @@ fn clear_rows(m: usize, makes: &[u16], state: &[u16; 4096], row: &mut [bool])
 }
 
 // Clears the flags of rows whose variable has no topological number among those of the flagged rows.
-pub fn drop_rows(
-    n: usize,
-    m: usize,
-    makes: &[u16],
-    firsts: &[u16],
-    counts: &[u16],
-    vars: &[u16],
-    row: &mut [bool],
-)
-    requires { Numberable n m makes.now firsts.now counts.now vars.now row.old }
-    ensures { row.new ≡ over m (λ r. get_or row.old r false
-        && ends (shape n makes.now firsts.now counts.now vars.now (flagged true row.old m)) (nat makes.now r))
+pub fn drop_rows(tables: &Tables, row: &mut [bool])
+    requires { CanBeNumbered tables.now row.old }
+    ensures { row.new ≡ over tables.now.m (λ r. get_or row.old r false
+        && ends (shape_of tables.now (flagged true row.old tables.now.m)) (nat tables.now.makes.now r))
         row.old }
 {
+    // Stays: rows of a fixed length, since no call allocates.
     let mut rows = [0u16; 4096];
     let mut state = [0u16; 4096];
-    let k = list_flagged(m, row, true, 0, &mut rows);
-    number_rows(n, &rows[0..k], makes, firsts, counts, vars, &mut state);
-    clear_rows(m, makes, &state, row);
+    let k = list_flagged(tables.m, row, true, 0, &mut rows);
+    number_rows(tables, &rows[..k], &mut state);
+    clear_rows(tables.m, tables.makes, &state, row);
 }

@@ -1,5 +1,4 @@
 -- The text was put from the front on, and the buffer shows it (`put-shows`). Assumes nothing.
-use borrow.Author.Rules.{rules}
 use Rattle.text.proofs.Laid.{put-counts, put-shows}
 use Rattle.text.proofs.lines.Goals as goal
 

@@ -1,14 +1,11 @@
-use Prim.Native.Nat.{◌≤◌, ◌-◌, min}
+use Prim.Native.Nat.{min}
 use native.Mathlib.Numerals.{add-one}
 use native.Mathlib.Omega.{arith}
 use mathlib.Core.Path.{◌≡◌}
 use mir.Facts.{to_z-of_z}
 use borrow.Author.Rules.{rules, sfits_of}
-use lib.IntN.{pos}
-use lib.ListN.{length, get_or}
-use Rattle.paper.specs.Lists.{nat, joined}
-use Rattle.text.specs.Buffer.{Put}
-use Rattle.text.specs.Lines.{line, lines}
+use lib.ListN.{length}
+use Rattle.text.specs.Lines.{lines}
 use Rattle.text.proofs.Laid.{put-nothing, put_then}
 use Rattle.text.proofs.put_lines.Goals as goal
 

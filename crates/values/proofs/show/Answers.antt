@@ -17,9 +17,9 @@ returns-in_default-clause-out_after c =
 pub returns-clause-value : goal.returns-clause-value
 returns-clause-value c =
     let b = c.build_file-built in let l = b.new in let told = c.told-out in
-    (refusal-shown false c.args.file.now b.result l.numbers l.stored l.reasons b.ensures _ _ c.in-Refused.is (omega arith) (c.refusal.ensures.prefix_len, c.refusal.ensures.shows)).1.0
+    (refusal-shown false c.args.file.now b.result l.numbers l.stored l.reasons b.ensures _ c.in-Err.is (omega arith) (c.refusal.ensures.prefix_len, c.refusal.ensures.shows)).1.0
 
 pub returns-clause-out_after : goal.returns-clause-out_after
 returns-clause-out_after c =
     let b = c.build_file-built in let l = b.new in let told = c.told-out in
-    (refusal-shown false c.args.file.now b.result l.numbers l.stored l.reasons b.ensures _ _ c.in-Refused.is (omega arith) (c.refusal.ensures.prefix_len, c.refusal.ensures.shows)).1.1
+    (refusal-shown false c.args.file.now b.result l.numbers l.stored l.reasons b.ensures _ c.in-Err.is (omega arith) (c.refusal.ensures.prefix_len, c.refusal.ensures.shows)).1.1

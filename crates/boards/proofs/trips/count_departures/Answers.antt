@@ -3,7 +3,8 @@ use Rattle.std.proofs.Common.{[], ap, ◌∙◌, arith, rules}
 use mir.Syntax.{w32}
 use mir.Val.{SFits}
 use mir.Facts.{to_z-of_z}
-use Rattle.times.specs.Windows.{lends, start, end, headway}
+use Rattle.times.specs.Windows.{start, end, headway}
+use Rattle.times.specs.Lent.{lent_windows}
 use Rattle.boards.specs.Counting.{counted_on}
 use Rattle.boards.proofs.Counts.{counted-on}
 use Rattle.boards.proofs.trips.count_departures.Goals as goal
@@ -11,7 +12,7 @@ use Rattle.boards.proofs.trips.count_departures.Goals as goal
 pub loop-i-preserved : goal.loop-i-preserved
 loop-i-preserved c =
     let a = c.args in
-    let b = lends a.windows a.starts.now a.ends.now a.headways.now [] in
+    let b = lent_windows a.windows.now [] in
     let l = c.loop-i in
     let s : SFits w32 (start b l.i) = search rules in
     let e : SFits w32 (end b l.i) = search rules in

@@ -1,11 +1,9 @@
--- The rows are as long as a model of n variables asks, and of zeros. Assumes nothing.
-use Rattle.order.proofs.Sweeps.{clean-new}
+-- A small model has rows of 256 places, and any other has as many as a model can ask. Assumes nothing.
+use Rattle.std.proofs.Common.{arith}
 use Rattle.build.proofs.building.build_core.Goals as goal
 
-pub build_over-requires : goal.build_over-requires
-build_over-requires c =
-    let clean = clean-new c.args.n 256 c.if-n-le256.true in
-    record { makers = λ _. clean.long; numbers = λ _. clean }
+pub build_sized-requires : goal.build_sized-requires
+build_sized-requires c = record { room = (omega arith, λ _. c.if-tables-le256.true) }
 
-pub build_over-requires-2 : goal.build_over-requires-2
-build_over-requires-2 c = record { makers = λ few. (clean-new c.args.n 4096 few).long; numbers = λ few. clean-new c.args.n 4096 few }
+pub build_sized-requires-else-tables-le256 : goal.build_sized-requires-else-tables-le256
+build_sized-requires-else-tables-le256 c = record { room = (omega arith, λ few. few) }

@@ -3,9 +3,9 @@ use Prim.Native.Nat.{ℕ}
 use mathlib.Core.List.{List}
 use mathlib.Core.Path.{◌≡◌, refl, sym, ap, ◌∙◌}
 use lib.ListN.{replicate, set}
-use Rattle.paper.specs.Checks.{Verdict, accepted, refused, leaves, lowest, highest}
+use Rattle.paper.specs.Checks.{Verdict, accepted, refused, leaves, bounds_in, lowest, highest}
 use Rattle.paper.specs.Calls.{BuildLent, BuildLeft, build_verdict, build}
-use Rattle.verdicts.specs.Lent.{no_record, to_build}
+use Rattle.verdicts.specs.Lent.{no_record, lent_to_build}
 use Rattle.build.proofs.building.build_new.Goals as goal
 
 abbrev none : List ℕ
@@ -25,5 +25,5 @@ left l x new e =
 pub returns : goal.returns
 returns c =
     let a = c.args in
-    left (to_build no_record a.n a.m a.e a.kinds.now a.makes.now a.params.now a.firsts.now a.counts.now a.vars.now a.coefs.now (replicate 4096 lowest) (replicate 4096 highest) a.starts.now a.numbers.now a.order.now a.stored.now a.reader_starts.now a.reader_places.now a.reasons.now none)
+    left (lent_to_build no_record a.tables.now (bounds_in (replicate 4096 lowest) (replicate 4096 highest)) a.starts.now a.numbers.now a.order.now a.stored.now a.reader_starts.now a.reader_places.now a.reasons.now none)
     _ refl c.build_core.ensures

@@ -12,4 +12,4 @@ returns-then-second-ne0 c =
 
 pub returns : goal.returns
 returns c =
-    both-merged _ _ _ _ _ c.if-first-ne0.false c.if-second-ne0.false c.figures_numbers.ensures c.merge-told.ensures c.totals_in.ensures c.totals_in-2.ensures
+    both-merged _ _ _ _ _ c.if-first-ne0.false c.if-second-ne0.false c.from-3.ensures c.merge-told.ensures c.from.ensures c.from-2.ensures

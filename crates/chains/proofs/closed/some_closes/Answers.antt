@@ -1,32 +1,18 @@
-use mathlib.Core.Bool.{not}
-use mathlib.Core.Path.{ap, sym, ◌∙◌}
-use native.Mathlib.Omega.{arith}
-use borrow.Author.Tests.{not-true, not-false}
-use Rattle.paper.proofs.Scan.{scan-start, scan-next}
-use Rattle.chains.proofs.Elements.{rows-open, no-element, row_closes}
+use Rattle.std.proofs.Common.{ℕ, arith, rules, refl, sym, ◌∙◌, ◌≡◌, true, false}
+use borrow.Author.Tests.{tests, not-false}
+use Rattle.std.proofs.lemmas.Iterator.{cases_from_any, YieldsList-from_range}
+use Rattle.paper.specs.Lists.{nat}
+use Rattle.chains.specs.Links.{kinded_lent}
+use Rattle.chains.specs.Level.{level_candidate}
+use Rattle.chains.proofs.Elements.{no-element, rows-told}
 use Rattle.chains.proofs.closed.some_closes.Goals as goal
 
-pub some_element-requires : goal.some_element-requires
-some_element-requires c = c.requires.there
+pub returns-else-some_element : goal.returns-else-some_element
+returns-else-some_element c =
+    c.if-some_element.false ∙ no-element _ c.requires.kinded.formed _ c.requires.right (not-false _ (sym c.some_element.ensures ∙ c.if-some_element.false))
 
-pub returns-then-not-some_element : goal.returns-then-not-some_element
-returns-then-not-some_element c =
-    no-element _ c.requires.formed _ c.requires.right (not-false _ (sym c.some_element.ensures ∙ not-true _ c.if-not-some_element.true-raw))
-
-pub loop-r-init : goal.loop-r-init
-loop-r-init c = scan-start _ _
-
-pub level_candidate-requires : goal.level_candidate-requires
-level_candidate-requires c = record { formed = c.requires.formed; there = c.requires.there; long = (omega arith, c.requires.right.shared.long) }
-
-pub returns-then-level_candidate : goal.returns-then-level_candidate
-returns-then-level_candidate c =
-    row_closes _ c.requires.formed _ c.requires.right _ c.loop-r-test.true (sym c.level_candidate.ensures ∙ c.if-level_candidate.true)
-
-pub loop-r-preserved : goal.loop-r-preserved
-loop-r-preserved c = scan-next _ _ _ c.loop-r.invariant (omega arith) (ap not (sym c.level_candidate.ensures ∙ c.if-level_candidate.false))
-
-pub returns : goal.returns
-returns c =
-    let seen = c.loop-r.invariant in
-    rows-open _ c.requires.formed _ c.requires.right (λ r l. not-true _ (seen.good r (omega arith)))
+pub returns-then-some_element : goal.returns-then-some_element
+returns-then-some_element c =
+    let t = kinded_lent c.args.tables.now in let level = λ (r : ℕ). level_candidate t c.args.numbers.now (nat t.makes r) in
+    rows-told t c.requires.kinded.formed c.args.numbers.now c.requires.right c.any.result
+    (cases_from_any _ _ c.any.result (λ r. level r ≡ true) (λ r. level r ≡ false) c.any.ensures.ran (YieldsList-from_range 0 t.m t.m refl (omega arith)) (λ x q k. search (rules, tests)) (λ x q k. search (rules, tests)))

@@ -6,8 +6,8 @@ use lib.ListN.{set}
 use lib.Seq.{set_out}
 use Rattle.checks.proofs.repeats.mark.Goals as goal
 
-pub returns-then-seen-at : goal.returns-then-seen-at
-returns-then-seen-at c = let w = c.wide-at.ensures in sym (set_out _ _ _ (omega arith))
+pub returns-then-at-seen : goal.returns-then-at-seen
+returns-then-at-seen c = ap (λ v. set c.args.seen.now v true) c.wide-at.ensures.0
 
-pub returns : goal.returns
-returns c = ap (λ v. set c.args.seen.now v true) c.wide-at.ensures.0
+pub returns-else-at-seen : goal.returns-else-at-seen
+returns-else-at-seen c = let w = c.wide-at.ensures in sym (set_out _ _ _ (omega arith))

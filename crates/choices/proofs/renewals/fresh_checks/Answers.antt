@@ -1,54 +1,32 @@
-use Rattle.std.proofs.Common.{arith, ap, sym, subst, ◌∙◌}
-use Rattle.paper.specs.Tables.{lent}
-use Rattle.paper.specs.Checks.{Sound}
+use Rattle.std.proofs.Common.{arith, ap, sym, ◌∙◌}
 use Rattle.paper.proofs.Sizes.{sized-facts}
 use Rattle.tables.specs.Answers.{answer_of}
-use Rattle.checks.specs.Moves.{move_of}
-use Rattle.choices.proofs.Refreshed.{fresh-open, fresh-stale, fresh-waiting, fresh-passed}
+use Rattle.tables.specs.Lent.{lent_tables, lent_move}
+use Rattle.tables.proofs.Answered.{place-fits, err-said}
+use Rattle.choices.proofs.Refreshed.{fresh-open, fresh-stale, fresh-waiting}
 use Rattle.choices.proofs.renewals.fresh_checks.Goals as goal
 
 pub returns-then-not-closed : goal.returns-then-not-closed
-returns-then-not-closed g c =
-    let t = lent c.args.n c.args.m c.args.e c.args.kinds.now c.args.makes.now c.args.params.now c.args.firsts.now c.args.counts.now c.args.vars.now c.args.coefs.now in
-    let sound = subst Sound (sym c.requires.0) c.requires.1.0 in
-    let few = (sized-facts t sound.sized).n-most in
-    let closes = sym (rw (← c.requires.0) at c.requires.1.1.1.0) ∙ c.if-not-closed.true in
-    rw (← c.requires.0) (sym (ap (answer_of 0) (fresh-open t c.args.stored.now (move_of c.args.pairs c.args.move_vars.now c.args.move_values.now) sound closes)))
+returns-then-not-closed c =
+    let t = lent_tables c.args.tables.now in
+    sym (ap (answer_of tt) (fresh-open t c.args.stored.now (lent_move c.args.mv.now) c.requires.sound (sym c.requires.closing ∙ c.if-not-closed.true)))
 
-pub refused-requires : goal.refused-requires
-refused-requires g c =
-    let t = lent c.args.n c.args.m c.args.e c.args.kinds.now c.args.makes.now c.args.params.now c.args.firsts.now c.args.counts.now c.args.vars.now c.args.coefs.now in
-    let sound = subst Sound (sym c.requires.0) c.requires.1.0 in
-    let few = (sized-facts t sound.sized).n-most in
-    omega arith
+pub none_fails-requires : goal.none_fails-requires
+none_fails-requires c =
+    let few = (sized-facts (lent_tables c.args.tables.now) c.requires.sound.sized).n-most in place-fits _ _ _ c.first_stale.ensures (omega arith)
 
-pub returns-then-stale-n : goal.returns-then-stale-n
-returns-then-stale-n g c =
-    let t = lent c.args.n c.args.m c.args.e c.args.kinds.now c.args.makes.now c.args.params.now c.args.firsts.now c.args.counts.now c.args.vars.now c.args.coefs.now in
-    let sound = subst Sound (sym c.requires.0) c.requires.1.0 in
-    let few = (sized-facts t sound.sized).n-most in
-    let closes = sym (rw (← c.requires.0) at c.requires.1.1.1.0) ∙ c.if-not-closed.false in
-    rw (← c.requires.0) (c.refused.ensures ∙ sym (ap (answer_of 0) (fresh-stale t c.args.stored.now (move_of c.args.pairs c.args.move_vars.now c.args.move_values.now) closes c.first_stale-stale.ensures c.if-stale-n.true)))
+pub returns-in_err-none_fails : goal.returns-in_err-none_fails
+returns-in_err-none_fails c =
+    let t = lent_tables c.args.tables.now in let closes = sym c.requires.closing ∙ c.if-not-closed.false in
+    err-said _ _ c.from_residual.ensures.1
+    ∙ fresh-stale t c.args.stored.now (lent_move c.args.mv.now) closes c.first_stale.ensures _ (sym c.none_fails.ensures ∙ c.in_err-none_fails.was)
 
-pub refused-requires-then-stuck-n : goal.refused-requires-then-stuck-n
-refused-requires-then-stuck-n g c =
-    let t = lent c.args.n c.args.m c.args.e c.args.kinds.now c.args.makes.now c.args.params.now c.args.firsts.now c.args.counts.now c.args.vars.now c.args.coefs.now in
-    let sound = subst Sound (sym c.requires.0) c.requires.1.0 in
-    let few = (sized-facts t sound.sized).n-most in
-    omega arith
-
-pub returns-then-stuck-n : goal.returns-then-stuck-n
-returns-then-stuck-n g c =
-    let t = lent c.args.n c.args.m c.args.e c.args.kinds.now c.args.makes.now c.args.params.now c.args.firsts.now c.args.counts.now c.args.vars.now c.args.coefs.now in
-    let sound = subst Sound (sym c.requires.0) c.requires.1.0 in
-    let few = (sized-facts t sound.sized).n-most in
-    let closes = sym (rw (← c.requires.0) at c.requires.1.1.1.0) ∙ c.if-not-closed.false in
-    rw (← c.requires.0) (c.refused-then-stuck-n.ensures ∙ sym (ap (answer_of 0) (fresh-waiting t c.args.stored.now (move_of c.args.pairs c.args.move_vars.now c.args.move_values.now) closes c.first_stale-stale.ensures c.if-stale-n.false (rw (← c.requires.0) at c.first_stuck-stuck.ensures) c.if-stuck-n.true)))
+pub none_fails-requires-2 : goal.none_fails-requires-2
+none_fails-requires-2 c =
+    let few = (sized-facts (lent_tables c.args.tables.now) c.requires.sound.sized).n-most in place-fits _ _ _ c.first_stuck.ensures (omega arith)
 
 pub returns : goal.returns
-returns g c =
-    let t = lent c.args.n c.args.m c.args.e c.args.kinds.now c.args.makes.now c.args.params.now c.args.firsts.now c.args.counts.now c.args.vars.now c.args.coefs.now in
-    let sound = subst Sound (sym c.requires.0) c.requires.1.0 in
-    let few = (sized-facts t sound.sized).n-most in
-    let closes = sym (rw (← c.requires.0) at c.requires.1.1.1.0) ∙ c.if-not-closed.false in
-    rw (← c.requires.0) (sym (ap (answer_of 0) (fresh-passed t c.args.stored.now (move_of c.args.pairs c.args.move_vars.now c.args.move_values.now) closes c.first_stale-stale.ensures c.if-stale-n.false (rw (← c.requires.0) at c.first_stuck-stuck.ensures) c.if-stuck-n.false)))
+returns c =
+    let t = lent_tables c.args.tables.now in let closes = sym c.requires.closing ∙ c.if-not-closed.false in
+    c.none_fails-2.ensures
+    ∙ fresh-waiting t c.args.stored.now (lent_move c.args.mv.now) closes c.first_stale.ensures _ (sym c.none_fails.ensures ∙ c.in_ok-none_fails.was) c.first_stuck.ensures

@@ -5,7 +5,8 @@ use lib.ListN.{replicate}
 use lib.Seq.{length-take-le}
 use Rattle.paper.specs.Lists.{all, nat, over}
 use Rattle.paper.specs.Net.{mark-guided}
-use Rattle.paper.specs.Tables.{Tables, lent}
+use Rattle.tables.specs.Lent.{lent_tables}
+use Rattle.paper.specs.Tables.{Tables}
 use Rattle.paper.specs.Checks.{Sound}
 use Rattle.paper.proofs.Sizes.{sized-facts}
 use Rattle.tables.specs.Makers.{Makers}
@@ -67,52 +68,52 @@ module _ (t : Tables) (stored trial values : List ℤ) (R : Renewed t stored tri
 
 pub spread_moved-requires-clause-upward : goal.spread_moved-requires-clause-upward
 spread_moved-requires-clause-upward c =
-    let t = lent c.args.n c.args.m c.args.e c.args.kinds.now c.args.makes.now c.args.params.now c.args.firsts.now c.args.counts.now c.args.vars.now c.args.coefs.now in
+    let t = lent_tables c.args.tables.now in
     upward t c.requires.renewed.steady.sound _ _ c.requires.index
 
 pub spread_moved-requires-clause-markable : goal.spread_moved-requires-clause-markable
 spread_moved-requires-clause-markable c =
-    let t = lent c.args.n c.args.m c.args.e c.args.kinds.now c.args.makes.now c.args.params.now c.args.firsts.now c.args.counts.now c.args.vars.now c.args.coefs.now in
+    let t = lent_tables c.args.tables.now in
     let d = c.requires.renewed.steady.sound in clean-markable t d _ _ c.requires.index (replicate 4096 0) (clean t d)
 
 pub plan_work-requires : goal.plan_work-requires
 plan_work-requires c =
-    let t = lent c.args.n c.args.m c.args.e c.args.kinds.now c.args.makes.now c.args.params.now c.args.firsts.now c.args.counts.now c.args.vars.now c.args.coefs.now in
+    let t = lent_tables c.args.tables.now in
     let d = c.requires.renewed.steady.sound in
-    let long = marks-long t d c.args.starts.now c.args.places.now c.requires.index c.args.stored.now c.args.trial.now c.args.flags.now c.args.moves.now
+    let long = marks-long t d c.args.index.now.starts.now c.args.index.now.places.now c.requires.index c.args.stored.now c.args.trial.now c.args.flags.now c.args.moves.now
     c.requires.begun c.requires.named _ _ (clean t d) c.spread_moved.ensures in
     (c.requires.makers.long, long, (sized-facts t d.sized).n-most)
 
 pub slice_bounds-work-end : goal.slice_bounds-work-end
 slice_bounds-work-end c =
-    let t = lent c.args.n c.args.m c.args.e c.args.kinds.now c.args.makes.now c.args.params.now c.args.firsts.now c.args.counts.now c.args.vars.now c.args.coefs.now in
-    over-fits c.args.n _ _ _ c.plan_work.ensures (sized-facts t c.requires.renewed.steady.sound.sized).n-most
+    let t = lent_tables c.args.tables.now in
+    over-fits c.args.tables.now.n _ _ _ c.plan_work.ensures (sized-facts t c.requires.renewed.steady.sound.sized).n-most
 
 pub slice_bounds-look_all-end : goal.slice_bounds-look_all-end
 slice_bounds-look_all-end c =
-    let t = lent c.args.n c.args.m c.args.e c.args.kinds.now c.args.makes.now c.args.params.now c.args.firsts.now c.args.counts.now c.args.vars.now c.args.coefs.now in
-    sym (length-take-le c.args.n _ (over-fits c.args.n _ _ _ c.plan_work.ensures (sized-facts t c.requires.renewed.steady.sound.sized).n-most))
+    let t = lent_tables c.args.tables.now in
+    sym (length-take-le c.args.tables.now.n _ (over-fits c.args.tables.now.n _ _ _ c.plan_work.ensures (sized-facts t c.requires.renewed.steady.sound.sized).n-most))
 
 pub look_all-requires-clause-laid : goal.look_all-requires-clause-laid
 look_all-requires-clause-laid c =
-    let t = lent c.args.n c.args.m c.args.e c.args.kinds.now c.args.makes.now c.args.params.now c.args.firsts.now c.args.counts.now c.args.vars.now c.args.coefs.now in
+    let t = lent_tables c.args.tables.now in
     ready-laid t c.args.stored.now c.args.trial.now c.args.values.now c.requires.renewed c.args.asked.now c.args.flags.now c.requires.begun c.requires.asked c.args.by.now c.requires.makers
     _ _ c.plan_work.ensures
 
 pub look_all-requires-clause-there : goal.look_all-requires-clause-there
 look_all-requires-clause-there c =
-    let t = lent c.args.n c.args.m c.args.e c.args.kinds.now c.args.makes.now c.args.params.now c.args.firsts.now c.args.counts.now c.args.vars.now c.args.coefs.now in
+    let t = lent_tables c.args.tables.now in
     ready-there t c.args.stored.now c.args.trial.now c.args.values.now c.requires.renewed c.args.asked.now c.args.flags.now c.requires.begun c.requires.asked c.args.by.now c.requires.makers
     _ _ c.plan_work.ensures
 
 pub look_all-requires-clause-closed : goal.look_all-requires-clause-closed
 look_all-requires-clause-closed c =
-    let t = lent c.args.n c.args.m c.args.e c.args.kinds.now c.args.makes.now c.args.params.now c.args.firsts.now c.args.counts.now c.args.vars.now c.args.coefs.now in
+    let t = lent_tables c.args.tables.now in
     ready-closed t c.args.stored.now c.args.trial.now c.args.values.now c.requires.renewed c.args.asked.now c.args.flags.now c.requires.begun c.requires.asked c.args.by.now c.requires.makers
     _ _ c.plan_work.ensures
 
 pub returns : goal.returns
 returns c =
-    let t = lent c.args.n c.args.m c.args.e c.args.kinds.now c.args.makes.now c.args.params.now c.args.firsts.now c.args.counts.now c.args.vars.now c.args.coefs.now in
+    let t = lent_tables c.args.tables.now in
     flagged-over t c.args.stored.now c.args.trial.now c.args.values.now c.requires.renewed c.args.asked.now c.args.flags.now c.requires.begun c.requires.asked c.args.by.now c.requires.makers
-    _ _ c.plan_work.ensures c.args.starts.now c.args.places.now c.requires.index c.args.moves.now c.requires.named c.spread_moved.ensures _ c.look_all.ensures
+    _ _ c.plan_work.ensures c.args.index.now.starts.now c.args.index.now.places.now c.requires.index c.args.moves.now c.requires.named c.spread_moved.ensures _ c.look_all.ensures

@@ -2,8 +2,8 @@
 -- (`followed-routed`). Assumes nothing.
 use Rattle.std.proofs.Common.{arith, pos}
 use lib.ListN.{replicate}
-use Rattle.paper.specs.Tables.{lent}
-use Rattle.paper.specs.Calls.{route_of}
+use Rattle.tables.specs.Lent.{lent_tables}
+use Rattle.routes.specs.Numbered.{route_meant}
 use Rattle.paper.proofs.Sizes.{sized-facts}
 use Rattle.order.proofs.Sweeps.{clean-new}
 use Rattle.closed_routes.proofs.Follows.{renewed, flagged-long, followed-routed}
@@ -11,28 +11,28 @@ use Rattle.closed_routes.proofs.followed.follow_route.Goals as goal
 
 pub copy_values-requires : goal.copy_values-requires
 copy_values-requires c =
-    let t = lent c.args.n c.args.m c.args.e c.args.kinds.now c.args.makes.now c.args.params.now c.args.firsts.now c.args.counts.now c.args.vars.now c.args.coefs.now in
+    let t = lent_tables c.args.tables.now in
     (c.requires.begun.in-trial, (sized-facts t c.requires.steady.sound.sized).n-most)
 
 pub follow_choices-requires-clause-room : goal.follow_choices-requires-clause-room
 follow_choices-requires-clause-room c =
-    let t = lent c.args.n c.args.m c.args.e c.args.kinds.now c.args.makes.now c.args.params.now c.args.firsts.now c.args.counts.now c.args.vars.now c.args.coefs.now in
+    let t = lent_tables c.args.tables.now in
     omega (arith, (sized-facts t c.requires.steady.sound.sized).n-most, c.copy_values.auto.to)
 
 pub follow_choices-requires-clause-clean : goal.follow_choices-requires-clause-clean
 follow_choices-requires-clause-clean c =
-    let t = lent c.args.n c.args.m c.args.e c.args.kinds.now c.args.makes.now c.args.params.now c.args.firsts.now c.args.counts.now c.args.vars.now c.args.coefs.now in
-    clean-new c.args.n 4096 (sized-facts t c.requires.steady.sound.sized).n-most
+    let t = lent_tables c.args.tables.now in
+    clean-new c.args.tables.now.n 4096 (sized-facts t c.requires.steady.sound.sized).n-most
 
 pub flag_evaluated-requires-clause-renewed : goal.flag_evaluated-requires-clause-renewed
 flag_evaluated-requires-clause-renewed c =
-    let t = lent c.args.n c.args.m c.args.e c.args.kinds.now c.args.makes.now c.args.params.now c.args.firsts.now c.args.counts.now c.args.vars.now c.args.coefs.now in
+    let t = lent_tables c.args.tables.now in
     renewed t c.args.stored.now c.args.trial.now c.args.flags.now c.requires.steady c.requires.begun (replicate 4096 (pos 0)) _ _ _
     (sized-facts t c.requires.steady.sound.sized).n-most c.copy_values.ensures c.follow_choices.ensures
 
 pub take_values-requires : goal.take_values-requires
 take_values-requires c =
-    let t = lent c.args.n c.args.m c.args.e c.args.kinds.now c.args.makes.now c.args.params.now c.args.firsts.now c.args.counts.now c.args.vars.now c.args.coefs.now in (
+    let t = lent_tables c.args.tables.now in (
       flagged-long t c.args.stored.now c.args.trial.now c.args.flags.now c.requires.steady c.requires.begun _ c.args.asked.now _ c.flag_evaluated.ensures,
       (renewed t c.args.stored.now c.args.trial.now c.args.flags.now c.requires.steady c.requires.begun (replicate 4096 (pos 0)) _ _ _
           (sized-facts t c.requires.steady.sound.sized).n-most c.copy_values.ensures c.follow_choices.ensures).in-values,
@@ -41,8 +41,8 @@ take_values-requires c =
 
 pub returns : goal.returns
 returns c =
-    let t = lent c.args.n c.args.m c.args.e c.args.kinds.now c.args.makes.now c.args.params.now c.args.firsts.now c.args.counts.now c.args.vars.now c.args.coefs.now in
-    followed-routed t c.args.stored.now c.args.trial.now c.args.flags.now c.requires.steady c.requires.begun (route_of c.args.route) c.args.asked.now _ _ _
+    let t = lent_tables c.args.tables.now in
+    followed-routed t c.args.stored.now c.args.trial.now c.args.flags.now c.requires.steady c.requires.begun (route_meant c.args.route) c.args.asked.now _ _ _
     (renewed t c.args.stored.now c.args.trial.now c.args.flags.now c.requires.steady c.requires.begun (replicate 4096 (pos 0)) _ _ _
     (sized-facts t c.requires.steady.sound.sized).n-most c.copy_values.ensures c.follow_choices.ensures)
     c.flag_evaluated.ensures c.take_values.ensures

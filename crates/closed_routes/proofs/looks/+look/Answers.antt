@@ -8,7 +8,7 @@ use Rattle.paper.proofs.Lists.{clash}
 use Rattle.routes.specs.Rows.{values_of}
 use Rattle.routes.proofs.Asks.{idle}
 use Rattle.routes.proofs.InTurn.{turn-less}
-use Rattle.closed_routes.specs.Looking.{shapes, Lookable}
+use Rattle.closed_routes.specs.Looking.{shapes, shapes_lent, Lookable}
 use Rattle.closed_routes.proofs.Walks.{walked-still}
 use Rattle.closed_routes.proofs.InTurn.{Known, turn-start, turn_end, turn-call, turn-next}
 use Rattle.closed_routes.proofs.looks.+look.Goals as goal
@@ -26,16 +26,16 @@ known {work = work} {v = v} laid room unseen e h p q =
 pub returns-then-maker-eq0 : goal.returns-then-maker-eq0
 returns-then-maker-eq0 t c =
     let none : nat c.args.work.now c.args.v ≡ 0 = omega (arith, c.wide-maker.ensures.0, c.if-maker-eq0.true) in
-    walked-still _ _ _ _ (λ w. clash w (idle (shapes c.args.kinds.now c.args.firsts.now c.args.counts.now c.args.vars.now) _ _ none))
+    walked-still _ _ _ _ (λ w. clash w (idle (shapes_lent c.args.tables.now) _ _ none))
 
-pub bounds-kinds-r : goal.bounds-kinds-r
-bounds-kinds-r t c = c.requires.laid.in-kinds _ _ (row_of c.args.v c.args.work.now c.wide-maker.ensures.0 c.if-maker-eq0.false)
+pub bounds-tables-r : goal.bounds-tables-r
+bounds-tables-r t c = c.requires.laid.in-kinds _ _ (row_of c.args.v c.args.work.now c.wide-maker.ensures.0 c.if-maker-eq0.false)
 
-pub bounds-firsts-r : goal.bounds-firsts-r
-bounds-firsts-r t c = c.requires.laid.parts.in-firsts _ _ (row_of c.args.v c.args.work.now c.wide-maker.ensures.0 c.if-maker-eq0.false)
+pub bounds-tables-r-2 : goal.bounds-tables-r-2
+bounds-tables-r-2 t c = c.requires.laid.parts.in-firsts _ _ (row_of c.args.v c.args.work.now c.wide-maker.ensures.0 c.if-maker-eq0.false)
 
-pub bounds-counts-r : goal.bounds-counts-r
-bounds-counts-r t c = c.requires.laid.parts.in-counts _ _ (row_of c.args.v c.args.work.now c.wide-maker.ensures.0 c.if-maker-eq0.false)
+pub bounds-tables-r-3 : goal.bounds-tables-r-3
+bounds-tables-r-3 t c = c.requires.laid.parts.in-counts _ _ (row_of c.args.v c.args.work.now c.wide-maker.ensures.0 c.if-maker-eq0.false)
 
 pub loop-i-init : goal.loop-i-init
 loop-i-init t c =

@@ -2,7 +2,7 @@
 use Rattle.std.proofs.Common.{◌-◌, length}
 use Rattle.paper.specs.Lists.{size}
 use Rattle.closed_routes.specs.Walk.{unmarked}
-use Rattle.closed_routes.specs.Looking.{shapes}
+use Rattle.closed_routes.specs.Looking.{shapes_lent}
 use Rattle.closed_routes.proofs.InTurn.{InTurn}
 use Rattle.closed_routes.proofs.looks.+look.Given as goal
 
@@ -11,7 +11,7 @@ decreases-look l = size (unmarked l.flags.now) (length l.work.now)
 
 abbrev pub invariant-loop-i : goal.invariant-loop-i
 invariant-loop-i l =
-    InTurn (shapes l.kinds l.firsts l.counts l.vars) l.work l.values l.v l.r l.first l.last l.i l.initial.flags l.flags
+    InTurn (shapes_lent l.tables) l.work l.values l.v l.r l.first l.last l.i l.initial.flags l.flags
 
 abbrev pub decreases-loop-i : goal.decreases-loop-i
 decreases-loop-i l = l.last - l.i

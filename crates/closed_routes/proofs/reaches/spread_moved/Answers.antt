@@ -8,20 +8,20 @@ use Rattle.closed_routes.proofs.reaches.spread_moved.Goals.{then-moved, else-mov
 -- the named variable is one of the index
 pub moved-requires : goal.moved-requires
 moved-requires c =
-    let low = subst (λ v. suc v < length c.args.starts.now) (sym c.wide-v.ensures.0) (c.requires.movable.low _ (at_place c.args.moves.now c.loop-i.i c.loop-i-test.true)) in
+    let low = subst (λ v. suc v < length c.args.index.now.starts.now) (sym c.wide-v.ensures.0) (c.requires.movable.low _ (at_place c.args.moves.now c.loop-m.m-index c.loop-m-test.true)) in
     (omega (arith, low, c.requires.movable.in-stored), omega (arith, low, c.requires.movable.in-trial))
 
 pub spread-requires-clause-there : goal.spread-requires-clause-there
 spread-requires-clause-there c =
-    let low = subst (λ v. suc v < length c.args.starts.now) (sym c.wide-v.ensures.0) (c.requires.movable.low _ (at_place c.args.moves.now c.loop-i.i c.loop-i-test.true)) in
-    (low, omega (arith, c.requires.markable.room, c.loop-i.invariant.long))
+    let low = subst (λ v. suc v < length c.args.index.now.starts.now) (sym c.wide-v.ensures.0) (c.requires.movable.low _ (at_place c.args.moves.now c.loop-m.m-index c.loop-m-test.true)) in
+    (low, omega (arith, c.requires.markable.room, c.loop-m.invariant.long))
 
-pub loop-i-preserved : goal.loop-i-preserved
-loop-i-preserved c =
+pub loop-m-preserved : goal.loop-m-preserved
+loop-m-preserved c =
     elim c.if-moved.branch [
-      | then-moved w ↦ rw w.marks-is (passed-yes _ _ c.args.stored.now c.args.trial.now _ c.loop-i.i _ c.loop-i.invariant c.loop-i-test.true _ c.wide-v.ensures.0 _ c.moved.ensures w.if-moved.true _ (walked-reached _ _ _ _ _ c.loop-i.invariant.closed w.spread.ensures))
-      | else-moved w ↦ rw w.marks-is (passed-no _ _ c.args.stored.now c.args.trial.now _ c.loop-i.i _ c.loop-i.invariant c.loop-i-test.true _ c.wide-v.ensures.0 _ c.moved.ensures w.if-moved.false)
+      | then-moved w ↦ rw w.marks-is (passed-yes _ _ c.args.stored.now c.args.trial.now _ c.loop-m.m-index _ c.loop-m.invariant c.loop-m-test.true _ c.wide-v.ensures.0 _ c.moved.ensures w.if-moved.true _ (walked-reached _ _ _ _ _ c.loop-m.invariant.closed w.spread.ensures))
+      | else-moved w ↦ rw w.marks-is (passed-no _ _ c.args.stored.now c.args.trial.now _ c.loop-m.m-index _ c.loop-m.invariant c.loop-m-test.true _ c.wide-v.ensures.0 _ c.moved.ensures w.if-moved.false)
     ]
 
 pub returns : goal.returns
-returns c = passed-end _ _ c.args.stored.now c.args.trial.now _ c.loop-i.i _ c.loop-i.invariant c.loop-i-test.false
+returns c = passed-end _ _ c.args.stored.now c.args.trial.now _ c.loop-m.m-index _ c.loop-m.invariant c.loop-m-test.false

@@ -1,12 +1,9 @@
 -- The count stays how many of the numbers passed have the flag wanted. Assumes nothing.
-use Prim.Native.Nat.{◌-◌, ◌≤◌}
+use Prim.Native.Nat.{◌≤◌}
 use mathlib.Core.Path.{◌≡◌}
 use lib.ListN.{length}
 use Rattle.damage.specs.Flags.{flagged}
 use Rattle.damage.proofs.flags.count_flagged.Given as goal
 
-abbrev pub invariant-loop-i : goal.invariant-loop-i
-invariant-loop-i l = (l.i ≤ l.n) × (l.k ≡ length (flagged l.wanted l.flags l.i))
-
-abbrev pub decreases-loop-i : goal.decreases-loop-i
-decreases-loop-i l = l.n - l.i
+abbrev pub invariant-loop-flag : goal.invariant-loop-flag
+invariant-loop-flag l = (l.flag-index ≤ l.n) × (l.k ≡ length (flagged l.wanted l.flags l.flag-index))

@@ -1,23 +1,39 @@
-use native.Mathlib.Omega.{arith}
-use mathlib.Core.Bool.{false}
-use lib.ListN.{get_or}
+use Rattle.std.proofs.Common.{ℕ, ◌<◌, Bool, false, get_or, length-take-le, arith}
 use Rattle.damage.specs.Flags.{flag_wanted}
-use Rattle.damage.proofs.Stored.{those-joined, placed-room, placed-next, placed_end}
+use Rattle.damage.proofs.Stored.{those-joined, placed-fits, placed-taken, placed-passed, placed_end, wanted-of}
+use Rattle.damage.proofs.flags.list_flagged.Goals.{then-flag-wanted, else-flag-wanted}
 use Rattle.damage.proofs.flags.list_flagged.Goals as goal
 
-pub add_if-to-requires : goal.add_if-to-requires
-add_if-to-requires c =
-    let l = c.loop-i in let s = c.before.before.before.before.before.before.before.before in
-    let room = rw (those-joined (λ v. flag_wanted s.args.wanted (get_or s.args.flags.now v false)) s.args.n) at s.requires.2 in
-    rw c.choose.ensures (placed-room l.invariant.1 s.args.n (omega arith) room)
+pub bounds-list-to : goal.bounds-list-to
+bounds-list-to c =
+    let p : ℕ → Bool = λ v. flag_wanted c.args.wanted (get_or c.args.flags.now v false) in
+    let low : c.loop-i.i < c.args.n = omega (arith, length-take-le c.args.n c.args.flags.now c.requires.0) in
+    placed-fits p c.loop-i.invariant.1 (wanted-of c.args.flags.now c.args.wanted _ c.args.n low c.if-flag-wanted.true) c.args.n low c.requires.2
+
+pub overflow_add-to : goal.overflow_add-to
+overflow_add-to c =
+    let p : ℕ → Bool = λ v. flag_wanted c.args.wanted (get_or c.args.flags.now v false) in
+    let low : c.loop-i.i < c.args.n = omega (arith, length-take-le c.args.n c.args.flags.now c.requires.0) in
+    let fits = placed-fits p c.loop-i.invariant.1 (wanted-of c.args.flags.now c.args.wanted _ c.args.n low c.if-flag-wanted.true) c.args.n low c.requires.2 in omega arith
+
+pub offset_bounds-list-to : goal.offset_bounds-list-to
+offset_bounds-list-to c =
+    let p : ℕ → Bool = λ v. flag_wanted c.args.wanted (get_or c.args.flags.now v false) in
+    let low : c.loop-i.i < c.args.n = omega (arith, length-take-le c.args.n c.args.flags.now c.requires.0) in
+    let fits = placed-fits p c.loop-i.invariant.1 (wanted-of c.args.flags.now c.args.wanted _ c.args.n low c.if-flag-wanted.true) c.args.n low c.requires.2 in omega arith
 
 pub loop-i-preserved : goal.loop-i-preserved
 loop-i-preserved c =
-    let l = c.loop-i in
-    let e = rw c.choose.ensures at c.add_if-to.ensures in
-    (omega arith, placed-next l.invariant.1 e.0 e.1)
+    let p : ℕ → Bool = λ v. flag_wanted c.args.wanted (get_or c.args.flags.now v false) in
+    let low : c.loop-i.i < c.args.n = omega (arith, length-take-le c.args.n c.args.flags.now c.requires.0) in (
+      omega arith,
+      elim c.if-flag-wanted.branch [
+        | then-flag-wanted w ↦ rw (w.list-is, w.to-is) (placed-taken p c.loop-i.invariant.1 (wanted-of c.args.flags.now c.args.wanted _ c.args.n low w.if-flag-wanted.true))
+        | else-flag-wanted w ↦ rw (w.list-is, w.to-is) (placed-passed p c.loop-i.invariant.1 (wanted-of c.args.flags.now c.args.wanted _ c.args.n low w.if-flag-wanted.false))
+      ],
+    )
 
 pub returns : goal.returns
 returns c =
-    let s = c.before.before.before.before.before in let l = c.loop-i in
-    rw (those-joined (λ v. flag_wanted s.args.wanted (get_or s.args.flags.now v false)) s.args.n) (placed_end l.invariant.1 s.args.n (omega arith))
+    rw (those-joined (λ v. flag_wanted c.args.wanted (get_or c.args.flags.now v false)) c.args.n)
+    (placed_end c.loop-i.invariant.1 c.args.n (omega (arith, length-take-le c.args.n c.args.flags.now c.requires.0)))

@@ -1,5 +1,5 @@
 -- What is stored stays the numbers passed whose flag is the one wanted (`Placed`); each turn adds one or none. Assumes nothing.
-use Prim.Native.Nat.{◌-◌, ◌≤◌}
+use Prim.Native.Nat.{◌≤◌}
 use mathlib.Core.Bool.{cond, false}
 use mathlib.Core.List.{[], ◌∷◌}
 use lib.ListN.{get_or}
@@ -9,6 +9,3 @@ use Rattle.damage.proofs.flags.list_flagged.Given as goal
 
 abbrev pub invariant-loop-i : goal.invariant-loop-i
 invariant-loop-i l = (l.i ≤ l.n) × Placed (λ v. cond (flag_wanted l.wanted (get_or l.flags v false)) (v ∷ []) []) l.initial.list l.at l.list l.to l.i
-
-abbrev pub decreases-loop-i : goal.decreases-loop-i
-decreases-loop-i l = l.n - l.i

@@ -1,23 +1,24 @@
--- A wrong header is refused, then short rows; else the counts are told. Assumes nothing.
-use Rattle.paper.specs.Tables.{lent}
-use Rattle.paper.specs.File.{version_of, contents}
+-- A wrong header is refused, then short rows; else the size is told. Assumes nothing.
+use Rattle.paper.specs.File.{counted}
+use Rattle.fields.specs.Places.{version_in}
+use Rattle.files.specs.Lent.{lent_contents}
+use Rattle.files.proofs.Early.{left_early}
 use Rattle.files.proofs.Answered.{refused-header, short-rows, room-enough}
 use Rattle.files.proofs.lay.judge_reading.Goals as goal
 
-pub returns-in_default : goal.returns-in_default
-returns-in_default c =
+pub returns-in_err-size : goal.returns-in_err-size
+returns-in_err-size c =
     let a = c.args in
-    refused-header (version_of a.bounds) a.bytes.now (contents (lent 0 0 0 a.kinds.now a.makes.now a.params.now a.firsts.now a.counts.now a.vars.now a.coefs.now) a.starts.now a.lows.now a.highs.now)
-    c.header_as-told.ensures c.in_default.is
+    rw (left_early _ c.from_residual.ensures.1)
+    (refused-header (version_in a.version) a.bytes.now (counted 0 0 0 (lent_contents a.rows.now a.starts.now a.bounds.now)) c.in_err-size.ensures)
 
-pub returns-then-not-held : goal.returns-then-not-held
-returns-then-not-held c =
+pub returns-then-not-rows_held : goal.returns-then-not-rows_held
+returns-then-not-rows_held c =
     let a = c.args in
-    short-rows (version_of a.bounds) a.bytes.now (contents (lent 0 0 0 a.kinds.now a.makes.now a.params.now a.firsts.now a.counts.now a.vars.now a.coefs.now) a.starts.now a.lows.now a.highs.now)
-    c.header_as-told.ensures c.in-Accepted.is (rw (← c.rows_held-held.ensures) c.if-not-held.true)
+    rw c.refused.ensures
+    (short-rows (version_in a.version) a.bytes.now (counted 0 0 0 (lent_contents a.rows.now a.starts.now a.bounds.now)) c.in_ok-size.ensures (rw (← c.rows_held.ensures) c.if-not-rows_held.true))
 
 pub returns : goal.returns
 returns c =
     let a = c.args in
-    room-enough (version_of a.bounds) a.bytes.now (contents (lent 0 0 0 a.kinds.now a.makes.now a.params.now a.firsts.now a.counts.now a.vars.now a.coefs.now) a.starts.now a.lows.now a.highs.now)
-    c.header_as-told.ensures c.in-Accepted.is (rw (← c.rows_held-held.ensures) c.if-not-held.false)
+    room-enough (version_in a.version) a.bytes.now (counted 0 0 0 (lent_contents a.rows.now a.starts.now a.bounds.now)) c.in_ok-size.ensures (rw (← c.rows_held.ensures) c.if-not-rows_held.false)

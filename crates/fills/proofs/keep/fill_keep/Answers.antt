@@ -30,7 +30,7 @@ copy_values-requires c =
     (omega (arith, room, c.begin_route.auto.trial, c.run_route.auto.trial), c.requires.keep_accepted.in-stored)
 
 pub overflow_cast-result : goal.overflow_cast-result
-overflow_cast-result c = record { fits = count_fits _ c.args.n _ (held _ _ _ _ _ c.requires.keep_accepted).n-most c.evaluations.ensures }
+overflow_cast-result c = record { fits = count_fits _ c.args.tables.now.n _ (held _ _ _ _ _ c.requires.keep_accepted).n-most c.evaluations.ensures }
 
 pub returns : goal.returns
 returns c =

@@ -1,5 +1,5 @@
--- It is told whether a chain closes: if one does the choices are followed (`steady`), and else each number picks its route along the order (`along`), as `route_of`
--- says. Route 1 asks for nothing, so what is asked plays no part in it. Assumes nothing.
+-- It is told whether a chain closes: if one does the choices are followed (`steady`), and else each route goes along the order (`along`).
+-- Route 1 asks for nothing, so what is asked plays no part in it. Assumes nothing.
 use mathlib.Core.List.{List}
 use mathlib.Core.Path.{sym, ◌∙◌}
 use Prim.Native.Nat.{ℕ}
@@ -24,5 +24,5 @@ output_to_input-requires-clause-ended c = ended (along _ _ _ _ c.requires.runnin
 pub mark_guided-requires-clause-ended : goal.mark_guided-requires-clause-ended
 mark_guided-requires-clause-ended c = ended (along _ _ _ _ c.requires.running (sym c.requires.closing ∙ c.if-closed.false))
 
-pub returns-in-1 : goal.returns-in-1
-returns-in-1 c = rw c.in-1.is (record { values = c.input_to_output.ensures.values; flagged = c.input_to_output.ensures.flagged })
+pub returns-in-InputToOutput : goal.returns-in-InputToOutput
+returns-in-InputToOutput c = rw c.in-InputToOutput.is (record { values = c.input_to_output.ensures.values; flagged = c.input_to_output.ensures.flagged })

@@ -1,6 +1,5 @@
 -- The exact difference is judged once, where it is positive. Assumes nothing.
 use mathlib.Core.Path.{◌≡◌, ◌∙◌, ap}
-use borrow.Author.Rules.{rules}
 use lib.IntN.{◌-ℤ◌}
 use mir.Syntax.{w32, w64}
 use mir.Facts.{to_z-of_z}

@@ -5,9 +5,6 @@ use mir.Syntax.{w32}
 use Rattle.integers.proofs.Bits.{eqb-bits}
 use Rattle.formulas.proofs.shares.one_of_four.Goals as goal
 
-pub one_if-requires : goal.one_if-requires
-one_if-requires c = tt
-
 pub returns : goal.returns
 returns c =
     let s = c.args in let f = c.ranges in

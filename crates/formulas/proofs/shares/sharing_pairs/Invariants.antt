@@ -1,11 +1,7 @@
 -- The places before i had their turn (`TurnsTaken`), four at a time, and then those that are left. Assumes nothing.
 use Prim.Native.Nat.{◌-◌, ◌≤◌}
-use native.Mathlib.Omega.{arith}
-use mathlib.Core.Path.{sym}
-use borrow.Author.Rules.{rules}
 use lib.ListN.{length}
 use Rattle.formulas.specs.Marks.{TurnsTaken}
-use Rattle.formulas.proofs.Pairs.{turned_none}
 use Rattle.formulas.proofs.shares.sharing_pairs.Given as goal
 
 abbrev pub invariant-loop-i : goal.invariant-loop-i

@@ -1,18 +1,17 @@
-use native.Mathlib.Omega.{arith}
-use mathlib.Core.Path.{sym, ◌∙◌}
+use mathlib.Core.Bool.{true, false}
+use mathlib.Core.Path.{◌≡◌}
 use lib.IntN.{pos}
-use lib.ListN.{get_or}
+use lib.ListN.{take}
+use lib.Signed.{lt_z}
 use borrow.Author.Rules.{rules}
-use mir.Syntax.{w32}
-use mir.Val.{SFits}
-use mir.Facts.{to_z-of_z}
-use Rattle.paper.proofs.Scan.{scan-found, scan-all}
+use borrow.Author.Tests.{tests}
+use Rattle.std.proofs.lemmas.Iterator.{IsFirst-from_position, YieldsList-from_slice}
+use Rattle.tables.proofs.Positions.{first-position}
 use Rattle.frequencies.proofs.checks.first_bad_headway.Goals as goal
 
-pub returns-then-not-headway_good : goal.returns-then-not-headway_good
-returns-then-not-headway_good c =
-    let h : SFits w32 (get_or c.args.headways.now c.loop-i.i (pos 0)) = search rules in
-    scan-found _ _ _ c.loop-i.invariant (omega arith) (sym (simp (to_z-of_z h) at c.headway_good.ensures) ∙ c.if-not-headway_good.true)
-
 pub returns : goal.returns
-returns c = scan-all _ _ _ c.loop-i.invariant (omega arith)
+returns c =
+    let w = c.args.windows.now in
+    first-position (λ h. lt_z (pos 0) h) (pos 0) w.count w.headways.now _ c.requires.headways
+    (IsFirst-from_position _ _ _ (λ h. lt_z (pos 0) h ≡ false) (λ h. lt_z (pos 0) h ≡ true) c.position.ensures.ran (YieldsList-from_slice (take w.count w.headways.now) cc)
+    (λ x q k. search (rules, tests)) (λ x q k. search (rules, tests)))

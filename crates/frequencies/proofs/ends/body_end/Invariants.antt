@@ -2,8 +2,5 @@
 use Rattle.frequencies.proofs.Behind.{Behind}
 use Rattle.frequencies.proofs.ends.body_end.Given as goal
 
-abbrev pub invariant-loop-end : goal.invariant-loop-end
-invariant-loop-end l = Behind l.bytes l.mark l.end
-
-abbrev pub decreases-loop-end : goal.decreases-loop-end
-decreases-loop-end l = l.end
+abbrev pub invariant-loop-last : goal.invariant-loop-last
+invariant-loop-last l = Behind l.bytes l.mark l.last

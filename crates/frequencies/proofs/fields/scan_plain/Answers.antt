@@ -4,5 +4,5 @@ use Rattle.frequencies.proofs.fields.scan_plain.Goals as goal
 
 pub returns : goal.returns
 returns c =
-    let p = c.pass_plain-passed in let e = c.pass_end-ending in
-    plain-scanned c.args.bytes.now c.args.at c.args.line c.requires.plain p.result p.ensures e.result e.ensures
+    let p = c.pass_plain-passed in let e = c.pass_end-behind in
+    plain-scanned c.args.bytes.now c.args.from.at c.args.from.line c.requires.plain p.result p.ensures e.result e.ensures

@@ -4,5 +4,5 @@ use Rattle.frequencies.proofs.fields.scan_quoted.Goals as goal
 
 pub returns : goal.returns
 returns c =
-    let q = c.pass_quotes-closing in let p = c.pass_plain-passed in let e = c.pass_end-ending in
-    quoted-scanned c.args.bytes.now c.args.at c.args.line c.requires.quoted q.result q.ensures p.result p.ensures e.result e.ensures
+    let q = c.pass_quotes-closing in let p = c.pass_plain-passed in let e = c.pass_end-behind in
+    quoted-scanned c.args.bytes.now c.args.from.at c.args.from.line c.requires.quoted q.result q.ensures p.result p.ensures e.result e.ensures

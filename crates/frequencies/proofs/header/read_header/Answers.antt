@@ -5,6 +5,6 @@ use Rattle.frequencies.proofs.header.read_header.Goals as goal
 pub returns : goal.returns
 returns c =
     let a = c.args in
-    headed a.bytes.now a.at c.find-trip.ensures
+    rw c.row_behind.ensures (headed a.bytes.now a.at c.find-trip.ensures
     c.find-start.ensures c.find-end.ensures
-    c.find-headway.ensures c.find-exact.ensures c.scan_row-row.ensures
+    c.find-headway.ensures c.find-exact.ensures c.scan_row-row.ensures)

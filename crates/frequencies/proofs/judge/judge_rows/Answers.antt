@@ -5,4 +5,4 @@ pub loop-j-preserved : goal.loop-j-preserved
 loop-j-preserved c = since-next c.loop-j.invariant c.judge_next-j.ensures
 
 pub returns : goal.returns
-returns c = since-end c.loop-j.invariant c.loop-j-test.false
+returns c = since-end c.loop-j.invariant c.in_default.is

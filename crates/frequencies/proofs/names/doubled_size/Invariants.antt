@@ -5,5 +5,5 @@ use lib.ListN.{length, take}
 use Rattle.frequencies.specs.Writing.{doubled}
 use Rattle.frequencies.proofs.names.doubled_size.Given as goal
 
-abbrev pub invariant-loop-i : goal.invariant-loop-i
-invariant-loop-i l = (l.i ≤ l.i-end) × (l.i-end ≡ length l.name) × (l.size ≡ length (doubled (take l.i l.name))) × (l.size ≤ 2 * l.i)
+abbrev pub invariant-loop-byte : goal.invariant-loop-byte
+invariant-loop-byte l = (l.size ≡ length (doubled (take l.byte-index l.name))) × (l.size ≤ 2 * l.byte-index)

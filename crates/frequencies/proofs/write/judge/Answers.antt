@@ -1,130 +1,205 @@
 -- Each check stops the chain or is passed, and then the rest of the chain decides. Assumes nothing.
-use Prim.Native.Nat.{ℕ, ◌<◌, ◌≤◌, min}
+use Prim.Native.Nat.{ℕ, ◌≤◌, ◌<◌}
 use native.Mathlib.Omega.{arith}
-use mathlib.Core.Bool.{Bool, true}
-use mathlib.Core.List.{[]}
+use mathlib.Core.Bool.{Bool, true, false, cond}
+use mathlib.Core.List.{List}
 use mathlib.Core.Path.{◌≡◌, refl, sym, ap, ◌∙◌}
+use lib.Dec.{ltb}
 use lib.ListN.{length}
-use Rattle.paper.specs.Checks.{accepted, refused}
+use borrow.Author.Tests.{ltb-true}
+use Rattle.std.specs.Prelude.{Option, Some, None, IfSome, Ok, Err}
+use Rattle.integers.specs.Below.{if_below}
 use Rattle.paper.specs.Lists.{first_fail}
-use Rattle.paper.proofs.Least.{first_fail-before}
-use Rattle.paper.proofs.Verdicts.{check-stops, check-passes, require-stops, require-next}
+use Rattle.paper.specs.Checks.{Verdict, accepted, refused, check}
+use Rattle.paper.proofs.Verdicts.{check-held, require-stops, require-next}
+use Rattle.tables.specs.Answers.{unless_at, answer_of}
+use Rattle.tables.proofs.Answered.{none_fails-stops, none_fails-passes}
 use Rattle.frequencies.specs.Puts.{AllSayable}
-use Rattle.frequencies.specs.Reading.{Windows, windows_in}
-use Rattle.frequencies.specs.declared.Carried.TheVariants.{Accepted}
-use Rattle.frequencies.proofs.Filed.{same_size}
+use Rattle.frequencies.specs.Lent.{lent_windows, AllLent}
+use Rattle.frequencies.specs.declared.Windows.{Windows}
+use Rattle.tables.proofs.Answered.{err-said}
 use Rattle.frequencies.proofs.Judging.{Lent, lent, file, verdict, rows_of, fit, double, times, headway, exact, name, room, from_five, from_six, from_seven, from_eight, from_nine, stops-1, past-1, sayable, no_room, has_room, all-counted, answers}
 use Rattle.frequencies.proofs.write.judge.Goals as goal
 
--- a check over the windows is passed: the first that fails is none
-passes : (good : ℕ → Bool) (count r : ℕ) → r ≡ first_fail good count → count ≤ r → (i : ℕ) → i < count → good i ≡ true
-passes good count r e h i l = first_fail-before good count i (omega (arith, l, e, h))
+-- a check over the windows that was passed
+record Past (code count : ℕ) (good : ℕ → Bool) : Type 0 where
+  pub at : Option ℕ
+  pub is : at ≡ if_below count (first_fail good count)
+  pub ok : unless_at code at ≡ Ok tt
 
-module _ (b : Lent) (f : fit b ≡ true) where
-  past₂ : (r : ℕ) → r ≡ first_fail (double b) b.count → b.count ≤ r → verdict b ≡ from_five b
-  past₂ r e h = past-1 b f ∙ check-passes 4 b.count (double b) (from_five b) _ (e, h)
+past : {code count : ℕ} {good : ℕ → Bool} (at : Option ℕ) → at ≡ if_below count (first_fail good count) → unless_at code at ≡ Ok tt → Past code count good
+past at is ok = record { at = at; is = is; ok = ok }
 
-  module _ (r₂ : ℕ) (e₂ : r₂ ≡ first_fail (double b) b.count) (h₂ : b.count ≤ r₂) where
-    past₃ : (r : ℕ) → r ≡ first_fail (times b) b.count → b.count ≤ r → verdict b ≡ from_six b
-    past₃ r e h = past₂ r₂ e₂ h₂ ∙ check-passes 5 b.count (times b) (from_six b) _ (e, h)
+passes : {code count : ℕ} {good : ℕ → Bool} (next : Verdict) → Past code count good → check code count good next ≡ next
+passes {code} {count} {good} next p = none_fails-passes code count good p.at p.is next tt p.ok
 
-    module _ (r₃ : ℕ) (e₃ : r₃ ≡ first_fail (times b) b.count) (h₃ : b.count ≤ r₃) where
-      past₄ : (r : ℕ) → r ≡ first_fail (headway b) b.count → b.count ≤ r → verdict b ≡ from_seven b
-      past₄ r e h = past₃ r₃ e₃ h₃ ∙ check-passes 6 b.count (headway b) (from_seven b) _ (e, h)
+holds : {code count : ℕ} {good : ℕ → Bool} → Past code count good → (i : ℕ) → i < count → good i ≡ true
+holds {code} {count} {good} p = check-held code count good accepted (passes accepted p)
 
-      module _ (r₄ : ℕ) (e₄ : r₄ ≡ first_fail (headway b) b.count) (h₄ : b.count ≤ r₄) where
-        past₅ : (r : ℕ) → r ≡ first_fail (exact b) b.count → b.count ≤ r → verdict b ≡ from_eight b
-        past₅ r e h = past₄ r₄ e₄ h₄ ∙ check-passes 7 b.count (exact b) (from_eight b) _ (e, h)
+-- a place below a number of 31 bits
+small : (m : ℕ) (at : Option ℕ) (k : ℕ) → at ≡ if_below m k → m ≤ 2147483647 → IfSome at (λ place. place ≤ 2147483648)
+small m at k e h = rw e (go (ltb k m) refl)
+  where
+    go : (b : Bool) → ltb k m ≡ b → IfSome (cond b (Some k) None) (λ place. place ≤ 2147483648)
+    go true q = let low = ltb-true k m q in omega arith
+    go false q = tt
 
-        module _ (r₅ : ℕ) (e₅ : r₅ ≡ first_fail (exact b) b.count) (h₅ : b.count ≤ r₅) where
-          past₆ : (r : ℕ) → r ≡ first_fail (name b) b.count → b.count ≤ r → verdict b ≡ from_nine b
-          past₆ r e h = past₅ r₅ e₅ h₅ ∙ check-passes 8 b.count (name b) (from_nine b) _ (e, h)
+module _ (b : Lent) (f : fit b ≡ true) (p₄ : Past 4 b.count (double b)) where
+  past₄ : verdict b ≡ from_five b
+  past₄ = past-1 b f ∙ passes (from_five b) p₄
 
-        said : (r : ℕ) → r ≡ first_fail (name b) b.count → b.count ≤ r → AllSayable b.count b.text b.windows
-        said r e h = sayable b (passes (double b) b.count r₂ e₂ h₂) (passes (times b) b.count r₃ e₃ h₃) (passes (headway b) b.count r₄ e₄ h₄) (passes (name b) b.count r e h)
+  module _ (p₅ : Past 5 b.count (times b)) where
+    past₅ : verdict b ≡ from_six b
+    past₅ = past₄ ∙ passes (from_six b) p₅
 
--- the size that was counted, with exact_times or without
-sized : (b : Lent) (size : ℕ) → let w = b.windows in
-    size ≡ min (length (file (lent b.count b.text (windows_in w.name_places w.name_lengths w.name_doubled w.starts w.ends w.headways [] []) b.buffer))) 2147483648
-    → size ≡ min (length (file b)) 2147483648
-sized b size e =
-    let w = b.windows in
-    let bare : Windows = windows_in w.name_places w.name_lengths w.name_doubled w.starts w.ends w.headways [] [] in
-    e ∙ ap (λ k. min k 2147483648) (same_size b.text bare w (λ i. refl) b.count)
+    module _ (p₆ : Past 6 b.count (headway b)) where
+      past₆ : verdict b ≡ from_seven b
+      past₆ = past₅ ∙ passes (from_seven b) p₆
+
+      module _ (p₇ : Past 7 b.count (exact b)) where
+        past₇ : verdict b ≡ from_eight b
+        past₇ = past₆ ∙ passes (from_eight b) p₇
+
+        module _ (p₈ : Past 8 b.count (name b)) where
+          past₈ : verdict b ≡ from_nine b
+          past₈ = past₇ ∙ passes (from_nine b) p₈
+
+          said : AllSayable b.count b.text b.windows
+          said = sayable b (holds p₄) (holds p₅) (holds p₆) (holds p₈)
+
+-- ── what is lent ──
+abbrev lends : List ℕ → Windows → List ℕ → Lent
+lends text w bytes = lent w.count text (lent_windows w) bytes
+
+all_lent : (text : List ℕ) (w : Windows) (bytes : List ℕ) → fit (lends text w bytes) ≡ true → AllLent w
+all_lent text w bytes f = let r = rows_of (lends text w bytes) f in record {
+  places = r.places;
+  lengths = r.lengths;
+  doubled = r.doubled;
+  starts = r.starts;
+  ends = r.ends;
+  headways = r.headways;
+  exacts = r.exacts;
+}
 
 pub returns-then-not-rows_lent : goal.returns-then-not-rows_lent
-returns-then-not-rows_lent c = let b : Lent = lent c.args.count c.args.text.now (windows_in c.args.name_places.now c.args.name_lengths.now c.args.name_doubled.now c.args.starts.now c.args.ends.now c.args.headways.now c.args.exacts.now []) c.args.bytes.now in answers b _ (refused 1 0) (stops-1 b (sym c.rows_lent.ensures ∙ c.if-not-rows_lent.true)) c.refused.ensures
+returns-then-not-rows_lent c =
+    let b = lends c.args.text.now c.args.windows.now c.args.bytes.now in
+    answers b _ (refused 1 0) (stops-1 b (sym c.rows_lent.ensures ∙ c.if-not-rows_lent.true)) (ap Err c.refused.ensures)
 
-pub first_single_quote-single-requires : goal.first_single_quote-single-requires
-first_single_quote-single-requires c = let l = rows_of (lent c.args.count c.args.text.now (windows_in c.args.name_places.now c.args.name_lengths.now c.args.name_doubled.now c.args.starts.now c.args.ends.now c.args.headways.now c.args.exacts.now []) c.args.bytes.now) (sym c.rows_lent.ensures ∙ c.if-not-rows_lent.false) in (l.places, l.lengths, l.doubled)
+pub first_single_quote-requires : goal.first_single_quote-requires
+first_single_quote-requires c = all_lent c.args.text.now c.args.windows.now c.args.bytes.now (sym c.rows_lent.ensures ∙ c.if-not-rows_lent.false)
 
-pub refused-requires-then-single-count : goal.refused-requires-then-single-count
-refused-requires-then-single-count c = let l = rows_of (lent c.args.count c.args.text.now (windows_in c.args.name_places.now c.args.name_lengths.now c.args.name_doubled.now c.args.starts.now c.args.ends.now c.args.headways.now c.args.exacts.now []) c.args.bytes.now) (sym c.rows_lent.ensures ∙ c.if-not-rows_lent.false) in omega (arith, l.few)
+pub none_fails-requires : goal.none_fails-requires
+none_fails-requires c =
+    let b = lends c.args.text.now c.args.windows.now c.args.bytes.now in let f = sym c.rows_lent.ensures ∙ c.if-not-rows_lent.false in
+    small b.count _ _ c.first_single_quote.ensures (rows_of b f).few
 
-pub returns-then-single-count : goal.returns-then-single-count
-returns-then-single-count c =
-    let b : Lent = lent c.args.count c.args.text.now (windows_in c.args.name_places.now c.args.name_lengths.now c.args.name_doubled.now c.args.starts.now c.args.ends.now c.args.headways.now c.args.exacts.now []) c.args.bytes.now in
-    answers b _ (refused 4 _) (past-1 b (sym c.rows_lent.ensures ∙ c.if-not-rows_lent.false) ∙ check-stops 4 b.count (double b) (from_five b) _ c.first_single_quote-single.ensures c.if-single-count.true) c.refused-then-single-count.ensures
+pub returns-in_err-none_fails : goal.returns-in_err-none_fails
+returns-in_err-none_fails c =
+    let b = lends c.args.text.now c.args.windows.now c.args.bytes.now in let f = sym c.rows_lent.ensures ∙ c.if-not-rows_lent.false in
+    err-said _ _ c.from_residual.ensures.1 ∙ none_fails-stops 4 b.count (double b) _ c.first_single_quote.ensures (from_five b) (length (file b)) _ (sym c.none_fails.ensures ∙ c.in_err-none_fails.was)
+    ∙ ap (answer_of (length (file b))) (sym (past-1 b f))
 
-pub first_bad_time-time-requires : goal.first_bad_time-time-requires
-first_bad_time-time-requires c = let l = rows_of (lent c.args.count c.args.text.now (windows_in c.args.name_places.now c.args.name_lengths.now c.args.name_doubled.now c.args.starts.now c.args.ends.now c.args.headways.now c.args.exacts.now []) c.args.bytes.now) (sym c.rows_lent.ensures ∙ c.if-not-rows_lent.false) in (l.starts, l.ends)
+pub first_bad_time-requires : goal.first_bad_time-requires
+first_bad_time-requires c = all_lent c.args.text.now c.args.windows.now c.args.bytes.now (sym c.rows_lent.ensures ∙ c.if-not-rows_lent.false)
 
-pub refused-requires-then-time-count : goal.refused-requires-then-time-count
-refused-requires-then-time-count c = let l = rows_of (lent c.args.count c.args.text.now (windows_in c.args.name_places.now c.args.name_lengths.now c.args.name_doubled.now c.args.starts.now c.args.ends.now c.args.headways.now c.args.exacts.now []) c.args.bytes.now) (sym c.rows_lent.ensures ∙ c.if-not-rows_lent.false) in omega (arith, l.few)
+pub none_fails-requires-2 : goal.none_fails-requires-2
+none_fails-requires-2 c =
+    let b = lends c.args.text.now c.args.windows.now c.args.bytes.now in let f = sym c.rows_lent.ensures ∙ c.if-not-rows_lent.false in
+    small b.count _ _ c.first_bad_time.ensures (rows_of b f).few
 
-pub returns-then-time-count : goal.returns-then-time-count
-returns-then-time-count c =
-    let b : Lent = lent c.args.count c.args.text.now (windows_in c.args.name_places.now c.args.name_lengths.now c.args.name_doubled.now c.args.starts.now c.args.ends.now c.args.headways.now c.args.exacts.now []) c.args.bytes.now in
-    answers b _ (refused 5 _) (past₂ b (sym c.rows_lent.ensures ∙ c.if-not-rows_lent.false) c.first_single_quote-single.result c.first_single_quote-single.ensures c.if-single-count.false ∙ check-stops 5 b.count (times b) (from_six b) _ c.first_bad_time-time.ensures c.if-time-count.true) c.refused-then-time-count.ensures
+pub returns-in_err-none_fails-2 : goal.returns-in_err-none_fails-2
+returns-in_err-none_fails-2 c =
+    let b = lends c.args.text.now c.args.windows.now c.args.bytes.now in let f = sym c.rows_lent.ensures ∙ c.if-not-rows_lent.false in
+    let p₄ = past _ c.first_single_quote.ensures (sym c.none_fails.ensures ∙ c.in_ok-none_fails.was) in
+    err-said _ _ c.from_residual-in_err-none_fails-2.ensures.1 ∙ none_fails-stops 5 b.count (times b) _ c.first_bad_time.ensures (from_six b) (length (file b)) _ (sym c.none_fails-2.ensures ∙ c.in_err-none_fails-2.was)
+    ∙ ap (answer_of (length (file b))) (sym (past₄ b f p₄))
 
-pub first_bad_headway-headway-requires : goal.first_bad_headway-headway-requires
-first_bad_headway-headway-requires c = let l = rows_of (lent c.args.count c.args.text.now (windows_in c.args.name_places.now c.args.name_lengths.now c.args.name_doubled.now c.args.starts.now c.args.ends.now c.args.headways.now c.args.exacts.now []) c.args.bytes.now) (sym c.rows_lent.ensures ∙ c.if-not-rows_lent.false) in l.headways
+pub first_bad_headway-requires : goal.first_bad_headway-requires
+first_bad_headway-requires c = all_lent c.args.text.now c.args.windows.now c.args.bytes.now (sym c.rows_lent.ensures ∙ c.if-not-rows_lent.false)
 
-pub refused-requires-then-headway-count : goal.refused-requires-then-headway-count
-refused-requires-then-headway-count c = let l = rows_of (lent c.args.count c.args.text.now (windows_in c.args.name_places.now c.args.name_lengths.now c.args.name_doubled.now c.args.starts.now c.args.ends.now c.args.headways.now c.args.exacts.now []) c.args.bytes.now) (sym c.rows_lent.ensures ∙ c.if-not-rows_lent.false) in omega (arith, l.few)
+pub none_fails-requires-3 : goal.none_fails-requires-3
+none_fails-requires-3 c =
+    let b = lends c.args.text.now c.args.windows.now c.args.bytes.now in let f = sym c.rows_lent.ensures ∙ c.if-not-rows_lent.false in
+    small b.count _ _ c.first_bad_headway.ensures (rows_of b f).few
 
-pub returns-then-headway-count : goal.returns-then-headway-count
-returns-then-headway-count c =
-    let b : Lent = lent c.args.count c.args.text.now (windows_in c.args.name_places.now c.args.name_lengths.now c.args.name_doubled.now c.args.starts.now c.args.ends.now c.args.headways.now c.args.exacts.now []) c.args.bytes.now in
-    answers b _ (refused 6 _) (past₃ b (sym c.rows_lent.ensures ∙ c.if-not-rows_lent.false) c.first_single_quote-single.result c.first_single_quote-single.ensures c.if-single-count.false c.first_bad_time-time.result c.first_bad_time-time.ensures c.if-time-count.false ∙ check-stops 6 b.count (headway b) (from_seven b) _ c.first_bad_headway-headway.ensures c.if-headway-count.true) c.refused-then-headway-count.ensures
+pub returns-in_err-none_fails-3 : goal.returns-in_err-none_fails-3
+returns-in_err-none_fails-3 c =
+    let b = lends c.args.text.now c.args.windows.now c.args.bytes.now in let f = sym c.rows_lent.ensures ∙ c.if-not-rows_lent.false in
+    let p₄ = past _ c.first_single_quote.ensures (sym c.none_fails.ensures ∙ c.in_ok-none_fails.was) in
+    let p₅ = past _ c.first_bad_time.ensures (sym c.none_fails-2.ensures ∙ c.in_ok-none_fails-2.was) in
+    err-said _ _ c.from_residual-in_err-none_fails-3.ensures.1 ∙ none_fails-stops 6 b.count (headway b) _ c.first_bad_headway.ensures (from_seven b) (length (file b)) _ (sym c.none_fails-3.ensures ∙ c.in_err-none_fails-3.was)
+    ∙ ap (answer_of (length (file b))) (sym (past₅ b f p₄ p₅))
 
-pub first_bad_exact-exact-requires : goal.first_bad_exact-exact-requires
-first_bad_exact-exact-requires c = let l = rows_of (lent c.args.count c.args.text.now (windows_in c.args.name_places.now c.args.name_lengths.now c.args.name_doubled.now c.args.starts.now c.args.ends.now c.args.headways.now c.args.exacts.now []) c.args.bytes.now) (sym c.rows_lent.ensures ∙ c.if-not-rows_lent.false) in l.exacts
+pub first_bad_exact-requires : goal.first_bad_exact-requires
+first_bad_exact-requires c = all_lent c.args.text.now c.args.windows.now c.args.bytes.now (sym c.rows_lent.ensures ∙ c.if-not-rows_lent.false)
 
-pub refused-requires-then-exact-count : goal.refused-requires-then-exact-count
-refused-requires-then-exact-count c = let l = rows_of (lent c.args.count c.args.text.now (windows_in c.args.name_places.now c.args.name_lengths.now c.args.name_doubled.now c.args.starts.now c.args.ends.now c.args.headways.now c.args.exacts.now []) c.args.bytes.now) (sym c.rows_lent.ensures ∙ c.if-not-rows_lent.false) in omega (arith, l.few)
+pub none_fails-requires-4 : goal.none_fails-requires-4
+none_fails-requires-4 c =
+    let b = lends c.args.text.now c.args.windows.now c.args.bytes.now in let f = sym c.rows_lent.ensures ∙ c.if-not-rows_lent.false in
+    small b.count _ _ c.first_bad_exact.ensures (rows_of b f).few
 
-pub returns-then-exact-count : goal.returns-then-exact-count
-returns-then-exact-count c =
-    let b : Lent = lent c.args.count c.args.text.now (windows_in c.args.name_places.now c.args.name_lengths.now c.args.name_doubled.now c.args.starts.now c.args.ends.now c.args.headways.now c.args.exacts.now []) c.args.bytes.now in
-    answers b _ (refused 7 _) (past₄ b (sym c.rows_lent.ensures ∙ c.if-not-rows_lent.false) c.first_single_quote-single.result c.first_single_quote-single.ensures c.if-single-count.false c.first_bad_time-time.result c.first_bad_time-time.ensures c.if-time-count.false c.first_bad_headway-headway.result c.first_bad_headway-headway.ensures c.if-headway-count.false ∙ check-stops 7 b.count (exact b) (from_eight b) _ c.first_bad_exact-exact.ensures c.if-exact-count.true) c.refused-then-exact-count.ensures
+pub returns-in_err-none_fails-4 : goal.returns-in_err-none_fails-4
+returns-in_err-none_fails-4 c =
+    let b = lends c.args.text.now c.args.windows.now c.args.bytes.now in let f = sym c.rows_lent.ensures ∙ c.if-not-rows_lent.false in
+    let p₄ = past _ c.first_single_quote.ensures (sym c.none_fails.ensures ∙ c.in_ok-none_fails.was) in
+    let p₅ = past _ c.first_bad_time.ensures (sym c.none_fails-2.ensures ∙ c.in_ok-none_fails-2.was) in
+    let p₆ = past _ c.first_bad_headway.ensures (sym c.none_fails-3.ensures ∙ c.in_ok-none_fails-3.was) in
+    err-said _ _ c.from_residual-in_err-none_fails-4.ensures.1 ∙ none_fails-stops 7 b.count (exact b) _ c.first_bad_exact.ensures (from_eight b) (length (file b)) _ (sym c.none_fails-4.ensures ∙ c.in_err-none_fails-4.was)
+    ∙ ap (answer_of (length (file b))) (sym (past₆ b f p₄ p₅ p₆))
 
-pub first_bad_name-name-requires : goal.first_bad_name-name-requires
-first_bad_name-name-requires c = let l = rows_of (lent c.args.count c.args.text.now (windows_in c.args.name_places.now c.args.name_lengths.now c.args.name_doubled.now c.args.starts.now c.args.ends.now c.args.headways.now c.args.exacts.now []) c.args.bytes.now) (sym c.rows_lent.ensures ∙ c.if-not-rows_lent.false) in (l.places, l.lengths)
+pub first_bad_name-requires : goal.first_bad_name-requires
+first_bad_name-requires c = all_lent c.args.text.now c.args.windows.now c.args.bytes.now (sym c.rows_lent.ensures ∙ c.if-not-rows_lent.false)
 
-pub refused-requires-then-name-count : goal.refused-requires-then-name-count
-refused-requires-then-name-count c = let l = rows_of (lent c.args.count c.args.text.now (windows_in c.args.name_places.now c.args.name_lengths.now c.args.name_doubled.now c.args.starts.now c.args.ends.now c.args.headways.now c.args.exacts.now []) c.args.bytes.now) (sym c.rows_lent.ensures ∙ c.if-not-rows_lent.false) in omega (arith, l.few)
+pub none_fails-requires-5 : goal.none_fails-requires-5
+none_fails-requires-5 c =
+    let b = lends c.args.text.now c.args.windows.now c.args.bytes.now in let f = sym c.rows_lent.ensures ∙ c.if-not-rows_lent.false in
+    small b.count _ _ c.first_bad_name.ensures (rows_of b f).few
 
-pub returns-then-name-count : goal.returns-then-name-count
-returns-then-name-count c =
-    let b : Lent = lent c.args.count c.args.text.now (windows_in c.args.name_places.now c.args.name_lengths.now c.args.name_doubled.now c.args.starts.now c.args.ends.now c.args.headways.now c.args.exacts.now []) c.args.bytes.now in
-    answers b _ (refused 8 _) (past₅ b (sym c.rows_lent.ensures ∙ c.if-not-rows_lent.false) c.first_single_quote-single.result c.first_single_quote-single.ensures c.if-single-count.false c.first_bad_time-time.result c.first_bad_time-time.ensures c.if-time-count.false c.first_bad_headway-headway.result c.first_bad_headway-headway.ensures c.if-headway-count.false c.first_bad_exact-exact.result c.first_bad_exact-exact.ensures c.if-exact-count.false ∙ check-stops 8 b.count (name b) (from_nine b) _ c.first_bad_name-name.ensures c.if-name-count.true) c.refused-then-name-count.ensures
+pub returns-in_err-none_fails-5 : goal.returns-in_err-none_fails-5
+returns-in_err-none_fails-5 c =
+    let b = lends c.args.text.now c.args.windows.now c.args.bytes.now in let f = sym c.rows_lent.ensures ∙ c.if-not-rows_lent.false in
+    let p₄ = past _ c.first_single_quote.ensures (sym c.none_fails.ensures ∙ c.in_ok-none_fails.was) in
+    let p₅ = past _ c.first_bad_time.ensures (sym c.none_fails-2.ensures ∙ c.in_ok-none_fails-2.was) in
+    let p₆ = past _ c.first_bad_headway.ensures (sym c.none_fails-3.ensures ∙ c.in_ok-none_fails-3.was) in
+    let p₇ = past _ c.first_bad_exact.ensures (sym c.none_fails-4.ensures ∙ c.in_ok-none_fails-4.was) in
+    err-said _ _ c.from_residual-in_err-none_fails-5.ensures.1 ∙ none_fails-stops 8 b.count (name b) _ c.first_bad_name.ensures (from_nine b) (length (file b)) _ (sym c.none_fails-5.ensures ∙ c.in_err-none_fails-5.was)
+    ∙ ap (answer_of (length (file b))) (sym (past₇ b f p₄ p₅ p₆ p₇))
 
-pub file_size-size-requires-clause-count_in_bounds : goal.file_size-size-requires-clause-count_in_bounds
-file_size-size-requires-clause-count_in_bounds c = let l = rows_of (lent c.args.count c.args.text.now (windows_in c.args.name_places.now c.args.name_lengths.now c.args.name_doubled.now c.args.starts.now c.args.ends.now c.args.headways.now c.args.exacts.now []) c.args.bytes.now) (sym c.rows_lent.ensures ∙ c.if-not-rows_lent.false) in (l.places, l.lengths, l.doubled)
-
-pub file_size-size-requires-clause-count_in_bounds_2 : goal.file_size-size-requires-clause-count_in_bounds_2
-file_size-size-requires-clause-count_in_bounds_2 c = let l = rows_of (lent c.args.count c.args.text.now (windows_in c.args.name_places.now c.args.name_lengths.now c.args.name_doubled.now c.args.starts.now c.args.ends.now c.args.headways.now c.args.exacts.now []) c.args.bytes.now) (sym c.rows_lent.ensures ∙ c.if-not-rows_lent.false) in (l.starts, l.ends, l.headways)
+pub file_size-size-requires-clause-lent : goal.file_size-size-requires-clause-lent
+file_size-size-requires-clause-lent c = all_lent c.args.text.now c.args.windows.now c.args.bytes.now (sym c.rows_lent.ensures ∙ c.if-not-rows_lent.false)
 
 pub file_size-size-requires-clause-all_sayable : goal.file_size-size-requires-clause-all_sayable
-file_size-size-requires-clause-all_sayable c = record { each = (said (lent c.args.count c.args.text.now (windows_in c.args.name_places.now c.args.name_lengths.now c.args.name_doubled.now c.args.starts.now c.args.ends.now c.args.headways.now c.args.exacts.now []) c.args.bytes.now) (sym c.rows_lent.ensures ∙ c.if-not-rows_lent.false) c.first_single_quote-single.result c.first_single_quote-single.ensures c.if-single-count.false c.first_bad_time-time.result c.first_bad_time-time.ensures c.if-time-count.false c.first_bad_headway-headway.result c.first_bad_headway-headway.ensures c.if-headway-count.false c.first_bad_name-name.result c.first_bad_name-name.ensures c.if-name-count.false).each }
+file_size-size-requires-clause-all_sayable c =
+    let b = lends c.args.text.now c.args.windows.now c.args.bytes.now in let f = sym c.rows_lent.ensures ∙ c.if-not-rows_lent.false in
+    let p₄ = past _ c.first_single_quote.ensures (sym c.none_fails.ensures ∙ c.in_ok-none_fails.was) in
+    let p₅ = past _ c.first_bad_time.ensures (sym c.none_fails-2.ensures ∙ c.in_ok-none_fails-2.was) in
+    let p₆ = past _ c.first_bad_headway.ensures (sym c.none_fails-3.ensures ∙ c.in_ok-none_fails-3.was) in
+    let p₇ = past _ c.first_bad_exact.ensures (sym c.none_fails-4.ensures ∙ c.in_ok-none_fails-4.was) in
+    let p₈ = past _ c.first_bad_name.ensures (sym c.none_fails-5.ensures ∙ c.in_ok-none_fails-5.was) in
+    said b f p₄ p₅ p₆ p₇ p₈
 
-pub returns-then-smaller-size : goal.returns-then-smaller-size
-returns-then-smaller-size c =
-    let b : Lent = lent c.args.count c.args.text.now (windows_in c.args.name_places.now c.args.name_lengths.now c.args.name_doubled.now c.args.starts.now c.args.ends.now c.args.headways.now c.args.exacts.now []) c.args.bytes.now in
-    answers b _ (refused 9 0) (past₆ b (sym c.rows_lent.ensures ∙ c.if-not-rows_lent.false) c.first_single_quote-single.result c.first_single_quote-single.ensures c.if-single-count.false c.first_bad_time-time.result c.first_bad_time-time.ensures c.if-time-count.false c.first_bad_headway-headway.result c.first_bad_headway-headway.ensures c.if-headway-count.false c.first_bad_exact-exact.result c.first_bad_exact-exact.ensures c.if-exact-count.false c.first_bad_name-name.result c.first_bad_name-name.ensures c.if-name-count.false ∙ require-stops 9 0 (room b) accepted (no_room b _ _ (sized b _ c.file_size-size.ensures) c.smaller.ensures c.if-smaller-size.true)) c.refused-then-smaller-size.ensures
+pub returns-then-min-size : goal.returns-then-min-size
+returns-then-min-size c =
+    let b = lends c.args.text.now c.args.windows.now c.args.bytes.now in let f = sym c.rows_lent.ensures ∙ c.if-not-rows_lent.false in
+    let p₄ = past _ c.first_single_quote.ensures (sym c.none_fails.ensures ∙ c.in_ok-none_fails.was) in
+    let p₅ = past _ c.first_bad_time.ensures (sym c.none_fails-2.ensures ∙ c.in_ok-none_fails-2.was) in
+    let p₆ = past _ c.first_bad_headway.ensures (sym c.none_fails-3.ensures ∙ c.in_ok-none_fails-3.was) in
+    let p₇ = past _ c.first_bad_exact.ensures (sym c.none_fails-4.ensures ∙ c.in_ok-none_fails-4.was) in
+    let p₈ = past _ c.first_bad_name.ensures (sym c.none_fails-5.ensures ∙ c.in_ok-none_fails-5.was) in
+    answers b _ (refused 9 0)
+    (past₈ b f p₄ p₅ p₆ p₇ p₈ ∙ require-stops 9 0 (room b) accepted (no_room b _ _ c.file_size-size.ensures c.min.ensures c.if-min-size.true))
+    (ap Err c.refused-then-min-size.ensures)
 
 pub returns : goal.returns
 returns c =
-    let b : Lent = lent c.args.count c.args.text.now (windows_in c.args.name_places.now c.args.name_lengths.now c.args.name_doubled.now c.args.starts.now c.args.ends.now c.args.headways.now c.args.exacts.now []) c.args.bytes.now in let z = sized b _ c.file_size-size.ensures in let m = c.smaller.ensures in
-    answers b _ accepted (past₆ b (sym c.rows_lent.ensures ∙ c.if-not-rows_lent.false) c.first_single_quote-single.result c.first_single_quote-single.ensures c.if-single-count.false c.first_bad_time-time.result c.first_bad_time-time.ensures c.if-time-count.false c.first_bad_headway-headway.result c.first_bad_headway-headway.ensures c.if-headway-count.false c.first_bad_exact-exact.result c.first_bad_exact-exact.ensures c.if-exact-count.false c.first_bad_name-name.result c.first_bad_name-name.ensures c.if-name-count.false ∙ require-next 9 0 (room b) accepted (has_room b _ _ z m c.if-smaller-size.false)) (ap Accepted (all-counted b _ _ z m c.if-smaller-size.false))
+    let b = lends c.args.text.now c.args.windows.now c.args.bytes.now in let f = sym c.rows_lent.ensures ∙ c.if-not-rows_lent.false in
+    let p₄ = past _ c.first_single_quote.ensures (sym c.none_fails.ensures ∙ c.in_ok-none_fails.was) in
+    let p₅ = past _ c.first_bad_time.ensures (sym c.none_fails-2.ensures ∙ c.in_ok-none_fails-2.was) in
+    let p₆ = past _ c.first_bad_headway.ensures (sym c.none_fails-3.ensures ∙ c.in_ok-none_fails-3.was) in
+    let p₇ = past _ c.first_bad_exact.ensures (sym c.none_fails-4.ensures ∙ c.in_ok-none_fails-4.was) in
+    let p₈ = past _ c.first_bad_name.ensures (sym c.none_fails-5.ensures ∙ c.in_ok-none_fails-5.was) in
+    answers b _ accepted
+    (past₈ b f p₄ p₅ p₆ p₇ p₈ ∙ require-next 9 0 (room b) accepted (has_room b _ _ c.file_size-size.ensures c.min.ensures c.if-min-size.false))
+    (ap Ok (all-counted b _ _ c.file_size-size.ensures c.min.ensures c.if-min-size.false))

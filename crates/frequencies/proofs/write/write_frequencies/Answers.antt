@@ -1,44 +1,45 @@
 -- A refusal has written nothing; an acceptance is what `put_file` leaves where there is room. Assumes nothing.
 use Prim.Native.Nat.{ℕ}
-use mathlib.Core.List.{[]}
-use mathlib.Core.Path.{◌≡◌, refl, sym, ap, ◌∙◌}
+use mathlib.Core.List.{List}
+use mathlib.Core.Path.{refl, sym, ap, ◌∙◌}
 use lib.ListN.{length}
+use Rattle.std.specs.Prelude.{Ok, Err}
 use Rattle.paper.specs.Checks.{accepted, refused}
-use Rattle.frequencies.specs.Reading.{windows_in, carried_by}
-use Rattle.frequencies.specs.declared.Carried.{Carried}
-use Rattle.frequencies.specs.declared.Carried.TheVariants.{Accepted}
-use Rattle.frequencies.proofs.Answered.{accepted-is, refused-is}
+use Rattle.tables.proofs.Answered.{accepted-is, accepted-as, refused-is}
+use Rattle.frequencies.specs.Lent.{lent_windows}
+use Rattle.frequencies.specs.declared.Windows.{Windows}
+use Rattle.tables.proofs.Answered.{err-said}
 use Rattle.frequencies.proofs.Judging.{Lent, lent, file, verdict, passed, writing-meets, file-stands}
 use Rattle.frequencies.proofs.write.write_frequencies.Goals as goal
 
--- an answer that accepts is that of an accepted verdict
-good : (b : Lent) {r : Carried} {count : ℕ} → r ≡ carried_by (verdict b) (length (file b)) → r ≡ Accepted count → verdict b ≡ accepted
-good b e h = accepted-is (verdict b) _ _ (sym e ∙ h)
+abbrev lends : List ℕ → Windows → List ℕ → Lent
+lends text w bytes = lent w.count text (lent_windows w) bytes
 
-pub returns-in_default : goal.returns-in_default
-returns-in_default c =
-    let b : Lent = lent c.args.count c.args.text.now (windows_in c.args.name_places.now c.args.name_lengths.now c.args.name_doubled.now c.args.starts.now c.args.ends.now c.args.headways.now c.args.exacts.now []) c.args.bytes.now in let n = c.in_default.field-0 in let p = c.in_default.field-1 in
-    let v = refused-is (verdict b) _ n p (sym c.judge-judged.ensures ∙ c.in_default.is) in
-    writing-meets b _ _ (refused n p) v c.in_default.is refl
+pub returns-in_err-size : goal.returns-in_err-size
+returns-in_err-size c =
+    let b = lends c.args.text.now c.args.windows.now c.args.bytes.now in let r = c.in_err-size.field-0.0 in
+    let e = sym c.judge.ensures ∙ c.in_err-size.was in
+    rw (err-said _ _ c.from_residual.ensures.1) (writing-meets b (Err r) _ (refused r.number r.place) (refused-is (length (file b)) r (verdict b) e) refl refl)
 
-pub put_file-requires-clause-count_in_bounds : goal.put_file-requires-clause-count_in_bounds
-put_file-requires-clause-count_in_bounds c =
-    let b : Lent = lent c.args.count c.args.text.now (windows_in c.args.name_places.now c.args.name_lengths.now c.args.name_doubled.now c.args.starts.now c.args.ends.now c.args.headways.now c.args.exacts.now []) c.args.bytes.now in let l = (passed b (good b c.judge-judged.ensures c.in-Accepted.is)).rows in (l.places, l.lengths, l.doubled)
-
-pub put_file-requires-clause-count_in_bounds_2 : goal.put_file-requires-clause-count_in_bounds_2
-put_file-requires-clause-count_in_bounds_2 c =
-    let b : Lent = lent c.args.count c.args.text.now (windows_in c.args.name_places.now c.args.name_lengths.now c.args.name_doubled.now c.args.starts.now c.args.ends.now c.args.headways.now c.args.exacts.now []) c.args.bytes.now in let l = (passed b (good b c.judge-judged.ensures c.in-Accepted.is)).rows in (l.starts, l.ends, l.headways, l.exacts)
+pub put_file-requires-clause-lent : goal.put_file-requires-clause-lent
+put_file-requires-clause-lent c =
+    let b = lends c.args.text.now c.args.windows.now c.args.bytes.now in
+    let r = (passed b (accepted-is (length (file b)) _ (verdict b) (sym c.judge.ensures ∙ c.in_ok-size.was))).rows in
+    record { places = r.places; lengths = r.lengths; doubled = r.doubled; starts = r.starts; ends = r.ends; headways = r.headways; exacts = r.exacts }
 
 pub put_file-requires-clause-all_sayable : goal.put_file-requires-clause-all_sayable
 put_file-requires-clause-all_sayable c =
-    let b : Lent = lent c.args.count c.args.text.now (windows_in c.args.name_places.now c.args.name_lengths.now c.args.name_doubled.now c.args.starts.now c.args.ends.now c.args.headways.now c.args.exacts.now []) c.args.bytes.now in record { each = (passed b (good b c.judge-judged.ensures c.in-Accepted.is)).said.each }
+    let b = lends c.args.text.now c.args.windows.now c.args.bytes.now in
+    (passed b (accepted-is (length (file b)) _ (verdict b) (sym c.judge.ensures ∙ c.in_ok-size.was))).said
 
 pub put_file-requires-clause-all_exact : goal.put_file-requires-clause-all_exact
 put_file-requires-clause-all_exact c =
-    let b : Lent = lent c.args.count c.args.text.now (windows_in c.args.name_places.now c.args.name_lengths.now c.args.name_doubled.now c.args.starts.now c.args.ends.now c.args.headways.now c.args.exacts.now []) c.args.bytes.now in record { each = (passed b (good b c.judge-judged.ensures c.in-Accepted.is)).exacts.each }
+    let b = lends c.args.text.now c.args.windows.now c.args.bytes.now in
+    (passed b (accepted-is (length (file b)) _ (verdict b) (sym c.judge.ensures ∙ c.in_ok-size.was))).exacts
 
 pub returns : goal.returns
 returns c =
-    let b : Lent = lent c.args.count c.args.text.now (windows_in c.args.name_places.now c.args.name_lengths.now c.args.name_doubled.now c.args.starts.now c.args.ends.now c.args.headways.now c.args.exacts.now []) c.args.bytes.now in let g = good b c.judge-judged.ensures c.in-Accepted.is in
-    writing-meets b _ _ accepted g (c.judge-judged.ensures ∙ ap (λ v. carried_by v (length (file b))) g)
-    (file-stands b c.put_file.ensures (passed b g).fits)
+    let b = lends c.args.text.now c.args.windows.now c.args.bytes.now in
+    let e = sym c.judge.ensures ∙ c.in_ok-size.was in let good = accepted-is (length (file b)) _ (verdict b) e in
+    writing-meets b (Ok c.in_ok-size.size) _ accepted good (ap Ok (sym (accepted-as (length (file b)) _ (verdict b) e)))
+    (file-stands b c.put_file.ensures (passed b good).fits)

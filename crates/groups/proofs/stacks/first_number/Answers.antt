@@ -6,8 +6,8 @@ use Rattle.groups.proofs.stacks.first_number.Goals as goal
 
 pub returns-then-wide : goal.returns-then-wide
 returns-then-wide c =
-    rw (lt-ltb (nat c.args.begins.now c.args.v) (nat c.args.stops.now c.args.v) (omega arith))
+    rw (lt-ltb (nat c.args.links.now.begins.now c.args.v) (nat c.args.links.now.stops.now c.args.v) (omega arith))
 
 pub returns : goal.returns
 returns c =
-    rw (le-ltb (nat c.args.begins.now c.args.v) (nat c.args.stops.now c.args.v) (omega arith))
+    rw (le-ltb (nat c.args.links.now.begins.now c.args.v) (nat c.args.links.now.stops.now c.args.v) (omega arith))

@@ -7,11 +7,20 @@ use Rattle.move_log.proofs.rooms.make_room.Goals as goal
 pub bounds-log_sizes-0 : goal.bounds-log_sizes-0
 bounds-log_sizes-0 c = omega (arith, (log-long (log_in c.args.log_sizes.now c.args.log_vars.now c.args.log_values.now) c.requires).0)
 
-pub slide_numbers-requires : goal.slide_numbers-requires
-slide_numbers-requires c = (log-long (log_in c.args.log_sizes.now c.args.log_vars.now c.args.log_values.now) c.requires).0
+pub copy_within-requires-clause-in_bounds : goal.copy_within-requires-clause-in_bounds
+copy_within-requires-clause-in_bounds c = omega (arith, (log-long (log_in c.args.log_sizes.now c.args.log_vars.now c.args.log_values.now) c.requires).0)
 
-pub slide_numbers-requires-then-log_sizes-ge64 : goal.slide_numbers-requires-then-log_sizes-ge64
-slide_numbers-requires-then-log_sizes-ge64 c = (log-long (log_in c.args.log_sizes.now c.args.log_vars.now c.args.log_values.now) c.requires).1
+pub copy_within-requires-clause-dest_in_bounds : goal.copy_within-requires-clause-dest_in_bounds
+copy_within-requires-clause-dest_in_bounds c = omega (arith, (log-long (log_in c.args.log_sizes.now c.args.log_vars.now c.args.log_values.now) c.requires).0)
 
-pub slide_values-requires : goal.slide_values-requires
-slide_values-requires c = (log-long (log_in c.args.log_sizes.now c.args.log_vars.now c.args.log_values.now) c.requires).2
+pub copy_within-requires-then-log_sizes-ge64-clause-in_bounds : goal.copy_within-requires-then-log_sizes-ge64-clause-in_bounds
+copy_within-requires-then-log_sizes-ge64-clause-in_bounds c = omega (arith, (log-long (log_in c.args.log_sizes.now c.args.log_vars.now c.args.log_values.now) c.requires).1)
+
+pub copy_within-requires-then-log_sizes-ge64-clause-dest_in_bounds : goal.copy_within-requires-then-log_sizes-ge64-clause-dest_in_bounds
+copy_within-requires-then-log_sizes-ge64-clause-dest_in_bounds c = omega (arith, (log-long (log_in c.args.log_sizes.now c.args.log_vars.now c.args.log_values.now) c.requires).1)
+
+pub copy_within-requires-then-log_sizes-ge64-2-clause-in_bounds : goal.copy_within-requires-then-log_sizes-ge64-2-clause-in_bounds
+copy_within-requires-then-log_sizes-ge64-2-clause-in_bounds c = omega (arith, (log-long (log_in c.args.log_sizes.now c.args.log_vars.now c.args.log_values.now) c.requires).2)
+
+pub copy_within-requires-then-log_sizes-ge64-2-clause-dest_in_bounds : goal.copy_within-requires-then-log_sizes-ge64-2-clause-dest_in_bounds
+copy_within-requires-then-log_sizes-ge64-2-clause-dest_in_bounds c = omega (arith, (log-long (log_in c.args.log_sizes.now c.args.log_vars.now c.args.log_values.now) c.requires).2)

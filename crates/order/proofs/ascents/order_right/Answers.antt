@@ -1,29 +1,31 @@
-use native.Mathlib.Omega.{arith}
-use Rattle.order.proofs.Climbs.{climbing-start, climbed, no_row, too-low, climbing-next}
+use Rattle.std.proofs.Common.{arith, ◌≡◌, ◌<◌, ◌≤◌, ◌∙◌, ℕ, List, length, take}
+use Rattle.std.proofs.lemmas.List.{get_or-take, length-take-le}
+use Rattle.paper.specs.Lists.{nat}
+use Rattle.order.proofs.Climbs.{climbed, no_row, too-low, climbing-next}
 use Rattle.order.proofs.ascents.order_right.Goals as goal
 
-pub loop-i-init : goal.loop-i-init
-loop-i-init c = climbing-start _ _ _ _
+-- a place of the front is one of the row
+below-of : (m i : ℕ) (ord : List ℕ) → i < length (take m ord) → m ≤ length ord → i < m
+below-of m i ord h l = omega (arith, length-take-le m ord l)
 
-pub returns-then-r-m : goal.returns-then-r-m
-returns-then-r-m c = no_row _ _ _ _ _ _ c.loop-i.invariant (omega arith) _ c.wide-r.ensures.0 (omega arith)
+at-of : (m i r : ℕ) (ord : List ℕ) → r ≡ nat (take m ord) i → i < length (take m ord) → m ≤ length ord → r ≡ nat ord i
+at-of m i r ord e h l = e ∙ get_or-take m ord i 0 (below-of m i ord h l)
 
-pub bounds-nums-wide : goal.bounds-nums-wide
-bounds-nums-wide c =
-    let if1 = c.if-r-m in let s = c.before.before.before.before.before.before.before.before.before.before.before.before in
-    omega (arith, s.requires.there.0, c.wide.ensures.0, s.requires.keyed.small _ if1.false)
+pub returns-then-r-tables : goal.returns-then-r-tables
+returns-then-r-tables c =
+    no_row _ _ _ _ _ _ c.loop-row.invariant (below-of _ _ _ c.loop-row-test.true c.requires.there.1) _
+    (at-of _ _ _ _ c.wide-r.ensures.0 c.loop-row-test.true c.requires.there.1) c.if-r-tables.true
 
 pub returns-then-stands-least : goal.returns-then-stands-least
 returns-then-stands-least c =
-    let wide = c.wide-r in let l = c.before.before.before.before.before.before.before.before.before.before in
-    let v = c.wide in let x = c.wide-in-loop-i in
-    too-low _ _ _ _ _ _ l.loop-i.invariant (omega arith) _ wide.ensures.0 _ _ v.ensures.0 x.ensures.0 (omega arith)
+    too-low _ _ _ _ _ _ c.loop-row.invariant (below-of _ _ _ c.loop-row-test.true c.requires.there.1) _
+    (at-of _ _ _ _ c.wide-r.ensures.0 c.loop-row-test.true c.requires.there.1) _ _ c.wide.ensures.0 c.wide-in-loop-row.ensures.0 c.if-stands-least.true
 
-pub loop-i-preserved : goal.loop-i-preserved
-loop-i-preserved c =
-    let wide = c.wide-r in let l = c.before.before.before.before.before.before.before.before.before.before in
-    let v = c.wide in let x = c.wide-in-loop-i in
-    climbing-next _ _ _ _ _ _ l.loop-i.invariant (omega arith) _ wide.ensures.0 _ _ v.ensures.0 x.ensures.0 (omega arith) (omega arith) x.ensures.1 wide.ensures.1
+pub loop-row-preserved : goal.loop-row-preserved
+loop-row-preserved c =
+    climbing-next _ _ _ _ _ _ c.loop-row.invariant (below-of _ _ _ c.loop-row-test.true c.requires.there.1) _
+    (at-of _ _ _ _ c.wide-r.ensures.0 c.loop-row-test.true c.requires.there.1) _ _ c.wide.ensures.0 c.wide-in-loop-row.ensures.0
+    c.if-r-tables.false c.if-stands-least.false c.wide-in-loop-row.ensures.1 c.wide-r.ensures.1
 
 pub returns : goal.returns
-returns c = climbed _ _ _ _ _ _ c.loop-i.invariant (omega arith)
+returns c = climbed _ _ _ _ _ _ c.loop-row.invariant (omega (arith, length-take-le c.args.tables.now.m c.args.ord.now c.requires.there.1))

@@ -21,13 +21,13 @@ room : (starts : List ℕ) {by marks work touched : List ℕ} {count : ℕ} (v :
 room starts v N h ne = let low = h.0 in let long = h.1 in omega (arith, note-room _ _ _ _ _ _ N v (omega arith) (omega arith) ne, N.in_list)
 
 pub offset_bounds-touched-count : goal.offset_bounds-touched-count
-offset_bounds-touched-count t c = let r = room c.args.starts.now c.args.v c.requires.noted c.requires.there c.if-marks-v-eq1.false in search rules
+offset_bounds-touched-count t c = let r = room c.args.index.now.starts.now c.args.v c.requires.noted c.requires.there c.if-marks-v-eq1.false in search rules
 
 pub bounds-touched-count : goal.bounds-touched-count
-bounds-touched-count t c = room c.args.starts.now c.args.v c.requires.noted c.requires.there c.if-marks-v-eq1.false
+bounds-touched-count t c = room c.args.index.now.starts.now c.args.v c.requires.noted c.requires.there c.if-marks-v-eq1.false
 
 pub overflow_add-listed : goal.overflow_add-listed
-overflow_add-listed t c = let r = room c.args.starts.now c.args.v c.requires.noted c.requires.there c.if-marks-v-eq1.false in search rules
+overflow_add-listed t c = let r = room c.args.index.now.starts.now c.args.v c.requires.noted c.requires.there c.if-marks-v-eq1.false in search rules
 
 pub loop-i-init : goal.loop-i-init
 loop-i-init t c =

@@ -5,6 +5,6 @@ use Rattle.routes.proofs.Passing.{Passed}
 use Rattle.probes.specs.Touched.{Noted}
 use Rattle.probes.proofs.touch.touch_moved.Given as goal
 
-abbrev pub invariant-loop-i : goal.invariant-loop-i
-invariant-loop-i l =
-    Passed (made_from l.makes l.starts l.places) l.moves l.stored l.trial l.initial.marks l.i l.marks × Noted (variables l.starts) l.by l.marks l.work l.touched l.count
+abbrev pub invariant-loop-m : goal.invariant-loop-m
+invariant-loop-m l =
+    Passed (made_from l.makes l.index.starts.now l.index.places.now) l.moves l.stored l.trial l.initial.marks l.m-index l.marks × Noted (variables l.index.starts.now) l.by l.marks l.work l.touched l.count

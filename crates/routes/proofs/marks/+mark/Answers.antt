@@ -24,7 +24,7 @@ mark-requires t c =
 pub loop-i-preserved : goal.loop-i-preserved
 loop-i-preserved t c =
     let k = going-call _ _ _ c.requires.upward _ _ _ _ _ c.loop-i.invariant c.requires.there c.loop-i-test.true _ c.wide.ensures.0 _ c.wide-u.ensures.0 c.requires.markable.room in
-    let w : Reached (λ u. true) (made_from c.args.makes.now c.args.starts.now c.args.places.now) c.wide-u.result c.loop-i.marks c.if-marks-u-ne1.marks
+    let w : Reached (λ u. true) (made_from c.args.makes.now c.args.index.now.starts.now c.args.index.now.places.now) c.wide-u.result c.loop-i.marks c.if-marks-u-ne1.marks
     = elim c.if-marks-u-ne1.branch [
       | then-marks-u-ne1 w ↦ rw w.marks-is w.mark.ensures
       | else-marks-u-ne1 w ↦ rw w.marks-is (reached-still _ _ _ _ k.2.closed (λ z. w.if-marks-u-ne1.false))

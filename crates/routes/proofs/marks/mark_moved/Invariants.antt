@@ -3,5 +3,5 @@ use Rattle.routes.specs.Sections.{made_from}
 use Rattle.routes.proofs.Passing.{Passed}
 use Rattle.routes.proofs.marks.mark_moved.Given as goal
 
-abbrev pub invariant-loop-i : goal.invariant-loop-i
-invariant-loop-i l = Passed (made_from l.makes l.starts l.places) l.moves l.stored l.trial l.initial.marks l.i l.marks
+abbrev pub invariant-loop-m : goal.invariant-loop-m
+invariant-loop-m l = Passed (made_from l.makes l.index.starts.now l.index.places.now) l.moves l.stored l.trial l.initial.marks l.m-index l.marks

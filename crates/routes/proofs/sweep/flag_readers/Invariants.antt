@@ -1,5 +1,5 @@
 -- Each of the readers flags what it makes, and those from this place on are left (`flag-next`). Assumes nothing.
-use Rattle.std.proofs.Common.{◌-◌, ◌≤◌, ◌≡◌, map, length}
+use Rattle.std.proofs.Common.{◌≤◌, ◌≡◌, map, length}
 use Rattle.std.proofs.Math.Seq.{slice}
 use Rattle.paper.specs.Lists.{nat}
 use Rattle.routes.specs.Sections.{made_from}
@@ -8,8 +8,5 @@ use Rattle.routes.proofs.sweep.flag_readers.Given as goal
 
 abbrev pub invariant-loop-i : goal.invariant-loop-i
 invariant-loop-i l =
-    (nat l.starts l.v ≤ l.i) × (length l.flags ≡ length l.initial.flags)
-    × (flag_each (map (nat l.makes) (slice l.i l.end l.places)) l.flags ≡ flag_each (made_from l.makes l.starts l.places l.v) l.initial.flags)
-
-abbrev pub decreases-loop-i : goal.decreases-loop-i
-decreases-loop-i l = l.end - l.i
+    (nat l.index.starts.now l.v ≤ l.i) × (length l.flags ≡ length l.initial.flags)
+    × (flag_each (map (nat l.makes) (slice l.i l.end l.index.places.now)) l.flags ≡ flag_each (made_from l.makes l.index.starts.now l.index.places.now l.v) l.initial.flags)

@@ -1,6 +1,6 @@
 use Rattle.std.proofs.Common.{arith}
 use Rattle.std.proofs.Math.ListN.{length-set}
-use Rattle.paper.specs.Tables.{lent}
+use Rattle.tables.specs.Lent.{lent_tables}
 use Rattle.paper.proofs.Sizes.{sized-facts}
 use Rattle.paper.proofs.Accept.{sound-row}
 use Rattle.routes.proofs.Walks.{row_fits}
@@ -8,38 +8,38 @@ use Rattle.routes.proofs.Flags.{section-of}
 use Rattle.routes.proofs.sweep.turn.Goals as goal
 
 -- the row makes a variable, which stands in the other rows
-pub offset_bounds-makes-r : goal.offset_bounds-makes-r
-offset_bounds-makes-r c =
-    let t = lent c.args.n c.args.m c.args.e c.args.kinds.now c.args.makes.now c.args.params.now c.args.firsts.now c.args.counts.now c.args.vars.now c.args.coefs.now in
+pub offset_bounds-tables-r : goal.offset_bounds-tables-r
+offset_bounds-tables-r c =
+    let t = lent_tables c.args.tables.now in
     omega (arith, c.requires.row, (sized-facts t c.requires.sound.sized).makes)
 
-pub bounds-makes-r : goal.bounds-makes-r
-bounds-makes-r c =
-    let t = lent c.args.n c.args.m c.args.e c.args.kinds.now c.args.makes.now c.args.params.now c.args.firsts.now c.args.counts.now c.args.vars.now c.args.coefs.now in
+pub bounds-tables-r : goal.bounds-tables-r
+bounds-tables-r c =
+    let t = lent_tables c.args.tables.now in
     omega (arith, c.requires.row, (sized-facts t c.requires.sound.sized).makes)
 
 pub bounds-flags-u : goal.bounds-flags-u
 bounds-flags-u c =
-    let t = lent c.args.n c.args.m c.args.e c.args.kinds.now c.args.makes.now c.args.params.now c.args.firsts.now c.args.counts.now c.args.vars.now c.args.coefs.now in
+    let t = lent_tables c.args.tables.now in
     omega (arith, c.wide-u.ensures.0, (sound-row t c.requires.sound c.args.r c.requires.row).makes, c.requires.room.2)
 
 pub row_value-requires : goal.row_value-requires
 row_value-requires c =
-    let t = lent c.args.n c.args.m c.args.e c.args.kinds.now c.args.makes.now c.args.params.now c.args.firsts.now c.args.counts.now c.args.vars.now c.args.coefs.now in
+    let t = lent_tables c.args.tables.now in
     row_fits t c.requires.sound c.args.r c.requires.row c.args.trial.now c.requires.room.1
 
 pub bounds-trial-u : goal.bounds-trial-u
 bounds-trial-u c =
-    let t = lent c.args.n c.args.m c.args.e c.args.kinds.now c.args.makes.now c.args.params.now c.args.firsts.now c.args.counts.now c.args.vars.now c.args.coefs.now in
+    let t = lent_tables c.args.tables.now in
     omega (arith, c.wide-u.ensures.0, (sound-row t c.requires.sound c.args.r c.requires.row).makes, c.requires.room.1)
 
 pub moved-requires : goal.moved-requires
 moved-requires c =
-    let t = lent c.args.n c.args.m c.args.e c.args.kinds.now c.args.makes.now c.args.params.now c.args.firsts.now c.args.counts.now c.args.vars.now c.args.coefs.now in
+    let t = lent_tables c.args.tables.now in
     let low = (sound-row t c.requires.sound c.args.r c.requires.row).makes in
     (omega (arith, c.wide-u.ensures.0, low, c.requires.room.0), simp length-set (omega (arith, c.wide-u.ensures.0, low, c.requires.room.1)))
 
 pub flag_readers-requires : goal.flag_readers-requires
 flag_readers-requires c =
-    let t = lent c.args.n c.args.m c.args.e c.args.kinds.now c.args.makes.now c.args.params.now c.args.firsts.now c.args.counts.now c.args.vars.now c.args.coefs.now in
-    rw c.wide-u.ensures.0 (section-of t c.requires.sound c.args.starts.now c.args.places.now c.requires.index _ _ (sound-row t c.requires.sound c.args.r c.requires.row).makes c.requires.room.2)
+    let t = lent_tables c.args.tables.now in
+    rw c.wide-u.ensures.0 (section-of t c.requires.sound c.args.index.now.starts.now c.args.index.now.places.now c.requires.index _ _ (sound-row t c.requires.sound c.args.r c.requires.row).makes c.requires.room.2)

@@ -1,25 +1,22 @@
-use native.Mathlib.Omega.{arith}
-use mathlib.Core.Path.{sym, ◌∙◌}
-use borrow.Author.Tests.{eqb-true, not-true, not-false}
-use Rattle.paper.specs.Lists.{first_fail}
+use mathlib.Core.Bool.{true, false}
+use mathlib.Core.Path.{◌≡◌, sym, ◌∙◌}
+use lib.ListN.{take}
+use borrow.Author.Rules.{rules}
+use borrow.Author.Tests.{tests}
+use Rattle.std.proofs.lemmas.Iterator.{IsFirst-from_position, YieldsList-from_slice}
+use Rattle.paper.specs.Lists.{between}
 use Rattle.paper.specs.Checks.{kind_good}
-use Rattle.paper.proofs.Scan.{scan-start, scan-next, scan-found, scan-all}
-use Rattle.tables.specs.Rows.{kind_rows}
+use Rattle.tables.specs.Lent.{lent_tables}
+use Rattle.tables.proofs.Whole.{all-none}
+use Rattle.tables.proofs.Positions.{first-position}
 use Rattle.tables.proofs.kind.first_bad_kind.Goals as goal
 
 pub returns-then-kinds_good : goal.returns-then-kinds_good
-returns-then-kinds_good c =
-    let a = c.args in
-    sym (eqb-true (first_fail (kind_good (kind_rows a.kinds.now)) a.m) a.m (sym c.kinds_good.ensures ∙ c.if-kinds_good.true))
-
-pub loop-row-init : goal.loop-row-init
-loop-row-init c = scan-start _ _
-
-pub returns-then-not-kind_good : goal.returns-then-not-kind_good
-returns-then-not-kind_good c = scan-found _ _ _ c.loop-row.invariant (omega arith) (sym c.kind_good.ensures ∙ not-true _ c.if-not-kind_good.true-raw)
-
-pub loop-row-preserved : goal.loop-row-preserved
-loop-row-preserved c = scan-next _ _ _ c.loop-row.invariant (omega arith) (sym c.kind_good.ensures ∙ not-false _ c.if-not-kind_good.false-raw)
+returns-then-kinds_good c = all-none (kind_good (lent_tables c.args.tables.now)) c.args.tables.now.m (sym c.kinds_good.ensures ∙ c.if-kinds_good.true)
 
 pub returns : goal.returns
-returns c = scan-all _ _ _ c.loop-row.invariant (omega arith)
+returns c =
+    let t = c.args.tables.now in
+    first-position (λ k. between 1 k 9) 0 t.m t.kinds.now _ c.requires
+    (IsFirst-from_position _ _ _ (λ k. between 1 k 9 ≡ false) (λ k. between 1 k 9 ≡ true) c.position.ensures.ran (YieldsList-from_slice (take t.m t.kinds.now) cc)
+    (λ x q k. search (rules, tests)) (λ x q k. search (rules, tests)))

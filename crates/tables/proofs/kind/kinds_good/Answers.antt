@@ -1,21 +1,16 @@
-use native.Mathlib.Omega.{arith}
-use mathlib.Core.Bool.{◌&&◌}
-use mathlib.Core.Path.{◌≡◌, refl, ap, ◌∙◌}
-use Rattle.paper.specs.Lists.{all_below}
-use Rattle.paper.specs.Checks.{kind_good}
-use Rattle.tables.specs.Rows.{kind_rows}
-use Rattle.tables.proofs.Whole.{below_next}
+use Prim.Native.Nat.{ℕ}
+use mathlib.Core.Bool.{Bool}
+use mathlib.Core.Path.{◌≡◌, refl, ◌∙◌}
+use lib.ListN.{take}
+use borrow.Author.Rules.{rules}
+use Rattle.std.proofs.lemmas.Fn.{fronts, fold_over}
+use Rattle.std.proofs.lemmas.Iterator.{YieldsList-from_slice}
+use Rattle.paper.specs.Lists.{between, all}
+use Rattle.tables.proofs.Whole.{fold_push, all-first}
 use Rattle.tables.proofs.kind.kinds_good.Goals as goal
-
-pub loop-row-init : goal.loop-row-init
-loop-row-init c = (omega arith, refl)
-
-pub loop-row-preserved : goal.loop-row-preserved
-loop-row-preserved c =
-    let l = c.loop-row in
-    (omega arith, ap (l.good &&◌) c.kind_good-good.ensures ∙ below_next (kind_good (kind_rows c.args.kinds.now)) l.row l.good l.invariant.1)
 
 pub returns : goal.returns
 returns c =
-    let a = c.args in let l = c.loop-row in let same : l.row ≡ a.m = omega arith in
-    l.invariant.1 ∙ ap (all_below (kind_good (kind_rows a.kinds.now))) same
+    let p : ℕ → Bool = λ k. between 1 k 9 in let t = c.args.tables.now in
+    fold_over fronts _ _ (λ ys b. b ≡ all p ys) _ (λ ys a x b f j k. (fold_push p ys x.now j (search rules), search rules)) c.iter.result (take t.m t.kinds.now) _ _ (YieldsList-from_slice {s = c.iter.result} (take t.m t.kinds.now) cc).runs refl c.fold.ensures.ran
+    ∙ all-first p 0 t.m t.kinds.now c.requires

@@ -2,7 +2,7 @@ use native.Mathlib.Omega.{arith}
 use mathlib.Core.Path.{ap, ◌∙◌}
 use lib.IntN.{pos}
 use lib.ListN.{get_or}
-use borrow.Author.Rules.{sfits_of}
+use borrow.Author.Rules.{rules}
 use mir.Syntax.{w32}
 use mir.Val.{SFits}
 use mir.Facts.{to_z-of_z}
@@ -17,8 +17,8 @@ loop-row-init c = joint-start _ _
 pub loop-row-preserved : goal.loop-row-preserved
 loop-row-preserved c =
     let a = c.args in let l = c.loop-row in
-    let fits : SFits w32 (get_or a.params.now l.row (pos 0)) = sfits_of c.param_good-arg-1.given in
-    joint-next _ _ l.row l.good _ l.invariant (omega arith) (c.param_good-good.ensures ∙ ap (param_good (nat a.kinds.now l.row)) (to_z-of_z fits))
+    let fits : SFits w32 (get_or a.tables.now.params.now l.row (pos 0)) = search rules in
+    joint-next _ _ l.row l.good _ l.invariant (omega arith) (c.param_good-good.ensures ∙ ap (param_good (nat a.tables.now.kinds.now l.row)) (to_z-of_z fits))
 
 pub returns : goal.returns
 returns c = joint-end _ _ _ _ c.loop-row.invariant (omega arith)

@@ -8,7 +8,7 @@ use Rattle.tables.specs.Rows.{param_good}
 use Rattle.tables.proofs.number.params_good.Given as goal
 
 abbrev pub invariant-loop-row : goal.invariant-loop-row
-invariant-loop-row l = Joint (λ r. param_good (nat l.kinds r) (get_or l.params r (pos 0))) l.m l.row l.good
+invariant-loop-row l = Joint (λ r. param_good (nat l.tables.kinds.now r) (get_or l.tables.params.now r (pos 0))) l.tables.m l.row l.good
 
 abbrev pub decreases-loop-row : goal.decreases-loop-row
-decreases-loop-row l = l.m - l.row
+decreases-loop-row l = l.tables.m - l.row

@@ -5,7 +5,7 @@ use Rattle.tables.proofs.number.part_of.Goals as goal
 
 pub returns : goal.returns
 returns c =
-    let a = c.args in let e = c.before.before.before in let s = c.before in
-    let f = e.wide.ensures.0 in let k = e.wide-2.ensures.0 in let g = s.wide-3.ensures.0 in
-    let end = e.lesser-end.ensures in let start = s.lesser-start.ensures in
-    cut-within a.coefs.now a.first a.count s.lesser-start.result e.lesser-end.result (omega arith) (omega arith)
+    let a = c.args in
+    let f = c.wide.ensures in let k = c.wide-2.ensures in let g = c.wide-3.ensures in
+    let end = c.min-end.ensures in let start = c.min-start.ensures in
+    cut-within a.coefs.now a.first a.count _ _ (omega arith) (omega arith)

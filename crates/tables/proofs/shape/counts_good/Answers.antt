@@ -13,10 +13,10 @@ pub loop-row-preserved : goal.loop-row-preserved
 loop-row-preserved c =
     let a = c.args in let l = c.loop-row in (
       omega arith,
-      ap (l.good &&◌) c.arity_good-good.ensures ∙ below_next (λ r. arity (nat a.kinds.now r) (nat a.counts.now r)) l.row l.good l.invariant.1,
+      ap (l.good &&◌) c.arity_good-good.ensures ∙ below_next (λ r. arity (nat a.tables.now.kinds.now r) (nat a.tables.now.counts.now r)) l.row l.good l.invariant.1,
     )
 
 pub returns : goal.returns
 returns c =
-    let a = c.args in let l = c.loop-row in let same : l.row ≡ a.m = omega arith in
-    l.invariant.1 ∙ ap (all_below (λ r. arity (nat a.kinds.now r) (nat a.counts.now r))) same
+    let a = c.args in let l = c.loop-row in let same : l.row ≡ a.tables.now.m = omega arith in
+    l.invariant.1 ∙ ap (all_below (λ r. arity (nat a.tables.now.kinds.now r) (nat a.tables.now.counts.now r))) same

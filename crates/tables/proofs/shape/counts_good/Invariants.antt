@@ -6,7 +6,7 @@ use Rattle.paper.specs.Checks.{arity}
 use Rattle.tables.proofs.shape.counts_good.Given as goal
 
 abbrev pub invariant-loop-row : goal.invariant-loop-row
-invariant-loop-row l = (l.row ≤ l.m) × (l.good ≡ all_below (λ r. arity (nat l.kinds r) (nat l.counts r)) l.row)
+invariant-loop-row l = (l.row ≤ l.tables.m) × (l.good ≡ all_below (λ r. arity (nat l.tables.kinds.now r) (nat l.tables.counts.now r)) l.row)
 
 abbrev pub decreases-loop-row : goal.decreases-loop-row
-decreases-loop-row l = l.m - l.row
+decreases-loop-row l = l.tables.m - l.row

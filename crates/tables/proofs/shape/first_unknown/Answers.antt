@@ -1,25 +1,16 @@
-use native.Mathlib.Omega.{arith}
-use borrow.Author.Tests.{lt-ltb, le-ltb}
-use Rattle.paper.specs.Lists.{nat}
-use Rattle.paper.proofs.Scan.{scan-start, scan-next, scan-found, scan-all}
+use mathlib.Core.Bool.{true, false}
+use mathlib.Core.Path.{◌≡◌}
+use lib.Dec.{ltb}
+use lib.ListN.{take}
+use borrow.Author.Rules.{rules}
+use borrow.Author.Tests.{tests}
+use Rattle.std.proofs.lemmas.Iterator.{IsFirst-from_position, YieldsList-from_slice}
+use Rattle.tables.proofs.Positions.{first-position}
 use Rattle.tables.proofs.shape.first_unknown.Goals as goal
 
-pub loop-i-init : goal.loop-i-init
-loop-i-init c = scan-start _ _
-
-pub returns-then-n-wide : goal.returns-then-n-wide
-returns-then-n-wide c =
-    let a = c.args in
-    let l = c.loop-i in
-    let w = c.wide.ensures in
-    scan-found _ _ _ l.invariant (omega arith) (le-ltb (nat a.vars.now l.i) a.n (omega arith))
-
-pub loop-i-preserved : goal.loop-i-preserved
-loop-i-preserved c =
-    let a = c.args in
-    let l = c.loop-i in
-    let w = c.wide.ensures in
-    scan-next _ _ _ l.invariant (omega arith) (lt-ltb (nat a.vars.now l.i) a.n (omega arith))
-
 pub returns : goal.returns
-returns c = scan-all _ _ _ c.loop-i.invariant (omega arith)
+returns c =
+    let a = c.args in
+    first-position (λ v. ltb v a.n) 0 a.count a.vars.now _ c.requires
+    (IsFirst-from_position _ _ _ (λ v. ltb v a.n ≡ false) (λ v. ltb v a.n ≡ true) c.position.ensures.ran (YieldsList-from_slice (take a.count a.vars.now) cc)
+    (λ x q k. search (rules, tests)) (λ x q k. search (rules, tests)))

@@ -1,21 +1,18 @@
+use Prim.Native.Nat.{ℕ, max}
+use mathlib.Core.List.{List, [], ◌∷◌, ◌++◌}
+use mathlib.Core.Path.{◌≡◌, refl}
 use native.Mathlib.Omega.{arith}
-use mathlib.Core.Path.{refl, ap}
-use lib.ListN.{drop_of_length-le}
+use borrow.Author.Rules.{rules}
+use Rattle.std.proofs.lemmas.Fn.{fronts, fold_over}
+use Rattle.std.proofs.lemmas.Iterator.{YieldsList-from_slice}
 use Rattle.paper.specs.Lists.{greatest}
-use Rattle.paper.proofs.Scan.{next}
 use Rattle.tables.proofs.shape.greatest_of.Goals as goal
 
-pub loop-i-init : goal.loop-i-init
-loop-i-init c = (refl, omega arith, omega arith)
-
-pub loop-i-preserved : goal.loop-i-preserved
-loop-i-preserved c =
-    let a = c.args in let l = c.loop-i in
-    let rest = ap greatest (next a.vars.now l.i 0 (omega arith)) in let own = c.larger-best.ensures in let all = l.invariant.2 in
-    (refl, omega arith, omega arith)
+-- the greatest of what was passed, and the next
+push : (xs : List ℕ) {a b : ℕ} (x : ℕ) → a ≡ greatest xs → b ≡ max a x → b ≡ greatest (xs ++ (x ∷ []))
+push [] x h e = omega arith
+push (y ∷ ys) x h e = let rest : max (greatest ys) x ≡ greatest (ys ++ (x ∷ [])) = push ys x refl refl in omega arith
 
 pub returns : goal.returns
 returns c =
-    let l = c.loop-i in
-    let none = ap greatest (drop_of_length-le c.args.vars.now {i = l.i} (omega arith)) in let all = l.invariant.2 in
-    omega arith
+    fold_over fronts _ _ (λ ys b. b ≡ greatest ys) _ (λ ys a x b f j k. (push ys x.now j (search rules), search rules)) c.iter.result c.args.vars.now _ _ (YieldsList-from_slice {s = c.iter.result} c.args.vars.now cc).runs refl c.fold.ensures.ran

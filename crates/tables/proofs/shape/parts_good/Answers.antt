@@ -1,24 +1,18 @@
+use Prim.Native.Nat.{◌<◌}
 use native.Mathlib.Omega.{arith}
+use borrow.Author.Rules.{rules}
+use Rattle.paper.specs.Lists.{nat}
 use Rattle.tables.proofs.Placing.{placing-start, placing-next, placing-end}
 use Rattle.tables.proofs.shape.parts_good.Goals as goal
 
 pub loop-row-init : goal.loop-row-init
 loop-row-init c = (omega arith, placing-start _ _ _)
 
-pub overflow_cast-first : goal.overflow_cast-first
-overflow_cast-first c = omega (arith, c.shared_slice_known-1.given c.loop-row.row)
-
-pub overflow_cast-before : goal.overflow_cast-before
-overflow_cast-before c = omega (arith, c.shared_slice_known-in-loop-row-1.given c.loop-row.row)
-
-pub overflow_add-before : goal.overflow_add-before
-overflow_add-before c =
-    let row = c.loop-row.row in omega (arith, c.shared_slice_known-1.given row, c.shared_slice_known-in-loop-row-1.given row)
-
 pub loop-row-preserved : goal.loop-row-preserved
 loop-row-preserved c =
-    let l = c.loop-row in
-    (omega (arith, c.shared_slice_known-1.given l.row, c.shared_slice_known-in-loop-row-1.given l.row), placing-next _ _ _ _ _ _ l.invariant.1 (omega arith) (omega arith))
+    let a = c.args.tables.now in let row = c.loop-row.row in
+    let f : nat a.firsts.now row < 65536 = search rules in let k : nat a.counts.now row < 65536 = search rules in
+    rw c.from-first.ensures (rw c.from.ensures (omega arith, placing-next _ _ _ _ _ _ c.loop-row.invariant.1 (omega arith) (omega arith)))
 
 pub returns : goal.returns
 returns c = placing-end _ _ _ _ _ _ c.loop-row.invariant.1 _ (omega arith)

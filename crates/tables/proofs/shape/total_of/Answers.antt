@@ -1,25 +1,12 @@
 use native.Mathlib.Omega.{arith}
-use mathlib.Core.Path.{◌≡◌, refl, ap, ◌∙◌}
-use lib.ListN.{take}
-use Rattle.paper.specs.Lists.{total}
+use lib.Seq.{get_or-take, length-take-le}
 use Rattle.paper.proofs.Scan.{total-next}
 use Rattle.tables.proofs.shape.total_of.Goals as goal
 
-pub loop-row-init : goal.loop-row-init
-loop-row-init c = (omega arith, omega arith, refl)
-
-pub overflow_add-sum : goal.overflow_add-sum
-overflow_add-sum c = let w = c.wide-sum.ensures in omega arith
-
-pub loop-row-preserved : goal.loop-row-preserved
-loop-row-preserved c =
-    let l = c.loop-row in
-    let w = c.wide-sum.ensures in
-    let z = l.invariant.2 in
-    (omega arith, omega arith, omega (arith, total-next c.args.counts.now l.row (omega arith)))
-
-pub returns : goal.returns
-returns c =
-    let l = c.loop-row in
-    let same : l.row ≡ c.args.m = omega arith in
-    l.invariant.2 ∙ ap (λ k. total (take k c.args.counts.now)) same
+pub loop-count-preserved : goal.loop-count-preserved
+loop-count-preserved c =
+    let t = c.args.tables.now in let l = c.loop-count in
+    let long = length-take-le t.m t.counts.now c.requires.0 in
+    let own = get_or-take t.m t.counts.now l.count-index 0 (omega arith) in
+    let w = c.wide-sum.ensures in let sum = l.invariant.1 in
+    (omega arith, omega (arith, total-next t.counts.now l.count-index (omega arith)))

@@ -7,4 +7,4 @@ use Rattle.tables.proofs.Tests.{joined-every}
 use Rattle.tables.proofs.size.sizes.Goals as goal
 
 pub returns : goal.returns
-returns c = ap (◌&& leb c.args.n (length c.args.values.now)) (joined-every _ _)
+returns c = ap (◌&& leb c.args.tables.now.n (length c.args.values.now)) (joined-every _ _)

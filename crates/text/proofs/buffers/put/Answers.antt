@@ -1,5 +1,4 @@
 -- With room for the byte it stands at the place, and without the buffer is as before. Assumes nothing.
-use borrow.Author.Rules.{rules}
 use Rattle.text.proofs.Laid.{put_byte, put-no-byte}
 use Rattle.text.proofs.buffers.put.Goals as goal
 

@@ -2,7 +2,6 @@
 use lib.IntN.{pos}
 use mir.Facts.{sfits_lit}
 use mir.Syntax.{w32}
-use borrow.Author.Rules.{rules}
 use Rattle.integers.proofs.Bits.{lt-read}
 use Rattle.text.proofs.Laid.{put-nothing}
 use Rattle.text.proofs.buffers.put_sign.Goals as goal

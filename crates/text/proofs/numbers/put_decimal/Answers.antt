@@ -1,7 +1,6 @@
 -- `io::decimal` gives the fewest digits, which are those of `decimal` (`decimal-is`). Assumes nothing.
 use native.Mathlib.Omega.{arith}
 use mathlib.Core.Path.{◌∙◌}
-use borrow.Author.Rules.{rules}
 use Rattle.text.proofs.Tens.{decimal-is}
 use Rattle.text.proofs.numbers.put_decimal.Goals as goal
 

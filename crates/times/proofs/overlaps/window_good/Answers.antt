@@ -5,6 +5,5 @@ use Rattle.times.proofs.overlaps.window_good.Goals as goal
 
 pub returns : goal.returns
 returns c =
-    let s = c.before.before.before in
-    simp (c.has_value.ensures, c.has_value-2.ensures, c.has_value-3.ensures, to_z-of_z s.ranges.start, to_z-of_z s.ranges.end, to_z-of_z s.ranges.headway)
+    simp (c.is_blank.ensures, c.is_blank-2.ensures, c.is_blank-3.ensures, to_z-of_z c.ranges.start, to_z-of_z c.ranges.end, to_z-of_z c.ranges.headway)
     (joined-every _ _)

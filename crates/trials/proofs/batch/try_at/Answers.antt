@@ -1,19 +1,14 @@
 -- The parts of both rows come back to their places as the trial left them (`given-at`). Assumes nothing.
-use Rattle.std.proofs.Common.{◌≡◌, ◌+◌, ◌-◌, refl, arith}
-use Rattle.checks.specs.Moves.{move_of}
-use Rattle.verdicts.specs.Lent.{to_model}
+use Rattle.std.proofs.Common.{◌≡◌, ◌+◌, ◌-◌, arith}
+use Rattle.tables.specs.Lent.{lent_model, lent_move}
 use Rattle.records.specs.Left.{record_in}
-use Rattle.trials.specs.Trials.{question}
+use Rattle.trials.specs.Trials.{question_of}
 use Rattle.trials.proofs.Scratch.{given-at}
 use Rattle.trials.proofs.batch.try_at.Goals as goal
 
-pub try_given-requires : goal.try_given-requires
-try_given-requires g c = (refl, (rw (← c.requires.0) at c.requires.1.0, (c.requires.1.1.0, c.requires.1.1.1)))
-
 pub returns : goal.returns
-returns g c =
+returns c =
     let a = c.args in
-    let z : (a.at + a.asked) - a.at ≡ a.asked = omega arith in
-    rw (← c.requires.0)
-    (given-at (record_in a.session) (to_model a.n a.m a.e a.kinds.now a.makes.now a.params.now a.firsts.now a.counts.now a.vars.now a.coefs.now a.lows.now a.highs.now a.numbers.now a.order.now a.stored.now a.reader_starts.now a.reader_places.now a.reasons.now) (question a.asked a.asked_vars.now a.route) (move_of a.pairs a.move_vars.now a.move_values.now) a.at a.results.now a.why.now
-    _ _ z _ _ c.try_given.ensures)
+    let z : (a.at + a.asked.now.count) - a.at ≡ a.asked.now.count = omega arith in
+    given-at (record_in a.session) (lent_model a.model.now) (question_of a.asked.now) (lent_move a.mv.now) a.at a.results.now a.why.now
+    _ _ z _ _ c.try_given.ensures

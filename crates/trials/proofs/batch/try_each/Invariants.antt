@@ -1,20 +1,17 @@
 -- What is filled in, and what the moves that are left will be given, are what all are given (`Going`). Assumes nothing.
-use Rattle.std.proofs.Common.{◌≡◌, length}
-use Rattle.verdicts.specs.Lent.{to_model}
+use Rattle.tables.specs.Lent.{lent_model}
 use Rattle.records.specs.Left.{record_in}
-use Rattle.trials.specs.Batch.{batch_of}
-use Rattle.trials.specs.Trials.{question, rows_in}
-use Rattle.trials.proofs.Going.{Going}
+use Rattle.trials.specs.Batch.{batch_lent}
+use Rattle.trials.specs.Trials.{question_of, rows_in}
+use Rattle.trials.proofs.Going.{Fitting, Going}
 use Rattle.trials.proofs.batch.try_each.Given as goal
 
-abbrev pub ghost-try_at : goal.ghost-try_at
-ghost-try_at g a = to_model a.n a.m a.e a.kinds.now a.makes.now a.params.now a.firsts.now a.counts.now a.vars.now a.coefs.now a.lows.now a.highs.now a.numbers.now a.order.now a.stored.now a.reader_starts.now a.reader_places.now a.reasons.now
-
 abbrev pub invariant-loop-i : goal.invariant-loop-i
-invariant-loop-i g l = record {
-  going : Going (record_in l.session) (to_model l.n l.m l.e l.kinds l.makes l.params l.firsts l.counts l.vars l.coefs l.lows l.highs l.numbers l.order l.stored l.reader_starts l.reader_places l.reasons) (batch_of l.moves l.move_pairs l.move_vars l.move_values) (question l.asked l.asked_vars l.route)
-      (rows_in l.initial.move_numbers l.initial.move_places l.initial.move_evaluations l.initial.results l.initial.why) (rows_in l.move_numbers l.move_places l.move_evaluations l.results l.why)
+invariant-loop-i l = record {
+  fit : Fitting (batch_lent l.batch) (question_of l.asked)
+      (rows_in l.initial.move_numbers l.initial.move_places l.initial.move_evaluations l.initial.results l.initial.why);
+  going : Going (record_in l.session) (lent_model l.model) (batch_lent l.batch) (question_of l.asked)
+      (rows_in l.initial.move_numbers l.initial.move_places l.initial.move_evaluations l.initial.results l.initial.why)
+      (rows_in l.move_numbers l.move_places l.move_evaluations l.results l.why)
       l.evaluations l.first l.at l.i;
-  trial_long : length l.trial ≡ 4096;
-  flags_long : length l.flags ≡ 4096;
 }

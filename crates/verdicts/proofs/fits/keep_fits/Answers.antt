@@ -4,8 +4,7 @@ use Rattle.tables.proofs.Tests.{joined, joined-every}
 use Rattle.verdicts.proofs.fits.keep_fits.Goals as goal
 
 pub returns : goal.returns
-returns g c =
+returns c =
     let a = c.args in
-    rw (← c.requires)
-    ((λ i. joined (c.model_fits.ensures i) (c.move_sizes.ensures i ∷ leb a.n (length a.flags.now) ∷ c.log_fits.ensures i ∷ []))
-    ∙ joined-every _ (_ ∷ _ ∷ _ ∷ []))
+    (λ i. joined (c.model_fits.ensures i) (c.move_sizes.ensures i ∷ leb a.model.now.tables.n (length a.flags.now) ∷ c.log_fits.ensures i ∷ []))
+    ∙ joined-every _ (_ ∷ _ ∷ _ ∷ [])

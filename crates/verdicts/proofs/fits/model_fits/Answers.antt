@@ -6,7 +6,7 @@ use Rattle.verdicts.proofs.fits.model_fits.Goals as goal
 
 pub returns : goal.returns
 returns c =
-    let a = c.args in
+    let w = c.args.model.now in let t = w.tables in
     (λ i. joined (c.sizes.ensures i) (
-    leb a.n (length a.numbers.now) ∷ leb a.m (length a.order.now) ∷ c.index_fits.ensures i ∷ c.bounds_fit.ensures i ∷ c.reasons_fit.ensures i ∷ []))
+    leb t.n (length w.numbers.now) ∷ leb t.m (length w.order.now) ∷ c.index_fits.ensures i ∷ c.bounds_fit.ensures i ∷ c.reasons_fit.ensures i ∷ []))
     ∙ third-first _ _ _ _ (_ ∷ _ ∷ _ ∷ [])

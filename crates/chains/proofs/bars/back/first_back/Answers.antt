@@ -1,20 +1,14 @@
-use mathlib.Core.Bool.{not}
-use mathlib.Core.Path.{ap, sym, ◌∙◌}
-use native.Mathlib.Omega.{arith}
-use Rattle.paper.proofs.Scan.{scan-start, scan-found, scan-next, scan-end}
+-- The search finds the first that has such a link (`found-in_range`). Assumes nothing.
+use Rattle.std.proofs.Common.{◌≡◌, true, false, rules}
+use borrow.Author.Tests.{tests}
+use Rattle.std.proofs.lemmas.Iterator.{first_from_Range}
+use Rattle.groups.specs.Links.{links_of}
+use Rattle.chains.specs.Back.{leads_back}
+use Rattle.chains.proofs.Found.{found-in_range}
 use Rattle.chains.proofs.bars.back.first_back.Goals as goal
 
-pub loop-v-init : goal.loop-v-init
-loop-v-init c = scan-start _ _
-
-pub leads_back-requires : goal.leads_back-requires
-leads_back-requires c = record { parted = c.requires.parted; there = omega arith }
-
-pub returns-then-leads_back : goal.returns-then-leads_back
-returns-then-leads_back c = scan-found _ _ _ c.loop-v.invariant (omega arith) (ap not (sym c.leads_back.ensures ∙ c.if-leads_back.true))
-
-pub loop-v-preserved : goal.loop-v-preserved
-loop-v-preserved c = scan-next _ _ _ c.loop-v.invariant (omega arith) (ap not (sym c.leads_back.ensures ∙ c.if-leads_back.false))
-
 pub returns : goal.returns
-returns c = scan-end _ _ _ c.loop-v.invariant (omega arith)
+returns c =
+    let back = leads_back (links_of c.args.links.now) c.args.marks.now in
+    found-in_range back c.args.links.now.n c.find.result
+    (first_from_Range _ _ _ c.find.result (λ v. back v ≡ true) (λ v. back v ≡ false) c.find.ensures.ran (λ x q k. search (rules, tests)) (λ x q k. search (rules, tests)))

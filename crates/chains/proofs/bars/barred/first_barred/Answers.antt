@@ -1,22 +1,13 @@
-use mathlib.Core.Bool.{false, not}
-use mathlib.Core.Path.{ap, sym, ◌∙◌}
-use native.Mathlib.Omega.{arith}
-use lib.ListN.{get_or}
-use Rattle.paper.proofs.Scan.{scan-start, scan-found, scan-next, scan-end}
+-- The search finds the first whose mark is barred (`found-in_front`). Assumes nothing.
+use Rattle.std.proofs.Common.{◌≡◌, true, false, get_or, take, rules, arith}
+use borrow.Author.Tests.{tests}
+use Rattle.std.proofs.lemmas.Iterator.{IsFirst-from_position, YieldsList-from_slice}
+use Rattle.chains.proofs.Found.{found-in_front}
 use Rattle.chains.proofs.bars.barred.first_barred.Goals as goal
 
-pub loop-v-init : goal.loop-v-init
-loop-v-init c = scan-start _ _
-
-pub returns-then-barred-wide : goal.returns-then-barred-wide
-returns-then-barred-wide c =
-    let e = ap (λ k. get_or c.args.barred.now k false) c.wide.ensures.0 in
-    scan-found _ _ _ c.loop-v.invariant (omega arith) (ap not (sym e ∙ c.if-barred-wide.true))
-
-pub loop-v-preserved : goal.loop-v-preserved
-loop-v-preserved c =
-    let e = ap (λ k. get_or c.args.barred.now k false) c.wide.ensures.0 in
-    scan-next _ _ _ c.loop-v.invariant (omega arith) (ap not (sym e ∙ c.if-barred-wide.false))
-
 pub returns : goal.returns
-returns c = scan-end _ _ _ c.loop-v.invariant (omega arith)
+returns c =
+    let barred = c.args.barred.now in let front = take c.args.n c.args.marks.now in
+    found-in_front (λ mark. get_or barred mark false) c.args.marks.now c.args.n (omega arith) c.position.result
+    (IsFirst-from_position _ _ c.position.result (λ mark. get_or barred mark false ≡ true) (λ mark. get_or barred mark false ≡ false) c.position.ensures.ran
+    (YieldsList-from_slice front cc) (λ x q k. search (rules, tests)) (λ x q k. search (rules, tests)))

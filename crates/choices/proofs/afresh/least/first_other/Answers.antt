@@ -1,20 +1,26 @@
-use Rattle.std.proofs.Common.{arith, ◌&&◌, ap, ap₂, sym, ◌∙◌, eqb, pos, get_or}
+use Rattle.std.proofs.Common.{ℕ, rules, ◌≡◌, ◌∙◌, ap, refl, sym, ℤ, Bool, true, false, not, ◌&&◌, ◌||◌, eqb, get_or, pos}
 use mir.Syntax.{w32}
-use mir.Val.{SFits}
-use mir.Facts.{to_z-of_z}
-use borrow.Author.Rules.{sfits_of}
+use mir.Val.{SFits, of_z}
+use borrow.Author.Tests.{not-true, not-false}
 use Rattle.integers.specs.Integers.{eq_z}
+use Rattle.integers.proofs.Bits.{eqb-bits}
 use Rattle.paper.specs.Lists.{nat}
-use Rattle.paper.proofs.Scan.{scan-found, scan-end}
+use Rattle.std.proofs.lemmas.Iterator.{first_from_Range}
+use Rattle.tables.proofs.Positions.{first-found}
 use Rattle.choices.proofs.afresh.least.first_other.Goals as goal
 
--- the test is the definition's
-pub returns-then-not-states-v : goal.returns-then-not-states-v
-returns-then-not-states-v c =
-    let stored : SFits w32 (get_or c.args.stored.now c.loop-v.v (pos 0)) = sfits_of c.same-arg-1.given in
-    let value : SFits w32 (get_or c.args.values.now c.loop-v.v (pos 0)) = sfits_of c.same-arg-in-loop-v-1.given in
-    let tested = ap (eqb (nat c.args.states.now c.loop-v.v) 2 &&◌) (sym (c.same.ensures ∙ ap₂ eq_z (to_z-of_z stored) (to_z-of_z value))) in
-    scan-found _ _ _ c.loop-v.invariant (omega arith) (tested ∙ c.if-not-states-v.true)
+-- the test that a variable fails, read back from the bits of the values
+tested : (state : Bool) (a b : ℤ) {t : Bool} → SFits w32 a → SFits w32 b → (not state || not (eqb (of_z w32 a) (of_z w32 b))) ≡ t → not (state && eq_z a b) ≡ t
+tested state a b f g e = ap (λ x. not (state && x)) (sym (eqb-bits w32 a b f g)) ∙ sym (deny state (eqb (of_z w32 a) (of_z w32 b))) ∙ e
+  where
+    deny : (x y : Bool) → (not x || not y) ≡ not (x && y)
+    deny true y = refl
+    deny false y = refl
 
 pub returns : goal.returns
-returns c = scan-end _ _ _ c.loop-v.invariant (omega arith)
+returns c =
+    let good : ℕ → Bool = λ v. eqb (nat c.args.states.now v) 2 && eq_z (get_or c.args.stored.now v (pos 0)) (get_or c.args.values.now v (pos 0)) in
+    first-found good c.args.n _
+    (first_from_Range _ _ _ _ (λ v. good v ≡ false) (λ v. good v ≡ true) c.find.ensures.ran
+    (λ v q k. not-true _ (tested (eqb (nat c.args.states.now v) 2) (get_or c.args.stored.now v (pos 0)) (get_or c.args.values.now v (pos 0)) (search rules) (search rules) (search rules)))
+    (λ v q k. (search rules, not-false _ (tested (eqb (nat c.args.states.now v) 2) (get_or c.args.stored.now v (pos 0)) (get_or c.args.values.now v (pos 0)) (search rules) (search rules) (search rules)))))

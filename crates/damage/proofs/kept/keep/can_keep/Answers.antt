@@ -2,23 +2,27 @@
 use native.Mathlib.Omega.{arith}
 use mathlib.Core.Bool.{◌&&◌}
 use mathlib.Core.Path.{ap₂, sym, ◌∙◌}
-use Rattle.paper.specs.Tables.{lent}
+use Rattle.tables.specs.Lent.{lent_tables}
 use Rattle.damage.specs.Saved.{kept_rows}
 use Rattle.damage.proofs.Alone.{alone-low}
 use Rattle.damage.proofs.Keeping.{gives-sized, whole-inside, not-whole, not-alone, keep-last}
 use Rattle.damage.proofs.kept.keep.can_keep.Goals as goal
 
-pub bounds-firsts-row : goal.bounds-firsts-row
-bounds-firsts-row c =
+pub bounds-tables-row : goal.bounds-tables-row
+bounds-tables-row c =
     let h = gives-sized c.requires.file_gives in omega arith
 
-pub bounds-counts-row : goal.bounds-counts-row
-bounds-counts-row c =
+pub bounds-tables-row-2 : goal.bounds-tables-row-2
+bounds-tables-row-2 c =
+    let h = gives-sized c.requires.file_gives in omega arith
+
+pub bounds-tables-row-3 : goal.bounds-tables-row-3
+bounds-tables-row-3 c =
     let h = gives-sized c.requires.file_gives in omega arith
 
 pub returns-then-not-whole : goal.returns-then-not-whole
 returns-then-not-whole c =
-    let a = c.args in not-whole a.bytes.now (lent a.n a.m a.e a.kinds.now a.makes.now a.params.now a.firsts.now a.counts.now a.vars.now a.coefs.now) a.row (kept_rows a.bytes.now a.row) c.requires.file_gives (sym (ap₂ ◌&&◌ c.row_whole.ensures c.entries_whole.ensures) ∙ c.if-not-whole.true)
+    let a = c.args in not-whole a.bytes.now (lent_tables a.tables.now) a.row (kept_rows a.bytes.now a.row) c.requires.file_gives (sym (ap₂ ◌&&◌ c.row_whole.ensures c.entries_whole.ensures) ∙ c.if-not-whole.true)
 
 pub alone_good-requires-clause-sized : goal.alone_good-requires-clause-sized
 alone_good-requires-clause-sized c =
@@ -26,27 +30,19 @@ alone_good-requires-clause-sized c =
 
 pub alone_good-requires-clause-row_lt_m : goal.alone_good-requires-clause-row_lt_m
 alone_good-requires-clause-row_lt_m c =
-    let a = c.args in (c.requires.row_lt_m, whole-inside a.bytes.now (lent a.n a.m a.e a.kinds.now a.makes.now a.params.now a.firsts.now a.counts.now a.vars.now a.coefs.now) a.row (sym (ap₂ ◌&&◌ c.row_whole.ensures c.entries_whole.ensures) ∙ c.if-not-whole.false))
+    let a = c.args in (c.requires.row_lt_m, whole-inside a.bytes.now (lent_tables a.tables.now) a.row (sym (ap₂ ◌&&◌ c.row_whole.ensures c.entries_whole.ensures) ∙ c.if-not-whole.false))
 
 pub returns-then-not-alone_good : goal.returns-then-not-alone_good
 returns-then-not-alone_good c =
-    let a = c.args in not-alone a.bytes.now (lent a.n a.m a.e a.kinds.now a.makes.now a.params.now a.firsts.now a.counts.now a.vars.now a.coefs.now) a.row (kept_rows a.bytes.now a.row) c.requires.file_gives (sym (ap₂ ◌&&◌ c.row_whole.ensures c.entries_whole.ensures) ∙ c.if-not-whole.false) (sym c.alone_good.ensures ∙ c.if-not-alone_good.true)
-
-pub bounds-makes-row : goal.bounds-makes-row
-bounds-makes-row c =
-    let h = gives-sized c.requires.file_gives in omega arith
-
-pub bounds-counts-row-2 : goal.bounds-counts-row-2
-bounds-counts-row-2 c =
-    let h = gives-sized c.requires.file_gives in omega arith
+    let a = c.args in not-alone a.bytes.now (lent_tables a.tables.now) a.row (kept_rows a.bytes.now a.row) c.requires.file_gives (sym (ap₂ ◌&&◌ c.row_whole.ensures c.entries_whole.ensures) ∙ c.if-not-whole.false) (sym c.alone_good.ensures ∙ c.if-not-alone_good.true)
 
 pub can_join-requires : goal.can_join-requires
 can_join-requires c =
-    let a = c.args in let h = gives-sized c.requires.file_gives in let full = c.requires.taken.full in let low = alone-low (lent a.n a.m a.e a.kinds.now a.makes.now a.params.now a.firsts.now a.counts.now a.vars.now a.coefs.now) a.row (sym c.alone_good.ensures ∙ c.if-not-alone_good.false) in
+    let a = c.args in let h = gives-sized c.requires.file_gives in let full = c.requires.taken.full in let low = alone-low (lent_tables a.tables.now) a.row (sym c.alone_good.ensures ∙ c.if-not-alone_good.false) in
     (omega arith, c.requires.taken.few)
 
 pub returns : goal.returns
 returns c =
-    let a = c.args in let h = gives-sized c.requires.file_gives in let good = (sym c.alone_good.ensures ∙ c.if-not-alone_good.false) in let low = alone-low (lent a.n a.m a.e a.kinds.now a.makes.now a.params.now a.firsts.now a.counts.now a.vars.now a.coefs.now) a.row good in
+    let a = c.args in let h = gives-sized c.requires.file_gives in let good = (sym c.alone_good.ensures ∙ c.if-not-alone_good.false) in let low = alone-low (lent_tables a.tables.now) a.row good in
     c.can_join.ensures
-    ∙ keep-last a.bytes.now (lent a.n a.m a.e a.kinds.now a.makes.now a.params.now a.firsts.now a.counts.now a.vars.now a.coefs.now) a.row (kept_rows a.bytes.now a.row) c.requires.file_gives c.requires.taken (sym (ap₂ ◌&&◌ c.row_whole.ensures c.entries_whole.ensures) ∙ c.if-not-whole.false) good (omega arith)
+    ∙ keep-last a.bytes.now (lent_tables a.tables.now) a.row (kept_rows a.bytes.now a.row) c.requires.file_gives c.requires.taken (sym (ap₂ ◌&&◌ c.row_whole.ensures c.entries_whole.ensures) ∙ c.if-not-whole.false) good (omega arith)

@@ -8,4 +8,4 @@ use Rattle.damage.proofs.kept.keep.keep_rows.Given as goal
 
 abbrev pub invariant-loop-row : goal.invariant-loop-row
 invariant-loop-row l =
-    (l.row ≤ l.m) × Filled (keeps l.bytes) l.initial.stands l.stands l.row × Taken l.makes l.counts (kept_rows l.bytes l.row) l.made l.used
+    (l.row ≤ l.tables.m) × Filled (keeps l.bytes) l.initial.stands l.stands l.row × Taken l.tables.makes.now l.tables.counts.now (kept_rows l.bytes l.row) l.made l.used

@@ -8,4 +8,4 @@ use Rattle.damage.proofs.kept.keep.row_whole.Goals as goal
 pub returns : goal.returns
 returns c =
     let a = c.args in
-    ap (λ k. leb k (length a.bytes.now)) (c.entries_at.ensures ∙ rw (c.requires.0, add-one a.row))
+    ap (λ k. leb k (length a.bytes.now)) (c.entries_at.ensures ∙ rw (c.head_length.ensures.0, c.requires.0, add-one a.row))

@@ -1,10 +1,8 @@
-use native.Mathlib.Omega.{arith}
-use Rattle.paper.proofs.Buffers.{filled_next}
-use Rattle.damage.proofs.Padded.{filled-whole}
+-- The bytes stand in front, and 0 behind them (`padded`). Assumes nothing.
+use Rattle.std.proofs.Common.{ℕ, replicate, ap, ◌∙◌, arith}
+use lib.ListN.{length-take, length-drop}
+use Rattle.damage.proofs.Padded.{padded}
 use Rattle.damage.proofs.kept.lay.fill.Goals as goal
 
-pub loop-i-preserved : goal.loop-i-preserved
-loop-i-preserved c = (c.loop-i.invariant.0, omega arith, filled_next _ _ _ _ c.loop-i.invariant.2 (omega arith) c.byte_at.ensures)
-
 pub returns : goal.returns
-returns c = filled-whole c.loop-i.invariant.2 (omega arith)
+returns c = padded c.args.bytes.now c.args.out.now c.min-len.result c.min-len.ensures c.copy_from_slice.ensures.after (c.fill.ensures.after (λ y h. h) ∙ ap (λ n. replicate n 0) (omega (arith, length-take {A = ℕ}, length-drop {A = ℕ})))

@@ -13,6 +13,6 @@ returns c =
     let a = c.args in
     let rows = c.lay_rows.ensures in let entries = c.lay_entries.ensures in
     let h = counted-facts version1 a.bytes.now c.requires.accepted_value in
-    laid-padded a.bytes.now c.fill.ensures a.n a.m a.e (omega arith) c.requires.accepted_value c.requires.n_value
+    laid-padded a.bytes.now c.fill.ensures a.size.n a.size.m a.size.e (omega arith) c.requires.accepted_value c.requires.n_value
     (lent 0 0 0 a.kinds.now a.makes.now a.params.now a.firsts.now a.counts.now a.vars.now a.coefs.now) a.starts.now
-    (same-contents c.lay_starts.ensures rows.kinds_after rows.makes_after rows.params_after rows.firsts_after rows.counts_after entries.vars_after entries.coefs_after refl refl)
+    (same-contents (simp (c.head_length-head.ensures.0) at c.lay_starts.ensures) (simp (c.head_length-head.ensures.0) at rows.kinds_after) (simp (c.head_length-head.ensures.0) at rows.makes_after) (simp (c.head_length-head.ensures.0) at rows.params_after) (simp (c.head_length-head.ensures.0) at rows.firsts_after) (simp (c.head_length-head.ensures.0) at rows.counts_after) (simp (c.head_length-head.ensures.0) at entries.vars_after) (simp (c.head_length-head.ensures.0) at entries.coefs_after) refl refl)

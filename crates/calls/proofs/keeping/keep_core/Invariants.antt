@@ -1,7 +1,0 @@
--- What judging begins with: the log, the model, and what the keep is lent. Assumes nothing.
-use Rattle.paper.specs.Log.{log_in}
-use Rattle.verdicts.specs.Lent.{to_model, to_keep}
-use Rattle.calls.proofs.keeping.keep_core.Given as goal
-
-abbrev pub ghost-judge_keep : goal.ghost-judge_keep
-ghost-judge_keep a = (log_in a.log_sizes.now a.log_vars.now a.log_values.now, to_model a.n a.m a.e a.kinds.now a.makes.now a.params.now a.firsts.now a.counts.now a.vars.now a.coefs.now a.lows.now a.highs.now a.numbers.now a.order.now a.stored.now a.reader_starts.now a.reader_places.now a.reasons.now, to_keep a.pairs a.move_vars.now a.move_values.now a.flags.now)

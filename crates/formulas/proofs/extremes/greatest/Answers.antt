@@ -1,0 +1,21 @@
+use Prim.Native.Nat.{◌-◌}
+use native.Mathlib.Omega.{arith}
+use mathlib.Core.Path.{◌∙◌}
+use borrow.Author.Rules.{rules}
+use lib.IntN.{pos}
+use lib.ListN.{length, get_or, drop, length-take, length-drop}
+use mir.Syntax.{w32}
+use mir.Val.{SFits, to_z}
+use mir.Facts.{to_z-of_z}
+use Rattle.integers.proofs.Bits.{told}
+use Rattle.formulas.proofs.Reading.{later-input}
+use Rattle.formulas.proofs.Skipping.{left-next, max-greater}
+use Rattle.formulas.proofs.extremes.greatest.Goals as goal
+
+pub loop-v-preserved : goal.loop-v-preserved
+loop-v-preserved c =
+    let vars = c.args.row.vars.now in let values = c.args.row.values.now in let l = c.loop-v in let rest = length-drop 1 vars in
+    let taken = length-take (length vars - 1) (drop 1 vars) in
+    let f : SFits w32 (get_or values c.from.result (pos 0)) = search rules in
+    left-next l.invariant (omega arith) f (later-input vars values l.v-index c.from.result (omega arith) c.from.ensures)
+    (told w32 c.max-left.type_inv ((simp (to_z-of_z f) at c.max-left.ensures.value) ∙ max-greater (to_z w32 l.left-bits) (get_or values c.from.result (pos 0))))

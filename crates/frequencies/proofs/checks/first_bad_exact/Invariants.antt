@@ -1,9 +1,0 @@
--- The loop has passed every window before this one (`Scan`). Assumes nothing.
-use mathlib.Core.List.{[]}
-use Rattle.paper.proofs.Scan.{Scan}
-use Rattle.frequencies.specs.Reading.{windows_in}
-use Rattle.frequencies.specs.Writing.{exact_good_at}
-use Rattle.frequencies.proofs.checks.first_bad_exact.Given as goal
-
-abbrev pub invariant-loop-i : goal.invariant-loop-i
-invariant-loop-i l = Scan (exact_good_at l.count [] (windows_in [] [] [] [] [] [] l.exacts [])) l.count l.i

@@ -1,9 +1,0 @@
--- The loop has passed every window before this one (`Scan`). Assumes nothing.
-use mathlib.Core.List.{[]}
-use Rattle.paper.proofs.Scan.{Scan}
-use Rattle.frequencies.specs.Reading.{windows_in}
-use Rattle.frequencies.specs.Writing.{headway_good_at}
-use Rattle.frequencies.proofs.checks.first_bad_headway.Given as goal
-
-abbrev pub invariant-loop-i : goal.invariant-loop-i
-invariant-loop-i l = Scan (headway_good_at l.count [] (windows_in [] [] [] [] [] l.headways [] [])) l.count l.i

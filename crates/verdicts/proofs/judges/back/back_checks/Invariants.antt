@@ -1,6 +1,0 @@
--- The tables as they are lent. Assumes nothing.
-use Rattle.paper.specs.Tables.{lent}
-use Rattle.verdicts.proofs.judges.back.back_checks.Given as goal
-
-abbrev pub ghost-fresh_checks : goal.ghost-fresh_checks
-ghost-fresh_checks g a = lent a.n a.m a.e a.kinds.now a.makes.now a.params.now a.firsts.now a.counts.now a.vars.now a.coefs.now
