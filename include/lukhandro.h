@@ -170,12 +170,12 @@
  * STACK. On the deepest models, chains of 4,095 rows and rings of as many, which closed chains are, a program that makes
  * this call and no other needs a stack of so many KiB:
  *                                                      chain     ring
- *     lukhandro_build                                    816    1,008
- *     lukhandro_trial by route 1                         128      960
- *     lukhandro_trial by route 2 or 3                  1,104      976
- *     lukhandro_keep, _take_back                         128      976
- *     lukhandro_figures, _trials                       1,120      992
- *     lukhandro_salvage                                1,088    1,072
+ *     lukhandro_build                                    432      592
+ *     lukhandro_trial by route 1                         128      544
+ *     lukhandro_trial by route 2 or 3                    448      544
+ *     lukhandro_keep, _take_back                         128      544
+ *     lukhandro_figures, _trials                         464      560
+ *     lukhandro_salvage                                  704      704
  *     lukhandro_departures                               160
  *     every other call                                   128 or less
  * These figures were measured, in steps of 16 KiB, on an x86-64 machine; no proof states them. The tests send

@@ -63,7 +63,7 @@
 //! link. It allocates nothing and calls nothing of the system.
 //!
 //! A thread that calls should have a stack of 2 MiB, as Rust's threads do. On the deepest models, chains and rings of 4,095
-//! rows, a batch takes 1,120 KiB of it, a trial 1,104, a salvage 1,088, a build 1,008, a keep and a taking back 976 and a
+//! rows, a salvage takes 704 KiB of it, a build 592, a batch 560, a trial, a keep and a taking back 544 and a
 //! departure board 160, measured on an x86-64 machine; no other call takes more than 128.
 #![warn(missing_docs)]
 
