@@ -2,8 +2,8 @@
 ghost use Rattle.std.specs.Prelude.{true, ◌≡◌, ltb};
 ghost use Rattle.paper.specs.Lists.{all};
 ghost use Rattle.paper.specs.Net.{mark-guided};
+ghost use Rattle.paper.specs.Calls.{route_of};
 ghost use Rattle.tables.specs.Lent.{lent_tables};
-ghost use Rattle.routes.specs.Numbered.{route_meant};
 ghost use Rattle.tables.specs.Makers.{Makers};
 ghost use Rattle.index.specs.Index.{Indexed};
 ghost use Rattle.routes.specs.Routed.{Begun, Named};
@@ -48,7 +48,7 @@ fn flag_marked(
     look_all(asked, &work[..tables.n], tables, values, flags);
 }
 
-// Flags what the route evaluates.
+// Flags what the route of that number evaluates.
 pub fn flag_evaluated(
     tables: &Tables,
     by: &[u16],
@@ -58,7 +58,7 @@ pub fn flag_evaluated(
     stored: &[i32],
     trial: &[i32],
     values: &[i32],
-    route: Route,
+    route: u32,
     flags: &mut [u8],
 )
     requires renewed { Renewed (lent_tables tables.now) stored.now trial.now values.now }
@@ -67,9 +67,9 @@ pub fn flag_evaluated(
     requires named { Named (lent_tables tables.now) stored.now trial.now moves.now }
     requires begun { Begun (lent_tables tables.now) stored.now trial.now flags.old }
     requires asked { all (λ v. ltb v tables.now.n) asked.now ≡ true }
-    ensures { Flagged (lent_tables tables.now) stored.now trial.now (route_meant route) asked.now flags.old flags.new }
+    ensures { Flagged (lent_tables tables.now) stored.now trial.now (route_of route) asked.now flags.old flags.new }
 {
-    match route {
+    match Route::of_number(route) {
         Route::InputToOutput => flag_changed(tables, &by[..tables.n], stored, values, flags),
         Route::OutputToInput => look_all(asked, &by[..tables.n], tables, values, flags),
         Route::MarkGuided => flag_marked(

@@ -1,8 +1,8 @@
 // A move worked out where chains of inputs may close: all new values by following the choices, and then what the route evaluates.
 ghost use Rattle.std.specs.Prelude.{true, cond, ◌≡◌, ◌≤◌, eqb, ltb, length};
 ghost use Rattle.paper.specs.Lists.{all, nat, over};
+ghost use Rattle.paper.specs.Calls.{route_of};
 ghost use Rattle.tables.specs.Lent.{lent_tables};
-ghost use Rattle.routes.specs.Numbered.{route_meant};
 ghost use Rattle.tables.specs.Makers.{Makers};
 ghost use Rattle.index.specs.Index.{Indexed};
 ghost use Rattle.routes.specs.Rows.{values_of};
@@ -11,7 +11,6 @@ ghost use Rattle.closed_routes.specs.Following.{Steady};
 
 use crate::flagged::flag_evaluated;
 use choices::follow_choices;
-use routes::Route;
 use rows::copies::copy_values;
 use tables::lent::{Index, Tables};
 
@@ -33,7 +32,7 @@ fn take_values(n: usize, flags: &[u8], values: &[i32], trial: &mut [i32])
     }
 }
 
-// Works a begun move out by the route: every new value by following the choices, then the flags of what the route evaluates, and the new
+// Works a begun move out by the route of that number: every new value by following the choices, then the flags of what the route evaluates, and the new
 // values of these.
 pub fn follow_route(
     tables: &Tables,
@@ -42,7 +41,7 @@ pub fn follow_route(
     moves: &[u16],
     stored: &[i32],
     asked: &[u16],
-    route: Route,
+    route: u32,
     trial: &mut [i32],
     flags: &mut [u8],
 )
@@ -52,7 +51,7 @@ pub fn follow_route(
     requires begun { Begun (lent_tables tables.now) stored.now trial.old flags.old }
     requires asked { all (λ v. ltb v tables.now.n) asked.now ≡ true }
     requires makers { Makers (lent_tables tables.now) by.now }
-    ensures { Routed (lent_tables tables.now) (route_meant route) stored.now trial.old flags.old asked.now trial.new flags.new }
+    ensures { Routed (lent_tables tables.now) (route_of route) stored.now trial.old flags.old asked.now trial.new flags.new }
 {
     // Stays: rows of a fixed length, since no call allocates.
     let mut values = [0i32; 4096];

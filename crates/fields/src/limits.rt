@@ -25,8 +25,9 @@ pub fn put_bounds(bytes: &mut [u8], at: usize, count: usize, bounds: &Bounds)
     requires { (count ≤ length bounds.now.lows.now) × (count ≤ length bounds.now.highs.now) × (at + 8 * count ≤ length bytes.old) }
     ensures { bytes.new ≡ sets bytes.old at (joined (bound_bytes bounds.now.lows.now bounds.now.highs.now) count) }
 {
+    let Bounds { lows, highs } = *bounds;
     for v in 0..count {
-        put_bound(bytes, at + 8 * v, bounds.lows[v], bounds.highs[v]);
+        put_bound(bytes, at + 8 * v, lows[v], highs[v]);
     }
 }
 

@@ -1,9 +1,11 @@
 // A file stored: its header, and behind it start values, rows and entries, one line behind the other.
-ghost use Rattle.std.specs.Prelude.{◌≡◌, ◌+◌, ◌≤◌, ◌<◌, length};
+ghost use Rattle.std.specs.Prelude.{◌≡◌, ◌++◌, ◌+◌, ◌≤◌, ◌<◌, length};
 ghost use Rattle.std.proofs.lemmas.List.Edits.{sets};
+ghost use Rattle.std.specs.Int.{w16, w32};
+ghost use Rattle.std.proofs.Common.{of_z};
 ghost use Rattle.paper.specs.Lists.{joined};
 ghost use Rattle.fields.specs.Rows.{HasRows, HasEntries, bytes_of_row, bytes_of_entry};
-ghost use Rattle.paper.specs.File.{start_bytes, rows_from, entries_from, bounds_from};
+ghost use Rattle.paper.specs.File.{bytes_of, start_bytes, rows_from, entries_from, bounds_from};
 
 use crate::numbers::Number;
 use crate::places::{entries_at, rows_at};
@@ -23,20 +25,19 @@ pub fn put_starts(bytes: &mut [u8], head: usize, n: usize, starts: &[i32])
     }
 }
 
-// Stores row r.
-fn put_row(bytes: &mut [u8], at: usize, tables: &Tables, r: usize)
-    requires sized { HasRows tables.now × (r < tables.now.m) }
-    requires room { at + 12 ≤ length bytes.old }
-    ensures { bytes.new ≡ sets bytes.old at (bytes_of_row tables.now r) }
+// Stores one row.
+fn put_row(bytes: &mut [u8], at: usize, kind: u16, made: u16, param: i32, first: u16, count: u16)
+    requires { at + 12 ≤ length bytes.old }
+    ensures { bytes.new ≡ sets bytes.old at (bytes_of 2 kind ++ bytes_of 2 made ++ bytes_of 4 (of_z w32 param) ++ bytes_of 2 first ++ bytes_of 2 count) }
 {
-    tables.kinds[r].write(bytes, at);
-    tables.makes[r].write(bytes, at + 2);
-    tables.params[r].write(bytes, at + 4);
-    tables.firsts[r].write(bytes, at + 8);
-    tables.counts[r].write(bytes, at + 10);
+    kind.write(bytes, at);
+    made.write(bytes, at + 2);
+    param.write(bytes, at + 4);
+    first.write(bytes, at + 8);
+    count.write(bytes, at + 10);
 }
 
-// Stores the rows.
+// Stores the rows. The columns are taken before the loop, here and below: a byte that is stored might lie in the struct, for all that the compiler knows.
 // Stays: r picks from five columns, and the place too.
 pub fn put_rows(bytes: &mut [u8], head: usize, tables: &Tables)
     requires sized { HasRows tables.now }
@@ -44,19 +45,35 @@ pub fn put_rows(bytes: &mut [u8], head: usize, tables: &Tables)
     ensures { bytes.new ≡ sets bytes.old (rows_from head tables.now.n) (joined (bytes_of_row tables.now) tables.now.m) }
 {
     let at = rows_at(head, tables.n);
-    for r in 0..tables.m {
-        put_row(bytes, at + 12 * r, tables, r);
+    let Tables {
+        m,
+        kinds,
+        makes,
+        params,
+        firsts,
+        counts,
+        ..
+    } = *tables;
+    for r in 0..m {
+        put_row(
+            bytes,
+            at + 12 * r,
+            kinds[r],
+            makes[r],
+            params[r],
+            firsts[r],
+            counts[r],
+        );
     }
 }
 
-// Stores entry i.
-fn put_entry(bytes: &mut [u8], at: usize, tables: &Tables, i: usize)
-    requires sized { HasEntries tables.now × (i < tables.now.e) }
-    requires room { at + 4 ≤ length bytes.old }
-    ensures { bytes.new ≡ sets bytes.old at (bytes_of_entry tables.now i) }
+// Stores one entry.
+fn put_entry(bytes: &mut [u8], at: usize, var: u16, coef: i16)
+    requires { at + 4 ≤ length bytes.old }
+    ensures { bytes.new ≡ sets bytes.old at (bytes_of 2 var ++ bytes_of 2 (of_z w16 coef)) }
 {
-    tables.vars[i].write(bytes, at);
-    tables.coefs[i].write(bytes, at + 2);
+    var.write(bytes, at);
+    coef.write(bytes, at + 2);
 }
 
 // Stores the entries.
@@ -67,7 +84,8 @@ pub fn put_entries(bytes: &mut [u8], head: usize, tables: &Tables)
     ensures { bytes.new ≡ sets bytes.old (entries_from head tables.now.n tables.now.m) (joined (bytes_of_entry tables.now) tables.now.e) }
 {
     let at = entries_at(head, tables.n, tables.m);
-    for i in 0..tables.e {
-        put_entry(bytes, at + 4 * i, tables, i);
+    let Tables { e, vars, coefs, .. } = *tables;
+    for i in 0..e {
+        put_entry(bytes, at + 4 * i, vars[i], coefs[i]);
     }
 }

@@ -5,6 +5,8 @@ ghost use Rattle.std.specs.Int.{w16, w32};
 ghost use Rattle.std.proofs.Common.{to_z, of_z};
 ghost use Rattle.paper.specs.File.{bytes_of, field};
 
+use crate::put;
+
 pub trait Number: Copy {
     // How many bytes it takes, its bits as a number, and the number that has these bits.
     ghost width: { ℕ };
@@ -36,7 +38,7 @@ impl Number for u16 {
     }
 
     fn write(self, bytes: &mut [u8], at: usize) {
-        bytes[at..at + 2].copy_from_slice(&self.to_le_bytes());
+        put(bytes, at, 2, usize::from(self));
     }
 }
 
@@ -52,7 +54,7 @@ impl Number for u32 {
     }
 
     fn write(self, bytes: &mut [u8], at: usize) {
-        bytes[at..at + 4].copy_from_slice(&self.to_le_bytes());
+        put(bytes, at, 4, self as usize);
     }
 }
 

@@ -7,7 +7,6 @@ ghost use Rattle.verdicts.specs.Lent.{lent_to_keep};
 ghost use Rattle.fills.specs.Accepted.{KeepAccepted, KeepFilled};
 
 use crate::running::run_route;
-use routes::Route;
 use rows::copies::{begin_route, copy_values};
 use rows::steps::evaluations;
 use tables::lent::{Index, Move, Tables};
@@ -41,7 +40,7 @@ pub fn fill_keep(
         &mv.vars[..mv.pairs],
         stored,
         &mv.vars[..0],
-        Route::InputToOutput,
+        1,
         &mut row,
         flags,
     );

@@ -7,7 +7,6 @@ ghost use Rattle.verdicts.specs.Lent.{lent_to_try};
 ghost use Rattle.fills.specs.Accepted.{Trying, TrialFilled};
 
 use crate::running::run_route;
-use routes::Route;
 use rows::copies::{begin_route, copy_asked};
 use rows::steps::evaluations;
 use tables::lent::{Model, Move};
@@ -41,7 +40,7 @@ pub fn fill_trial(
         &mv.vars[..mv.pairs],
         model.stored,
         wanted,
-        Route::of_number(asked.route),
+        asked.route,
         trial,
         flags,
     );

@@ -4,13 +4,13 @@
 pub mod blanks;
 mod buckets;
 mod element;
-mod extremes;
+pub mod extremes;
 pub mod inputs;
 mod linear;
 mod over;
 mod places;
-mod shares;
-mod windows;
+pub mod shares;
+pub mod windows;
 
 ghost use Rattle.std.specs.Prelude.{◌≡◌};
 ghost use Rattle.paper.specs.Formula as Formula;

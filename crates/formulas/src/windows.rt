@@ -1,4 +1,4 @@
-// DEPARTURES and LAST: the times start + k * headway, k = 0, 1, 2 and on, strictly before end.
+// DEPARTURES and LAST, of a row and of three numbers: the times start + k * headway, k = 0, 1, 2 and on, strictly before end.
 ghost use Rattle.std.specs.Prelude.{◌≤◌, ◌≡◌, true, pos, length, ◌+ℤ◌, ◌*ℤ◌};
 ghost use Rattle.std.specs.Int.Signed.{lt_z};
 ghost use Rattle.paper.specs.Formula.{trips};
@@ -12,10 +12,10 @@ use crate::inputs::Inputs;
 
 // A start, an end and a headway.
 #[derive(Clone, Copy)]
-struct Window {
-    start: i32,
-    end: i32,
-    headway: i32,
+pub struct Window {
+    pub start: i32,
+    pub end: i32,
+    pub headway: i32,
 }
 
 impl Window {
@@ -61,7 +61,7 @@ impl Window {
     }
 
     // How many times are strictly before end; blank if headway is 0 or less.
-    fn departures(self) -> i32
+    pub fn departures(self) -> i32
         ensures { result ≡ Formula.departures self.start self.end self.headway }
     {
         if self.headway <= 0 {
@@ -71,7 +71,7 @@ impl Window {
     }
 
     // The latest of them, blank if there are none or headway is 0 or less. It lies from start to before end, so 32 bits hold it.
-    fn last(self) -> i32
+    pub fn last(self) -> i32
         ensures { result ≡ Formula.last self.start self.end self.headway }
     {
         if self.headway <= 0 {

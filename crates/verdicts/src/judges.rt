@@ -44,6 +44,7 @@ pub fn judge_move(
 }
 
 // The verdict of trial: checks 1 to 13 without 6, 8 and 19 before 7, and 17 behind 12; then 21 and 20. `blanks` is the record's number of blanks, here and below.
+// The trial's own part of check 1 comes first, as it looks at nothing of the model.
 pub fn judge_trial(
     blanks: u32,
     model: &Model,
@@ -57,6 +58,9 @@ pub fn judge_trial(
 ) -> Result<bool, Refusal>
     ensures { CallJudged (trial_verdict (record { kept = 0; evaluations = 0; blanks = blanks }) (lent_model model.now) (lent_to_try mv.now asked.now results.now trial.now flags.now why.now)) (lent_model model.now).tables by.new result }
 {
+    if !move_fits(model.tables.n, mv, asked, results, trial, flags, why) {
+        return Err(refused(1, 0));
+    }
     let verdict = judge_model(blanks, model, by);
     judge_move(
         verdict, by, blanks, model, mv, asked, results, trial, flags, why,

@@ -31,11 +31,11 @@ look_all-requires-clause-closed c =
 pub returns-in-InputToOutput : goal.returns-in-InputToOutput
 returns-in-InputToOutput c =
     let t = lent_tables c.args.tables.now in
-    rw c.in-InputToOutput.is (changed-flagged t c.args.stored.now c.args.trial.now c.requires.renewed.steady c.args.values.now c.requires.renewed c.args.asked.now _ c.args.flags.now _
+    rw (sym c.of_number.ensures, c.in-InputToOutput.is) (changed-flagged t c.args.stored.now c.args.trial.now c.requires.renewed.steady c.args.values.now c.requires.renewed c.args.asked.now _ c.args.flags.now _
     (plan-all t c.args.by.now c.requires.makers) c.flag_changed.ensures)
 
 pub returns-in-OutputToInput : goal.returns-in-OutputToInput
 returns-in-OutputToInput c =
     let t = lent_tables c.args.tables.now in
-    rw c.in-OutputToInput.is (looked-flagged t c.args.stored.now c.args.trial.now c.requires.renewed.steady c.args.values.now c.requires.renewed output-to-input c.args.asked.now c.args.flags.now
+    rw (sym c.of_number.ensures, c.in-OutputToInput.is) (looked-flagged t c.args.stored.now c.args.trial.now c.requires.renewed.steady c.args.values.now c.requires.renewed output-to-input c.args.asked.now c.args.flags.now
     c.requires.begun.clear c.requires.begun.in-flags _ _ (plan-all t c.args.by.now c.requires.makers) c.requires.asked (λ v. sym (and-true (is_made t v))) (λ v. refl) _ c.look_all.ensures)

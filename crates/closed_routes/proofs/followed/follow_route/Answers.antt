@@ -3,7 +3,7 @@
 use Rattle.std.proofs.Common.{arith, pos}
 use lib.ListN.{replicate}
 use Rattle.tables.specs.Lent.{lent_tables}
-use Rattle.routes.specs.Numbered.{route_meant}
+use Rattle.paper.specs.Calls.{route_of}
 use Rattle.paper.proofs.Sizes.{sized-facts}
 use Rattle.order.proofs.Sweeps.{clean-new}
 use Rattle.closed_routes.proofs.Follows.{renewed, flagged-long, followed-routed}
@@ -42,7 +42,7 @@ take_values-requires c =
 pub returns : goal.returns
 returns c =
     let t = lent_tables c.args.tables.now in
-    followed-routed t c.args.stored.now c.args.trial.now c.args.flags.now c.requires.steady c.requires.begun (route_meant c.args.route) c.args.asked.now _ _ _
+    followed-routed t c.args.stored.now c.args.trial.now c.args.flags.now c.requires.steady c.requires.begun (route_of c.args.route) c.args.asked.now _ _ _
     (renewed t c.args.stored.now c.args.trial.now c.args.flags.now c.requires.steady c.requires.begun (replicate 4096 (pos 0)) _ _ _
     (sized-facts t c.requires.steady.sound.sized).n-most c.copy_values.ensures c.follow_choices.ensures)
     c.flag_evaluated.ensures c.take_values.ensures

@@ -25,4 +25,4 @@ pub mark_guided-requires-clause-ended : goal.mark_guided-requires-clause-ended
 mark_guided-requires-clause-ended c = ended (along _ _ _ _ c.requires.running (sym c.requires.closing ∙ c.if-closed.false))
 
 pub returns-in-InputToOutput : goal.returns-in-InputToOutput
-returns-in-InputToOutput c = rw c.in-InputToOutput.is (record { values = c.input_to_output.ensures.values; flagged = c.input_to_output.ensures.flagged })
+returns-in-InputToOutput c = rw (sym c.of_number.ensures, c.in-InputToOutput.is) (record { values = c.input_to_output.ensures.values; flagged = c.input_to_output.ensures.flagged })

@@ -32,4 +32,4 @@ overflow_cast-result c =
 pub returns : goal.returns
 returns c =
     let k = c.requires.trying in
-    trial-filled _ _ _ _ _ k _ _ _ _ _ _ c.begin_route.ensures.trial_after c.begin_route.ensures.flags_after (rw c.of_number.ensures at c.run_route.ensures) c.copy_asked.ensures c.evaluations.ensures
+    trial-filled _ _ _ _ _ k _ _ _ _ _ _ c.begin_route.ensures.trial_after c.begin_route.ensures.flags_after c.run_route.ensures c.copy_asked.ensures c.evaluations.ensures
