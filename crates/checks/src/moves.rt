@@ -2,12 +2,12 @@
 // Made variables are told from search variables by the row of makers. Check 13 is `tables::first_unknown` over the asked variables.
 ghost use Rattle.std.specs.Prelude.{◌≡◌, ◌≤◌, ◌<◌, length, IfSome};
 ghost use Rattle.integers.specs.Below.{if_below};
-ghost use Rattle.paper.specs.Lists.{first_fail};
+ghost use Rattle.paper.specs.Lists.{first_fail, all_below};
 ghost use Rattle.paper.specs.Checks.{accepted, move_fits, movable, has_value, pair_within};
 ghost use Rattle.tables.specs.Answers.{answer_of};
 ghost use Rattle.tables.specs.Lent.{lent_bounds, lent_move};
 ghost use Rattle.checks.specs.Allowed.{OfMakers};
-ghost use Rattle.checks.specs.Moves.{pair_checks};
+ghost use Rattle.checks.specs.Moves.{pair_good, pair_checks};
 
 use crate::bounds::within;
 use crate::repeats::first_again;
@@ -51,6 +51,20 @@ pub fn first_outside(mv: &Move, bounds: &Bounds) -> Option<usize>
     ensures { result ≡ if_below mv.now.pairs (first_fail (pair_within (lent_move mv.now) (lent_bounds bounds.now)) mv.now.pairs) }
 {
     (0..mv.pairs).find(|&pair| !within(bounds, wide(mv.vars[pair]), mv.values[pair]))
+}
+
+// Whether checks 10, 12 and 17 pass, of all pairs in one pass: for a caller that tells no number and no place.
+pub fn all_pairs_good(n: usize, by: &[u16], bounds: &Bounds, mv: &Move) -> bool
+    requires { (n ≤ length by.now) × (mv.now.pairs ≤ length mv.now.vars.now) × (mv.now.pairs ≤ length mv.now.values.now) }
+    ensures { result ≡ all_below (pair_good n by.now (lent_bounds bounds.now) (lent_move mv.now)) mv.now.pairs }
+{
+    // by value, so that where the rows lie is read once and not at each pair
+    let bounds = *bounds;
+    (0..mv.pairs).all(|pair| {
+        let v = wide(mv.vars[pair]);
+        let value = mv.values[pair];
+        v < n && by[v] == 0 && !is_blank(value) && within(&bounds, v, value)
+    })
 }
 
 // Checks 10 to 12 and 17, each over all pairs before the next.

@@ -45,12 +45,12 @@ fn first_marked(m: usize, vars: &[u16]) -> Option<usize>
     None
 }
 
-// The first of m places that names what an earlier one names, by comparing each place with those before it.
+// The first of m places that names what an earlier one names, by comparing each place but the first with those before it.
 fn first_compared(m: usize, vars: &[u16]) -> Option<usize>
     requires { m ≤ length vars.now }
     ensures { result ≡ if_below m (first_fail (made_once (makes_rows vars.now)) m) }
 {
-    (0..m).find(|&place| vars[..place].contains(&vars[place]))
+    (1..m).find(|&place| vars[..place].contains(&vars[place]))
 }
 
 // The first of m places that names what an earlier one names. Few places are compared sooner than a row of marks is cleared.

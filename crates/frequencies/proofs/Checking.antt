@@ -1,14 +1,17 @@
 -- A check over rows, row by row: the first that is not good decides, and the rows behind it no more. Assumes nothing.
-use Prim.Native.Nat.{ℕ, ◌+◌, ◌-◌, ◌≤◌, ◌<◌}
+use Prim.Native.Nat.{ℕ, suc, ◌+◌, ◌-◌, ◌≤◌, ◌<◌}
 use native.Mathlib.Omega.{arith}
-use mathlib.Core.Bool.{Bool, true, false, cond}
-use mathlib.Core.List.{List, ◌∷◌}
-use mathlib.Core.Path.{◌≡◌, refl, ap, subst, ◌∙◌}
+use mathlib.Core.Bool.{Bool, true, false, cond, ◌&&◌}
+use mathlib.Core.List.{List, [], ◌∷◌}
+use mathlib.Core.Path.{◌≡◌, refl, ap, ap₂, sym, subst, ◌∙◌}
 use Rattle.std.specs.Prelude.{Option, Some, None}
+use lib.Dec.{ltb}
 use lib.ListN.{length, drop}
 use Rattle.paper.specs.Lists.{all}
+use Rattle.paper.proofs.Lists.{and_left}
+use borrow.Author.Tests.{ltb-true, lt-ltb}
 use Rattle.paper.specs.Checks.{Verdict, refused}
-use Rattle.frequencies.specs.Csv.{Row, row_of, front}
+use Rattle.frequencies.specs.Csv.{is_line_feed, is_return, is_comma, line_feed_next, Row, row_of, all_rows, parted, line_ended, passed, onto, Mode, front, outside, after, split}
 use Rattle.frequencies.specs.Reading.{check_rows, width_good, quotes_good, times_good, headway_good, exact_good, name_good}
 use Rattle.std.specs.Prelude.{IfSome}
 use Rattle.frequencies.specs.Scan.{Scannable, Later, rest_at, rows_from, row_behind, RowScanned}
@@ -35,6 +38,34 @@ checked-next {good} {rs} {r} {left} {bad} {b} is line s e l q = record { so = λ
     go number next None true e s = rw (← e) at s
     go number next None false e s = rw (← e, l) at s
     go number next (Some k) is e s = s
+
+-- ── lines are counted from 1 ──
+abbrev numbered : List Row → Bool
+numbered = all (λ (r : Row). ltb 0 r.line)
+
+pub lines-numbered : (mode : Mode) (at line : ℕ) (bs : List ℕ) → numbered (split at line mode bs).rows ≡ true
+unfolding split
+lines-numbered mode at line [] = refl
+lines-numbered mode at line (b ∷ bs) =
+    go (outside mode && is_comma b) (outside mode && is_line_feed b) (outside mode && (is_return b && line_feed_next bs)) (lines-numbered front (suc at) line bs)
+    (ap₂ ◌&&◌ (ap (ltb 0) (split-line front (suc at) (suc line) bs) ∙ lt-ltb 0 (suc line) (omega arith)) (lines-numbered front (suc at) (suc line) bs))
+    (lines-numbered mode (suc at) line bs) (lines-numbered (after mode b) (suc at) (cond (is_line_feed b) (suc line) line) bs)
+  where
+    go : (c f r : Bool) → numbered (split (suc at) line front bs).rows ≡ true → numbered (all_rows (split (suc at) (suc line) front bs)) ≡ true
+        → numbered (split (suc at) line mode bs).rows ≡ true → numbered (split (suc at) (cond (is_line_feed b) (suc line) line) (after mode b) bs).rows ≡ true
+        → numbered (cond c (parted at line (split (suc at) line front bs))
+        (cond f (line_ended at line (split (suc at) (suc line) front bs))
+        (cond r (passed at (split (suc at) line mode bs)) (onto at line b (split (suc at) (cond (is_line_feed b) (suc line) line) (after mode b) bs))))).rows ≡ true
+    go true f r h₁ h₂ h₃ h₄ = h₁
+    go false true r h₁ h₂ h₃ h₄ = h₂
+    go false false true h₁ h₂ h₃ h₄ = h₃
+    go false false false h₁ h₂ h₃ h₄ = h₄
+
+-- the line of a row behind another
+pub line-behind : (at line : ℕ) (bs bs' : List ℕ) (next on : ℕ) → (split at line front bs).rows ≡ all_rows (split next on front bs') → 0 < on
+line-behind at line bs bs' next on e =
+    rw (split-line front next on bs') at (ltb-true 0 (split next on front bs').line
+    (and_left (ltb 0 (split next on front bs').line) (numbered (split next on front bs').rows) (ap numbered (sym e) ∙ lines-numbered front at line bs)))
 
 -- ── one row ──
 module _ (bytes : List ℕ) (c : Columns) (width : ℕ) (j : Judged) (from : Place) (row : RowScan) (on : j.next ≡ Some from)

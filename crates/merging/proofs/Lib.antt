@@ -1,4 +1,3 @@
 pub mod Sums
 pub mod Fits
 pub mod Joined
-pub mod Tallies

@@ -3,7 +3,7 @@ use Prim.Native.Nat.{ℕ, ◌+◌, ◌-◌, ◌*◌, ◌≤◌, ◌<◌}
 use native.Mathlib.Nat.{lt_irrefl}
 use native.Mathlib.Omega.{arith}
 use native.Mathlib.Numerals.{add-one}
-use mathlib.Core.Bool.{Bool, true, false, cond, ◌&&◌}
+use mathlib.Core.Bool.{Bool, true, false, cond, not, ◌&&◌}
 use mathlib.Core.List.{List}
 use mathlib.Core.Path.{◌≡◌, refl, ap, ap₂, sym, subst, ◌∙◌}
 use lib.Dec.{leb, ltb}
@@ -13,27 +13,24 @@ use Rattle.std.specs.List.{AllWithin, HoldsAt, range_with_len}
 use Rattle.std.proofs.lemmas.List.FromFn.{length-range_with_len, get_or-range_with_len}
 use borrow.Author.Rules.{part_to_end}
 use borrow.Author.Tests.{ltb-true, ltb-false, eq-eqb, ne_eqb, le-leb, lt-leb}
-use Rattle.std.specs.Prelude.{is_ok}
-use Rattle.tables.specs.Answers.{answer_of}
+use Rattle.std.specs.Prelude.{Some, None, is_some}
+use Rattle.integers.specs.Below.{if_below}
 use Rattle.paper.specs.Lists.{every, nat, first_fail, all_below}
 use Rattle.paper.specs.Tables.{Tables}
 use Rattle.paper.specs.Checks.{Verdict, accepted, refused, check, Bounds, Move, movable, named_once, has_value, pair_within}
 use Rattle.paper.specs.Log.{Log, move_good, back, logged, log_good}
-use Rattle.paper.proofs.Lists.{all_yes}
+use Rattle.paper.proofs.Lists.{all_yes, and_left, and_right}
 use Rattle.paper.proofs.Least.{first_fail-le, all_below-at, below_all}
 use Rattle.checks.specs.Allowed.{OfMakers}
-use Rattle.checks.specs.Moves.{move_of, pair_checks}
+use Rattle.tables.specs.Makers.{Makers}
+use Rattle.checks.specs.Moves.{move_of, pair_good, pair_checks}
 use Rattle.checks.proofs.MovesJudged.{from_eleven, from_twelve, from_seventeen}
+use Rattle.checks.proofs.MovesOverMakers.{movable-told, only-eleven}
 
 -- a verdict accepts
 abbrev pub passes : Verdict → Bool
 passes accepted = true
 passes (refused number place) = false
-
--- and so does the answer that stands for it
-pub answer-passes : (v : Verdict) → is_ok (answer_of {A = Unit {0}} tt v) ≡ passes v
-answer-passes accepted = refl
-answer-passes (refused number place) = refl
 
 check-passed : (code bound : ℕ) (good : ℕ → Bool) (next : Verdict) → passes (check code bound good next) ≡ (all_below good bound && passes next)
 check-passed code bound good next = go (ltb (first_fail good bound) bound) refl
@@ -55,9 +52,49 @@ module _ (t : Tables) (bs : Bounds) (mv : Move) where
       ∙ ap (all_below (named_once mv) mv.pairs &&◌) (check-passed 12 mv.pairs (has_value mv) (from_seventeen mv bs accepted)
       ∙ ap (all_below (has_value mv) mv.pairs &&◌) (check-passed 17 mv.pairs (pair_within mv bs) accepted)))))
 
+-- ── what one pass and the search for a variable named twice say of it is what the chain says ──
+none-again : (m : ℕ) (good : ℕ → Bool) (b : Bool) → is_some (if_below m (first_fail good m)) ≡ not b → b ≡ passes (check 11 m good accepted)
+none-again m good b = go (ltb (first_fail good m) m) b
+  where
+    go : (c b : Bool) → is_some (cond c (Some (first_fail good m)) None) ≡ not b → b ≡ passes (cond c (refused 11 (first_fail good m)) accepted)
+    go true true h = h
+    go true false h = refl
+    go false true h = refl
+    go false false h = h
+
+module _ (t : Tables) (by : List ℕ) (made : Makers t by) (n : ℕ) (e : t.n ≡ n) (bs : Bounds) (mv : Move) where
+  chain-passed : passes (pair_checks mv bs t accepted) ≡ true
+      → (all_below (movable mv t) mv.pairs ≡ true) × (all_below (has_value mv) mv.pairs ≡ true) × (all_below (pair_within mv bs) mv.pairs ≡ true)
+  chain-passed h =
+      let M = all_below (movable mv t) mv.pairs in let O = all_below (named_once mv) mv.pairs in let H = all_below (has_value mv) mv.pairs in
+      let W = all_below (pair_within mv bs) mv.pairs in
+      let eleven = sym (check-passed 10 mv.pairs (movable mv t) (from_eleven mv bs accepted)) ∙ h in
+      let twelve = sym (check-passed 11 mv.pairs (named_once mv) (from_twelve mv bs accepted)) ∙ and_right M (passes (from_eleven mv bs accepted)) eleven in
+      let seventeen = sym (check-passed 12 mv.pairs (has_value mv) (from_seventeen mv bs accepted)) ∙ and_right O (passes (from_twelve mv bs accepted)) twelve in
+      let last = sym (check-passed 17 mv.pairs (pair_within mv bs) accepted) ∙ and_right H (passes (from_seventeen mv bs accepted)) seventeen in
+      (and_left M (passes (from_eleven mv bs accepted)) eleven, and_left H (passes (from_seventeen mv bs accepted)) seventeen, and_left W true last)
+
+  all-told : passes (pair_checks mv bs t accepted) ≡ true → all_below (pair_good n by bs mv) mv.pairs ≡ true
+  all-told h =
+      let p = chain-passed h in
+      below_all (pair_good n by bs mv) mv.pairs
+      (λ i l. ap₂ ◌&&◌ (movable-told t by made n e mv i ∙ all_below-at (movable mv t) mv.pairs p.0 i l)
+      (ap₂ ◌&&◌ (all_below-at (has_value mv) mv.pairs p.1 i l) (all_below-at (pair_within mv bs) mv.pairs p.2 i l)))
+
+  pub passes-all : all_below (pair_good n by bs mv) mv.pairs ≡ true → (b : Bool) → is_some (if_below mv.pairs (first_fail (named_once mv) mv.pairs)) ≡ not b
+      → b ≡ passes (pair_checks mv bs t accepted)
+  passes-all p b h = none-again mv.pairs (named_once mv) b h ∙ ap passes (sym (only-eleven t by made n e bs mv p))
+
+  pub passes-none : all_below (pair_good n by bs mv) mv.pairs ≡ false → false ≡ passes (pair_checks mv bs t accepted)
+  passes-none p = go (passes (pair_checks mv bs t accepted)) refl
+    where
+      go : (c : Bool) → passes (pair_checks mv bs t accepted) ≡ c → false ≡ c
+      go true q = sym p ∙ all-told q
+      go false q = refl
+
 -- ── move k of a log, as it is lent to checks 10, 11, 12 and 17: its rows from place 64 k on ──
 module _ (l : Log) (k pairs : ℕ) (e : pairs ≡ nat l.sizes (k + 1)) where
-  abbrev lent : Move
+  abbrev pub lent : Move
   lent = move_of pairs (take (length l.vars - 64 * k) (drop (64 * k) l.vars)) (take (length l.values - 64 * k) (drop (64 * k) l.values))
 
   size : pairs ≡ (back l k).pairs

@@ -10,3 +10,4 @@ pub mod Made
 pub mod Answered
 pub mod Judged
 pub mod Asked
+pub mod Walk

@@ -9,10 +9,12 @@ use lib.ListN.{length, get_or, take}
 use lib.Seq.{get_or-take, length-take-le}
 use Rattle.std.specs.Prelude.{Option, Some, None, MatchOption}
 use Rattle.std.specs.Bool.{MatchBool}
-use Rattle.std.specs.List.{AllWithin, HoldsAt}
+use Rattle.std.specs.List.{AllWithin, HoldsAt, range_with_len}
+use Rattle.std.proofs.lemmas.List.FromFn.{length-range_with_len, get_or-range_with_len}
 use Rattle.integers.specs.Below.{if_below}
-use Rattle.paper.specs.Lists.{all, first_fail}
+use Rattle.paper.specs.Lists.{all, first_fail, all_below}
 use Rattle.paper.proofs.Lists.{all-at}
+use Rattle.paper.proofs.Least.{all_below-at, below_all}
 use Rattle.paper.proofs.Scan.{scan-some, scan-none}
 
 module _ {A : Type 0} (p : A → Bool) (d : A) where
@@ -52,3 +54,23 @@ pub first-found : (p : ℕ → Bool) (m : ℕ) (r : Option ℕ)
     → MatchOption r ((k : ℕ) → 0 ≤ k → k < m → p k ≡ true) (λ i. (0 ≤ i) × (i < m) × (p i ≡ false) × ((k : ℕ) → 0 ≤ k → k < i → p k ≡ true)) → r ≡ if_below m (first_fail p m)
 first-found p m None h = scan-none p m m (record { low = le_refl m; good = λ j l. h j (omega arith) l }) (le_refl m)
 first-found p m (Some i) h = let low = h.1 in scan-some p m i (record { low = omega arith; good = λ j l. h.3 j (omega arith) l }) low h.2
+
+-- and whether all below a bound pass, as `all` over a range says it
+module _ (p : ℕ → Bool) (n : ℕ) where
+  at : (k : ℕ) → k < n → get_or (range_with_len 0 n) k 0 ≡ k
+  at k h = get_or-range_with_len 0 n k 0 h ∙ omega arith
+
+  one-fails : (k : ℕ) → k < n → p k ≡ false → (b : Bool) → b ≡ all_below p n → b ≡ false
+  one-fails k l e true q = sym (all_below-at p n (sym q) k l) ∙ e
+  one-fails k l e false q = refl
+
+  pub all-below-told : (r : Bool)
+      → MatchBool r (AllWithin (λ k. p k ≡ true) (range_with_len 0 n) 0 (length (range_with_len 0 n)))
+      ((k : ℕ) × (k < length (range_with_len 0 n)) × HoldsAt (λ k. p k ≡ false) (range_with_len 0 n) k)
+      → r ≡ all_below p n
+  all-below-told true h =
+      let long = length-range_with_len 0 n in
+      sym (below_all p n (λ k l. ap p (sym (at k l)) ∙ h k 0 (omega arith) (omega arith)))
+  all-below-told false h =
+      let long = length-range_with_len 0 n in let inside = h.1 in let l : h.0 < n = omega arith in
+      sym (one-fails h.0 l (ap p (sym (at h.0 l)) ∙ h.2 0) _ refl)

@@ -7,7 +7,7 @@ use borrow.Author.Tests.{tests}
 use Rattle.std.proofs.lemmas.Iterator.{cases_from_all, YieldsList-from_range}
 use Rattle.paper.specs.Lists.{nat}
 use Rattle.merging.specs.Merge.{counts_fit}
-use Rattle.merging.proofs.Tallies.{all-below-told}
+use Rattle.tables.proofs.Positions.{all-below-told}
 use Rattle.merging.proofs.tallies_fit.Goals as goal
 
 pub returns : goal.returns

@@ -4,7 +4,8 @@ ghost use Rattle.paper.specs.Log.{log_fits, move_good, back, log_good};
 ghost use Rattle.tables.specs.Lent.{lent_bounds, lent_log};
 ghost use Rattle.checks.specs.Allowed.{OfMakers};
 
-use checks::moves::move_checks;
+use checks::moves::all_pairs_good;
+use checks::repeats::first_again;
 use integers::wide;
 use tables::lent::{Bounds, Log, Move};
 
@@ -23,7 +24,7 @@ fn logged_good(n: usize, by: &[u16], bounds: &Bounds, log: &Log, k: usize) -> bo
         vars: &log.vars[64 * k..],
         values: &log.values[64 * k..],
     };
-    move_checks(n, by, bounds, &logged).is_ok()
+    all_pairs_good(n, by, bounds, &logged) && first_again(logged.pairs, logged.vars).is_none()
 }
 
 // The log has no more moves than 64 or than that number kept, and each is good.
